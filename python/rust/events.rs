@@ -78,7 +78,7 @@ impl Recorder {
     /// Notes that the command that ended since `go_on` lost data, if there is one.
     pub fn truncate_command(&mut self) {
         if let Some(index) = self.truncated {
-            self.tape.set(index);
+            self.tape.set_flag(index);
         }
     }
 
@@ -117,25 +117,35 @@ impl Perform for Recorder {
         }
     }
 
-    fn hook(&mut self, groups: &Params, intermediates: &[u8], ignore: bool, end: char) {
+    fn hook(&mut self, groups: &Params, intermediates: &[u8], ignore: bool, final_byte: char) {
         if let Some(tape) = self.begin(Kind::Hook) {
-            let head = (intermediates, ignore, end);
+            let head = (intermediates, ignore, final_byte);
             tape.add_head(Kind::Hook, groups.len(), head)
                 .add_numbers(groups);
         }
     }
 
-    fn csi_dispatch(&mut self, groups: &Params, intermediates: &[u8], ignore: bool, end: char) {
+    fn csi_dispatch(
+        &mut self,
+        groups: &Params,
+        intermediates: &[u8],
+        ignore: bool,
+        final_byte: char,
+    ) {
         if let Some(tape) = self.begin(Kind::Csi) {
-            let head = (intermediates, ignore, end);
+            let head = (intermediates, ignore, final_byte);
             tape.add_head(Kind::Csi, groups.len(), head)
                 .add_numbers(groups);
         }
     }
 
-    fn esc_dispatch(&mut self, intermediates: &[u8], ignore: bool, end: u8) {
+    fn esc_dispatch(&mut self, intermediates: &[u8], ignore: bool, final_byte: u8) {
         if let Some(tape) = self.begin(Kind::Esc) {
-            tape.add_head(Kind::Esc, 0, (intermediates, ignore, char::from(end)));
+            tape.add_head(
+                Kind::Esc,
+                0,
+                (intermediates, ignore, char::from(final_byte)),
+            );
         }
     }
 

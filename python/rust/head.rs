@@ -9,12 +9,12 @@ pub struct Head {
     pub ignore: bool,
     pub intermediates: [u8; 2],
     pub intermediate_count: usize,
-    pub end: char,
+    pub final_byte: char,
 }
 
 impl Head {
     #[inline]
-    pub fn new(count: usize, intermediates: &[u8], ignore: bool, end: char) -> Self {
+    pub fn new(count: usize, intermediates: &[u8], ignore: bool, final_byte: char) -> Self {
         let (intermediate_count, intermediates) = match intermediates {
             [] => (0, [0; 2]),
             [first] => (1, [*first, 0]),
@@ -25,7 +25,7 @@ impl Head {
             ignore,
             intermediates,
             intermediate_count,
-            end,
+            final_byte,
         }
     }
 
@@ -34,7 +34,7 @@ impl Head {
     const IGNORE: u32 = 8;
     const FIRST_INTERMEDIATE: u32 = 9;
     const SECOND_INTERMEDIATE: u32 = 17;
-    const END: u32 = 25;
+    const FINAL_BYTE: u32 = 25;
 
     #[inline]
     pub fn packed(&self) -> i64 {
@@ -44,7 +44,7 @@ impl Head {
             | i64::from(self.ignore) << Self::IGNORE
             | i64::from(first) << Self::FIRST_INTERMEDIATE
             | i64::from(second) << Self::SECOND_INTERMEDIATE
-            | i64::from(u32::from(self.end)) << Self::END
+            | i64::from(u32::from(self.final_byte)) << Self::FINAL_BYTE
     }
 
     /// How many values the numbers take.
@@ -62,7 +62,7 @@ impl Head {
                 byte_at(Self::SECOND_INTERMEDIATE),
             ],
             intermediate_count: (field >> Self::INTERMEDIATE_COUNT & 3) as usize,
-            end: char::from(byte_at(Self::END)),
+            final_byte: char::from(byte_at(Self::FINAL_BYTE)),
         }
     }
 }

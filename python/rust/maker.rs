@@ -3,7 +3,7 @@
 use crate::calls::{Kind, NAMES};
 use crate::head::Head;
 use crate::objects::{
-    bytes, integer, part, short_text, text, tuple, whole, Class, MaybeObject, Short,
+    bytes, integer, part, short_text, text, tuple, whole, Class, MaybeObject, ShortText,
 };
 use crate::tape::{Tag, Value, NUMBERS_PER_VALUE, NUMBER_BITS, TAG_BITS};
 use pyo3::prelude::*;
@@ -256,7 +256,7 @@ impl<'a, 'py> Maker<'a, 'py> {
             let start = self.length - all.len();
             return class.make(py, |_| part(py, whole, start, start + length));
         }
-        match Short::of(content) {
+        match ShortText::of(content) {
             Some(short) => class.make(py, |_| short_text(py, &short)),
             None => class.make(py, |_| text(py, content)),
         }
@@ -270,7 +270,7 @@ impl<'a, 'py> Maker<'a, 'py> {
             (0, true) => groups(py, numbers, head.count),
             (1, true) | (0, false) => bytes(py, &head.intermediates[..head.intermediate_count]),
             (2, true) | (1, false) => Some(head.ignore.into_py(py)),
-            _ => self.letter(head.end),
+            _ => self.letter(head.final_byte),
         })
     }
 

@@ -43,7 +43,7 @@ fn for_c(text: &'static str) -> *const c_char {
     text.as_ptr().cast()
 }
 
-/// An error with a text that ends in NUL. PyO3's errors allocate in a way that can't fail.
+/// An error with a text that ends in NUL. PyO3's errors allocate in a construction that can't fail.
 pub fn error<T: PyTypeInfo>(py: Python<'_>, text: &'static str) -> PyErr {
     // SAFETY: a class of exceptions, and a text that ends in NUL
     unsafe { ffi::PyErr_SetString(T::type_object_raw(py).cast(), for_c(text)) };
@@ -95,23 +95,23 @@ fn size(length: usize) -> ffi::Py_ssize_t {
     length as ffi::Py_ssize_t
 }
 
-/// Short content, aligned: Python copies by words what is.
+/// ShortText content, aligned: Python copies by words what is.
 #[repr(align(8))]
-pub struct Short {
-    content: [u8; Short::MOST],
+pub struct ShortText {
+    content: [u8; ShortText::CAPACITY],
     length: usize,
 }
 
-impl Short {
-    const MOST: usize = 32;
+impl ShortText {
+    const CAPACITY: usize = 32;
 
     /// A copy of content, unless it has too many bytes.
     #[inline]
     pub fn of(bytes: &[u8]) -> Option<Self> {
-        let mut content = [0; Self::MOST];
+        let mut content = [0; Self::CAPACITY];
         content.get_mut(..bytes.len())?.copy_from_slice(bytes);
         let length = bytes.len();
-        Some(Short { content, length })
+        Some(ShortText { content, length })
     }
 
     #[inline]
@@ -155,12 +155,12 @@ pub fn part(py: Python<'_>, whole: &PyObject, start: usize, end: usize) -> Maybe
 }
 
 /// A `str` of a short text. Beyond ASCII Python gets its characters, because it decodes few slowly.
-pub fn short_text(py: Python<'_>, short: &Short) -> MaybeObject {
+pub fn short_text(py: Python<'_>, short: &ShortText) -> MaybeObject {
     let utf8 = short.bytes();
     if cfg!(windows) || utf8.is_ascii() {
         return text(py, utf8);
     }
-    let (mut characters, mut count) = ([0; Short::MOST], 0);
+    let (mut characters, mut count) = ([0; ShortText::CAPACITY], 0);
     for byte in utf8 {
         let bits = u32::from(*byte);
         match bits {
@@ -195,7 +195,7 @@ pub fn integer(py: Python<'_>, value: i64) -> MaybeObject {
     new!(py, PyLong_FromLongLong(value))
 }
 
-pub fn real(py: Python<'_>, value: f64) -> MaybeObject {
+pub fn float(py: Python<'_>, value: f64) -> MaybeObject {
     new!(py, PyFloat_FromDouble(value))
 }
 
@@ -248,11 +248,11 @@ pub struct Class {
     class: PyObject,
     // how many fields an object has: a member of an enumeration is made of its number
     fields: usize,
-    way: Way,
+    construction: Construction,
 }
 
 /// How objects are made: without code in Python, which a signal can end.
-enum Way {
+enum Construction {
     /// A tuple as Python has it before 3.14, with its fields after its size.
     FieldByField,
     /// By `tuple.__new__`.
@@ -265,19 +265,26 @@ impl Class {
     pub fn of(class: Bound<'_, PyAny>) -> PyResult<Self> {
         let py = class.py();
         let is_tuple = class.downcast::<PyType>()?.is_subclass_of::<PyTuple>()?;
-        let (fields, way) = match (is_tuple, py.version_info() < (3, 14)) {
+        let (fields, construction) = match (is_tuple, py.version_info() < (3, 14)) {
             (false, _) => (
                 1,
-                Way::Members(class.getattr("_value2member_map_")?.unbind()),
+                Construction::Members(class.getattr("_value2member_map_")?.unbind()),
             ),
-            (true, true) => (class.getattr("_fields")?.len()?, Way::FieldByField),
+            (true, true) => (class.getattr("_fields")?.len()?, Construction::FieldByField),
             (true, false) => {
                 let new = py.get_type_bound::<PyTuple>().getattr("__new__")?;
-                (class.getattr("_fields")?.len()?, Way::Tuple(new.unbind()))
+                (
+                    class.getattr("_fields")?.len()?,
+                    Construction::Tuple(new.unbind()),
+                )
             }
         };
         let class = class.unbind();
-        Ok(Class { class, fields, way })
+        Ok(Class {
+            class,
+            fields,
+            construction,
+        })
     }
 
     pub fn is(&self, other: &Bound<'_, PyAny>) -> bool {
@@ -288,12 +295,12 @@ impl Class {
     #[inline(always)]
     pub fn make(&self, py: Python<'_>, mut field: impl FnMut(usize) -> MaybeObject) -> MaybeObject {
         let (class, count) = (self.class.as_ptr(), self.fields);
-        match &self.way {
-            Way::FieldByField => {}
-            Way::Members(members) => {
+        match &self.construction {
+            Construction::FieldByField => {}
+            Construction::Members(members) => {
                 return new!(py, PyObject_GetItem(members.as_ptr(), field(0)?.as_ptr()));
             }
-            Way::Tuple(new) => {
+            Construction::Tuple(new) => {
                 let mut words = [tuple(py, count, field)?, self.class.clone_ref(py)].into_iter();
                 return call(py, new, &tuple(py, 2, |_| words.next_back())?);
             }

@@ -3,7 +3,7 @@
 use crate::calls::Kind;
 use crate::events::{has, kinds_of, Kinds, Recorder, ALL};
 use crate::objects::{borrowed, bytes, bytes_of, error, integer, pair, raised, text, MaybeObject};
-use crate::reader::{read, step, Reader};
+use crate::reader::{first_slice, read, Reader};
 use crate::tape::Tape;
 use pyo3::exceptions::{PyTypeError, PyValueError};
 use pyo3::prelude::*;
@@ -207,7 +207,7 @@ impl Reader for Parser {
                 return Ok(skipped);
             }
         }
-        let bytes = step(bytes);
+        let bytes = first_slice(bytes);
         recorder.tape.reserve(bytes.len(), command)?;
         recorder.go_on();
         let (read, lost_data) = match machine {

@@ -1,7 +1,7 @@
 //! The processor of calls.
 
-use crate::objects::{borrowed, bytes_of, integer, no_memory, raised, real};
-use crate::reader::{read, step, Reader};
+use crate::objects::{borrowed, bytes_of, float, integer, no_memory, raised};
+use crate::reader::{first_slice, read, Reader};
 use crate::refusal::Refusal;
 use crate::tape::Tape;
 use pyo3::prelude::*;
@@ -67,7 +67,7 @@ impl Processor {
         let done = shared.stop().map_err(|_| no_memory(py));
         let tape = shared.tape();
         let done = done.and_then(|()| tape.make(py, true));
-        let answer = refusal.or(py, tape, 0, done, |calls, _| Some(calls));
+        let answer = refusal.raise_or(py, tape, 0, done, |calls, _| Some(calls));
         shared.is_stopped &= answer.is_err();
         answer
     }
@@ -91,7 +91,7 @@ impl Processor {
         // one of these two is 0
         let left = deadline.saturating_duration_since(Instant::now());
         let over = deadline.elapsed();
-        let deadline = real(py, now + left.as_secs_f64() - over.as_secs_f64());
+        let deadline = float(py, now + left.as_secs_f64() - over.as_secs_f64());
         raised(py, deadline)
     }
 }
@@ -118,7 +118,7 @@ impl Reader for Processor {
     }
 
     fn read(&mut self, bytes: &[u8]) -> Result<usize, Refused> {
-        let (bytes, before) = (step(bytes), self.calls.0.size());
+        let (bytes, before) = (first_slice(bytes), self.calls.0.size());
         let parsed = self.processor.sync_bytes_count() + bytes.len();
         self.calls.0.reserve(parsed, self.command)?;
         self.is_stopped = false;

@@ -7,7 +7,7 @@ use pyo3::prelude::*;
 use vte::Refused;
 
 /// How many bytes are read at most before the tape is asked whether it is full.
-const STEP: usize = 1 << 12;
+const SLICE: usize = 1 << 12;
 /// How many values are recorded before objects are made of them: few, because their memory is then
 /// at hand.
 const MAX_SIZE: usize = 1 << 11;
@@ -26,9 +26,9 @@ pub trait Reader: Send {
     }
 }
 
-/// The bytes of a step.
-pub fn step(bytes: &[u8]) -> &[u8] {
-    &bytes[..bytes.len().min(STEP)]
+/// The first bytes, which a call parses at once.
+pub fn first_slice(bytes: &[u8]) -> &[u8] {
+    &bytes[..bytes.len().min(SLICE)]
 }
 
 /// Reads bytes up to a stop. The answer is made of a list of what they add, and of how many were
@@ -54,7 +54,7 @@ where
             Ok(()) if is_refused => Err(no_memory(py)),
             done => done,
         };
-        return refusal.or(py, reader.tape(), position, done, answer);
+        return refusal.raise_or(py, reader.tape(), position, done, answer);
     }
 }
 

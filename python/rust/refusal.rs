@@ -27,7 +27,7 @@ impl Refusal {
 
     /// The answer of a call, made of a list of what was made and of how many bytes were read. If
     /// memory is refused, to this or to what was `done`, it raises what was made.
-    pub fn or<F>(
+    pub fn raise_or<F>(
         self,
         py: Python<'_>,
         tape: &mut Tape,
@@ -47,7 +47,7 @@ impl Refusal {
         match answered {
             Err(error) if error.is_instance_of::<PyMemoryError>(py) => {
                 // first, since what this has no memory for stays on the tape
-                let made = made.or_else(|| tape.some(py));
+                let made = made.or_else(|| tape.list_of_some(py));
                 drop(self);
                 Err(refused(py, read, made, tape.has_lost()))
             }

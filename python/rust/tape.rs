@@ -295,7 +295,7 @@ impl Tape {
     }
 
     /// Changes the value at an index to true.
-    pub fn set(&mut self, index: usize) {
+    pub fn set_flag(&mut self, index: usize) {
         self.values[index] = Value::new(Tag::Flag, 1);
     }
 
@@ -359,7 +359,7 @@ impl Tape {
     }
 
     /// A list of as many of the first that were made as there is memory for. The others stay.
-    pub fn some(&mut self, py: Python<'_>) -> Option<PyObject> {
+    pub fn list_of_some(&mut self, py: Python<'_>) -> Option<PyObject> {
         let mut count = self.made.len();
         while count > 0 {
             match raised(py, list(py, &mut self.made, count)) {

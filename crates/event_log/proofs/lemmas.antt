@@ -3,4 +3,4 @@
 pub mod Fields
 pub mod Lengths
 pub mod Progress
-pub mod Records
+pub mod HeldTexts

@@ -1,6 +1,6 @@
 -- What a run reads and writes.
 use Rattle.std.specs.Prelude.{Bool, Err, IfSome, length, List, Ok, Option, Result, Some, true, ℕ, [], ⊤, ◌++◌, ◌-◌, ◌^◌, ◌≡◌, ◌≤◌, ◌⊎◌}
-use Rattle.vte_core.specs.Stream.{events, usual_limit}
+use Rattle.vte_core.specs.Stream.{default_limit, events}
 use Rattle.event_log.specs.Lines.{lines_of}
 use Rattle.event_log.specs.Plain.{plain_text}
 use Rattle.event_log.specs.declared.fault.Fault.{Fault}
@@ -8,49 +8,49 @@ use Rattle.event_log.specs.declared.fault.Fault.TheVariants.{Read, Write}
 
 -- The lines of a stream's events, with a buffer of 1,024 bytes for operating system commands.
 abbrev pub log_of : List ℕ → List ℕ
-log_of stream = lines_of (events usual_limit stream)
+log_of stream = lines_of (events default_limit stream)
 
 -- The text of a stream without its sequences.
 abbrev pub stripped_text : List ℕ → List ℕ
-stripped_text stream = plain_text (events usual_limit stream)
+stripped_text stream = plain_text (events default_limit stream)
 
 -- The maximum number of reads of a run.
 abbrev pub max_reads : ℕ
 max_reads = 2 ^ 64 - 1
 
--- The whole input was read, and its meaning was written after what the writer held.
-pub record WritesAll (meaning : List ℕ → List ℕ) (input held : List ℕ)
-    (to_come taken : Option (List ℕ)) : Type 0 where
-  pub at_end : to_come ≡ Some []
-  pub written : taken ≡ Some (held ++ meaning input)
+-- The whole input was read, and its output was written after what the writer held.
+pub record WritesAll (output_of : List ℕ → List ℕ) (input held : List ℕ)
+    (remaining contents : Option (List ℕ)) : Type 0 where
+  pub at_end : remaining ≡ Some []
+  pub written : contents ≡ Some (held ++ output_of input)
 
--- A prefix of the input was read, and its meaning was written. Either the reader has failed, or it
+-- A prefix of the input was read, and its output was written. Either the reader has failed, or it
 -- has given bytes in as many reads as a run makes.
-pub record WritesPrefix (meaning : List ℕ → List ℕ) (input held : List ℕ)
-    (to_come taken : Option (List ℕ)) (failed : Bool)
+pub record WritesPrefix (output_of : List ℕ → List ℕ) (input held : List ℕ)
+    (remaining contents : Option (List ℕ)) (failed : Bool)
     : Type 0 where
   pub stream : List ℕ
   pub rest : List ℕ
   pub parts : input ≡ stream ++ rest
-  pub left : IfSome to_come (λ bytes. bytes ≡ rest)
-  pub written : taken ≡ Some (held ++ meaning stream)
+  pub left : IfSome remaining (λ bytes. bytes ≡ rest)
+  pub written : contents ≡ Some (held ++ output_of stream)
   pub cause : (failed ≡ true) ⊎ (max_reads ≤ length stream)
 
 -- How a run leaves a reader and a writer whose bytes were known when it began.
 abbrev pub WritesExactly : (List ℕ → List ℕ) → Result (Unit {0}) Fault → (input held : List ℕ)
-    → (to_come taken : Option (List ℕ)) → (failed : Bool) → Type 0
-WritesExactly meaning (Ok _) input held to_come taken failed =
-    WritesAll meaning input held to_come taken
-WritesExactly meaning (Err Read) input held to_come taken failed =
-    WritesPrefix meaning input held to_come taken failed
-WritesExactly meaning (Err Write) input held to_come taken failed = ⊤
+    → (remaining contents : Option (List ℕ)) → (failed : Bool) → Type 0
+WritesExactly output_of (Ok _) input held remaining contents failed =
+    WritesAll output_of input held remaining contents
+WritesExactly output_of (Err Read) input held remaining contents failed =
+    WritesPrefix output_of input held remaining contents failed
+WritesExactly output_of (Err Write) input held remaining contents failed = ⊤
 
 abbrev pub LogsExactly : Result (Unit {0}) Fault → (input held : List ℕ)
-    → (to_come taken : Option (List ℕ)) → (failed : Bool) → Type 0
-LogsExactly result input held to_come taken failed =
-    WritesExactly log_of result input held to_come taken failed
+    → (remaining contents : Option (List ℕ)) → (failed : Bool) → Type 0
+LogsExactly result input held remaining contents failed =
+    WritesExactly log_of result input held remaining contents failed
 
 abbrev pub StripsExactly : Result (Unit {0}) Fault → (input held : List ℕ)
-    → (to_come taken : Option (List ℕ)) → (failed : Bool) → Type 0
-StripsExactly result input held to_come taken failed =
-    WritesExactly stripped_text result input held to_come taken failed
+    → (remaining contents : Option (List ℕ)) → (failed : Bool) → Type 0
+StripsExactly result input held remaining contents failed =
+    WritesExactly stripped_text result input held remaining contents failed

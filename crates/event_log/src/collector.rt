@@ -2,7 +2,7 @@
 ghost use Rattle.std.specs.Prelude.{length, List, ℕ, [], ◌<◌, ◌≡◌};
 ghost use Rattle.vte_core.specs.Event.{Event};
 ghost use Rattle.event_log.specs.private.Progress.{AddsUpTo, HasKept, HasReadSome};
-ghost use Rattle.event_log.specs.Record.{empty_record, Record};
+ghost use Rattle.event_log.specs.HeldText.{empty_text, HeldText};
 
 use vte_core::Parser;
 
@@ -14,23 +14,23 @@ pub(crate) type RunParser = Parser<1024>;
 pub(crate) trait Collector {
     ghost text_of: { Event → List ℕ };
 
-    ghost record_of: { Self → Record };
+    ghost held_text_of: { Self → HeldText };
 
     /// Parses bytes and collects their text until it is time to write it. Nothing is lost. Returns
     /// the unread bytes.
     fn collect<'a>(&mut self, parser: &mut RunParser, bytes: &'a [u8]) -> &'a [u8]
         requires parsed { HasReadSome parser.old }
-        requires empty { record_of self.old ≡ empty_record }
+        requires holds_nothing { held_text_of self.old ≡ empty_text }
         ensures progress { 0 < length bytes.now → length result.now < length bytes.now }
         ensures collects { (whole : List ℕ → List ℕ)
             → AddsUpTo text_of whole [] parser.old bytes.now →
-            HasKept text_of whole (record_of self.new) parser.new result.now };
+            HasKept text_of whole (held_text_of self.new) parser.new result.now };
 
     /// Returns the collected text.
     fn texts(&self) -> &[u8]
-        ensures { result.now ≡ (record_of self.now).bytes };
+        ensures { result.now ≡ (held_text_of self.now).bytes };
 
     /// Clears the text, and forgets that any was lost.
     fn clear(&mut self)
-        ensures { record_of self.new ≡ empty_record };
+        ensures { held_text_of self.new ≡ empty_text };
 }

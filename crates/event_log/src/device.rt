@@ -10,25 +10,26 @@ use std::io::{self, Read, Write};
 /// A source that has failed stays failed.
 // proof: the bytes still to come, if they are known, and whether it has failed define its meaning.
 pub trait Source {
-    ghost to_come: { Self → Option (List ℕ) };
+    ghost remaining: { Self → Option (List ℕ) };
 
     ghost has_failed: { Self → Bool };
 
-    /// Moves the next bytes to the front of `buffer` and returns their number, which is 0 for a
-    /// non-empty `buffer` only at the end.
+    /// Reads the next bytes into the front of `buffer`, and returns how many. Reads 0 bytes only at
+    /// the end or into an empty buffer.
     ///
     /// # Errors
     ///
-    /// Fails if the source has failed. Then no byte was taken.
+    /// Fails if the source has failed. Then no byte is consumed.
     fn read(&mut self, buffer: &mut [u8]) -> Result<usize, ()>
         ensures fails { is_err result ≡ has_failed self.new }
         ensures stays { IsTrue (has_failed self.old) → IsTrue (has_failed self.new) }
         ensures bound { IfOk result (λ count. count ≤ length buffer.new) }
         ensures moves { IfOk result (λ count.
-            Consumes (to_come self.old) (to_come self.new) (take count buffer.new)) }
+            Consumes (remaining self.old) (remaining self.new) (take count buffer.new)) }
         ensures end { IfOk result (λ count. count ≡ 0 → 0 < length buffer.new
-            → IsAtEnd (to_come self.new)) }
-        ensures none_taken { OnErr result (KeepsWhereKnown (to_come self.old) (to_come self.new)) };
+            → IsAtEnd (remaining self.new)) }
+        ensures none_taken { OnErr result (KeepsWhereKnown (remaining self.old)
+            (remaining self.new)) };
 }
 
 /// A destination for bytes.
@@ -36,7 +37,7 @@ pub trait Source {
 /// A sink that has failed stays failed.
 // proof: the bytes taken, if they are known, and whether it has failed define its meaning.
 pub trait Sink {
-    ghost taken: { Self → Option (List ℕ) };
+    ghost contents: { Self → Option (List ℕ) };
 
     ghost has_failed: { Self → Bool };
 
@@ -48,7 +49,7 @@ pub trait Sink {
     fn write_all(&mut self, bytes: &[u8]) -> Result<(), ()>
         ensures fails { is_err result ≡ has_failed self.new }
         ensures stays { IsTrue (has_failed self.old) → IsTrue (has_failed self.new) }
-        ensures appends { OnOk result (Appends (taken self.old) (taken self.new) bytes.now) };
+        ensures appends { OnOk result (Appends (contents self.old) (contents self.new) bytes.now) };
 
     /// Passes on everything it has taken.
     ///
@@ -58,8 +59,9 @@ pub trait Sink {
     fn flush(&mut self) -> Result<(), ()>
         ensures fails { is_err result ≡ has_failed self.new }
         ensures stays { IsTrue (has_failed self.old) → IsTrue (has_failed self.new) }
-        ensures keeps { OnOk result (Keeps (taken self.old) (taken self.new)) }
-        ensures adds_none { OnErr result (KeepsWhereKnown (taken self.old) (taken self.new)) };
+        ensures keeps { OnOk result (Keeps (contents self.old) (contents self.new)) }
+        ensures adds_none { OnErr result (KeepsWhereKnown (contents self.old)
+            (contents self.new)) };
 }
 
 /// A [`Read`] or [`Write`] of std as a [`Source`] or [`Sink`].
@@ -75,8 +77,8 @@ pub struct Device<D> {
 impl<D> Device<D> {
     /// Wraps a reader or writer.
     pub fn new(inner: D) -> Self
-        ensures same { device_inner result ≡ inner }
-        ensures works { device_failed result ≡ false }
+        ensures inner_is { device_inner result ≡ inner }
+        ensures not_failed { device_failed result ≡ false }
     {
         Device { inner, error: None }
     }
@@ -90,7 +92,7 @@ impl<D> Device<D> {
 }
 
 impl<D: Read> Source for Device<D> {
-    ghost to_come = { λ device. known_unless (device_failed device) (D.remaining device.inner) };
+    ghost remaining = { λ device. known_unless (device_failed device) (D.remaining device.inner) };
 
     ghost has_failed = { λ device. device_failed device };
 
@@ -109,7 +111,7 @@ impl<D: Read> Source for Device<D> {
 }
 
 impl<D: Write> Sink for Device<D> {
-    ghost taken = { λ device. known_unless (device_failed device) (D.contents device.inner) };
+    ghost contents = { λ device. known_unless (device_failed device) (D.contents device.inner) };
 
     ghost has_failed = { λ device. device_failed device };
 

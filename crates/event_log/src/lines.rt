@@ -1,6 +1,6 @@
 //! Lines of text, each appended whole or not at all.
 ghost use Rattle.std.specs.Prelude.{false, length, [], ◌+◌, ◌≡◌};
-ghost use Rattle.event_log.specs.Record.{capacity, empty_record, is_to_be_written, record_in, record_with_text};
+ghost use Rattle.event_log.specs.HeldText.{capacity, empty_text, held_text_in, held_with_text, is_to_be_written};
 ghost use Rattle.event_log.specs.private.Line.{BeginsLine, EndsLine, ExtendsLine};
 
 mod fields;
@@ -29,7 +29,7 @@ pub struct Lines {
 impl Lines {
     /// Creates an empty buffer.
     pub fn new() -> Self
-        ensures { record_in result ≡ empty_record }
+        ensures { held_text_in result ≡ empty_text }
     {
         Lines {
             bytes: ArrayVec::new(),
@@ -41,7 +41,7 @@ impl Lines {
 
     /// Returns the lines.
     pub fn bytes(&self) -> &[u8]
-        ensures { result.now ≡ (record_in self.now).bytes }
+        ensures { result.now ≡ (held_text_in self.now).bytes }
     {
         self.bytes.as_slice()
     }
@@ -49,21 +49,21 @@ impl Lines {
     /// Returns the number of bytes in the buffer.
     // cargo lacks: not used
     pub fn len(&self) -> usize
-        ensures { result ≡ length (record_in self.now).bytes }
+        ensures { result ≡ length (held_text_in self.now).bytes }
     {
         self.bytes.len()
     }
 
     /// Returns the number of bytes that still fit.
     pub(crate) fn remaining_capacity(&self) -> usize
-        ensures { length (record_in self.now).bytes + result ≡ capacity }
+        ensures { length (held_text_in self.now).bytes + result ≡ capacity }
     {
         CAPACITY - self.bytes.len()
     }
 
     /// Returns whether more than half of the capacity is in use: then the lines should be written.
     pub(crate) fn is_more_than_half_full(&self) -> bool
-        ensures { result ≡ is_to_be_written (record_in self.now) }
+        ensures { result ≡ is_to_be_written (held_text_in self.now) }
     {
         self.bytes.len() > CAPACITY / 2
     }
@@ -71,14 +71,14 @@ impl Lines {
     /// Returns whether a line was dropped since the last `clear`.
     // cargo lacks: not used
     pub fn lost(&self) -> bool
-        ensures { result ≡ (record_in self.now).lost }
+        ensures { result ≡ (held_text_in self.now).lost }
     {
         self.lost
     }
 
     /// Removes all lines.
     pub fn clear(&mut self)
-        ensures { record_in self.new ≡ empty_record }
+        ensures { held_text_in self.new ≡ empty_text }
     {
         self.bytes.clear();
         self.lost = false;
@@ -86,16 +86,16 @@ impl Lines {
 
     /// Appends a line, or drops it if there isn't room for all of it.
     #[inline]
-    #[tactic(auto, unfolding(crate::specs::Record::record_with_text))]
+    #[tactic(auto, unfolding(crate::specs::HeldText::held_with_text))]
     pub fn append(&mut self, line: &[u8])
-        ensures { record_in self.new ≡ record_with_text (record_in self.old) line.now }
+        ensures { held_text_in self.new ≡ held_with_text (held_text_in self.old) line.now }
     {
         if self.bytes.try_extend_from_slice(line).is_err() {
             self.lost = true;
         }
     }
 
-    /// Begins a line. Its parts are pushed until `end`.
+    /// Begins a line. What is pushed until `end` belongs to it.
     pub(crate) fn begin(&mut self)
         ensures { BeginsLine self.old self.new }
     {
@@ -103,7 +103,7 @@ impl Lines {
         self.fits = true;
     }
 
-    /// Adds a text to the line, if what came before it and the text fit.
+    /// Adds a text to the line, if it fits and everything before it in the line did.
     pub(crate) fn push(&mut self, text: &[u8])
         ensures { ExtendsLine self.old text.now self.new }
     {

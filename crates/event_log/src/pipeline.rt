@@ -2,9 +2,9 @@
 ghost use Rattle.std.specs.Prelude.{Err, false, IfOk, is_err, length, List, OnOk, Some, true, ℕ, [], ◌++◌, ◌<◌, ◌≡◌};
 ghost use Rattle.std.specs.Io.KnownBytes.{Appends};
 ghost use Rattle.std.specs.List.{flat_map};
-ghost use Rattle.vte_core.specs.Stream.{events, usual_limit};
+ghost use Rattle.vte_core.specs.Stream.{default_limit, events};
 ghost use Rattle.event_log.specs.private.Progress.{HasReadSome, HasWritten};
-ghost use Rattle.event_log.specs.Record.{empty_record};
+ghost use Rattle.event_log.specs.HeldText.{empty_text};
 ghost use Rattle.event_log.specs.Run.{LogsExactly, StripsExactly, WritesExactly};
 
 use crate::collector::{Collector, RunParser};
@@ -26,9 +26,9 @@ const CHUNK: usize = 4096;
 ///
 /// Ends at the first failed read or write. Everything read before a failed read has been written.
 pub fn run<R: Source, W: Sink>(reader: &mut R, writer: &mut W) -> Result<(), Fault>
-    ensures lines { (input held : List ℕ) → R.to_come reader.old ≡ Some input
-        → W.taken writer.old ≡ Some held →
-        LogsExactly result input held (R.to_come reader.new) (W.taken writer.new)
+    ensures lines { (input held : List ℕ) → R.remaining reader.old ≡ Some input
+        → W.contents writer.old ≡ Some held →
+        LogsExactly result input held (R.remaining reader.new) (W.contents writer.new)
         (R.has_failed reader.new) }
     ensures read_to_the_end { OnOk result (R.has_failed reader.new ≡ false) }
     ensures write_failed { result ≡ Err Fault.Write → W.has_failed writer.new ≡ true }
@@ -41,9 +41,9 @@ pub fn run<R: Source, W: Sink>(reader: &mut R, writer: &mut W) -> Result<(), Fau
 /// It reads, writes, flushes and fails as [`run`] does. A character that is unfinished at the end
 /// gives no text.
 pub fn run_text<R: Source, W: Sink>(reader: &mut R, writer: &mut W) -> Result<(), Fault>
-    ensures text { (input held : List ℕ) → R.to_come reader.old ≡ Some input
-        → W.taken writer.old ≡ Some held →
-        StripsExactly result input held (R.to_come reader.new) (W.taken writer.new)
+    ensures text { (input held : List ℕ) → R.remaining reader.old ≡ Some input
+        → W.contents writer.old ≡ Some held →
+        StripsExactly result input held (R.remaining reader.new) (W.contents writer.new)
         (R.has_failed reader.new) }
     ensures read_to_the_end { OnOk result (R.has_failed reader.new ≡ false) }
     ensures write_failed { result ≡ Err Fault.Write → W.has_failed writer.new ≡ true }
@@ -57,11 +57,11 @@ fn run_with<C: Collector, R: Source, W: Sink>(
     reader: &mut R,
     writer: &mut W,
 ) -> Result<(), Fault>
-    requires empty { C.record_of collector.old ≡ empty_record }
-    ensures texts { (input held : List ℕ) → R.to_come reader.old ≡ Some input
-        → W.taken writer.old ≡ Some held →
-        WritesExactly (λ stream. flat_map C.text_of (events usual_limit stream)) result input held
-        (R.to_come reader.new) (W.taken writer.new) (R.has_failed reader.new) }
+    requires holds_nothing { C.held_text_of collector.old ≡ empty_text }
+    ensures texts { (input held : List ℕ) → R.remaining reader.old ≡ Some input
+        → W.contents writer.old ≡ Some held →
+        WritesExactly (λ stream. flat_map C.text_of (events default_limit stream)) result input held
+        (R.remaining reader.new) (W.contents writer.new) (R.has_failed reader.new) }
     ensures read_to_the_end { OnOk result (R.has_failed reader.new ≡ false) }
     ensures write_failed { result ≡ Err Fault.Write → W.has_failed writer.new ≡ true }
 {
@@ -90,14 +90,14 @@ fn write_chunk<C: Collector, W: Sink>(
     chunk: &[u8],
 ) -> Result<(), ()>
     requires parsed { HasReadSome parser.old }
-    requires empty { C.record_of collector.old ≡ empty_record }
+    requires holds_nothing { C.held_text_of collector.old ≡ empty_text }
     ensures reads { OnOk result (HasReadSome parser.new) }
-    ensures empties { OnOk result (C.record_of collector.new ≡ empty_record) }
+    ensures empties { OnOk result (C.held_text_of collector.new ≡ empty_text) }
     ensures writes { (whole : List ℕ → List ℕ)
-        → HasWritten C.text_of whole (W.taken writer.old) parser.old [] →
+        → HasWritten C.text_of whole (W.contents writer.old) parser.old [] →
         OnOk result
         (HasWritten C.text_of (λ more. whole (chunk.now ++ more))
-        (W.taken writer.new) parser.new []) }
+        (W.contents writer.new) parser.new []) }
     ensures fails { is_err result ≡ true → W.has_failed writer.new ≡ true }
 {
     let mut unread = chunk;
@@ -115,15 +115,15 @@ fn write_some<'a, C: Collector, W: Sink>(
     bytes: &'a [u8],
 ) -> Result<&'a [u8], ()>
     requires parsed { HasReadSome parser.old }
-    requires empty { C.record_of collector.old ≡ empty_record }
+    requires holds_nothing { C.held_text_of collector.old ≡ empty_text }
     ensures progress { IfOk result (λ unread. 0 < length bytes.now
         → length unread.now < length bytes.now) }
     ensures reads { OnOk result (HasReadSome parser.new) }
-    ensures empties { OnOk result (C.record_of collector.new ≡ empty_record) }
+    ensures empties { OnOk result (C.held_text_of collector.new ≡ empty_text) }
     ensures writes { (whole : List ℕ → List ℕ)
-        → HasWritten C.text_of whole (W.taken writer.old) parser.old bytes.now →
+        → HasWritten C.text_of whole (W.contents writer.old) parser.old bytes.now →
         IfOk result
-        (λ unread. HasWritten C.text_of whole (W.taken writer.new) parser.new unread.now) }
+        (λ unread. HasWritten C.text_of whole (W.contents writer.new) parser.new unread.now) }
     ensures fails { is_err result ≡ true → W.has_failed writer.new ≡ true }
 {
     let unread = collector.collect(parser, bytes);
@@ -133,9 +133,9 @@ fn write_some<'a, C: Collector, W: Sink>(
 
 /// Writes and clears the collected text.
 fn write_out<C: Collector, W: Sink>(collector: &mut C, writer: &mut W) -> Result<(), ()>
-    ensures empties { OnOk result (C.record_of collector.new ≡ empty_record) }
-    ensures appends { OnOk result (Appends (W.taken writer.old) (W.taken writer.new)
-        (C.record_of collector.old).bytes) }
+    ensures empties { OnOk result (C.held_text_of collector.new ≡ empty_text) }
+    ensures appends { OnOk result (Appends (W.contents writer.old) (W.contents writer.new)
+        (C.held_text_of collector.old).bytes) }
     ensures fails { is_err result ≡ W.has_failed writer.new }
 {
     writer.write_all(collector.texts())?;

@@ -1,7 +1,7 @@
 //! The performer that keeps only text.
 ghost use Rattle.std.specs.Prelude.{true, ◌≡◌};
 ghost use Rattle.event_log.specs.Plain.{plain_text_of};
-ghost use Rattle.event_log.specs.Record.{empty_record, is_to_be_written, Record, record_in, record_with_event};
+ghost use Rattle.event_log.specs.HeldText.{empty_text, held_text_in, held_with_event, HeldText, is_to_be_written};
 
 use crate::collector::{Collector, RunParser};
 use crate::lines::Lines;
@@ -9,7 +9,7 @@ use std::marker::Model;
 use vte_core::{Params, Perform, PerformText, laws};
 
 /// The most bytes of text that one byte of a stream adds: one byte adds at most two characters.
-const MAX_TEXT: usize = 8;
+const MAX_TEXT_PER_BYTE: usize = 8;
 
 /// Collects the text of a stream, without its sequences, in a buffer of 8,192 bytes.
 ///
@@ -23,15 +23,15 @@ pub struct Plain {
 }
 
 impl Model for Plain {
-    ghost Value = { Record };
+    ghost Value = { HeldText };
 
-    ghost view = { λ plain. record_in plain.texts };
+    ghost view = { λ plain. held_text_in plain.texts };
 }
 
 impl Plain {
     /// Creates an empty `Plain`.
     pub fn new() -> Self
-        ensures { result ≡ empty_record }
+        ensures { result ≡ empty_text }
     {
         Plain {
             texts: Lines::new(),
@@ -47,7 +47,7 @@ impl Plain {
 
     /// Removes the text, and forgets that any was lost.
     pub fn clear(&mut self)
-        ensures { self.new ≡ empty_record }
+        ensures { self.new ≡ empty_text }
     {
         self.texts.clear();
     }
@@ -62,11 +62,11 @@ impl Plain {
 }
 
 impl Perform for Plain {
-    ghost Value = { Record };
+    ghost Value = { HeldText };
 
     ghost value_of = { λ plain. plain };
 
-    ghost step = { record_with_event plain_text_of };
+    ghost step = { held_with_event plain_text_of };
 
     ghost is_terminated = { is_to_be_written };
 
@@ -79,7 +79,7 @@ impl Perform for Plain {
     fn execute(&mut self, byte: u8) {
         match byte {
             b'\t' | b'\n' | b'\r' => self.texts.append(&[byte]),
-            // proof: what has no text appends an empty one, as `record_with_event` does.
+            // proof: what has no text appends an empty one, as `held_with_event` does.
             _ => self.texts.append(b""),
         }
     }
@@ -146,14 +146,14 @@ impl PerformText for Plain {
 impl Collector for Plain {
     ghost text_of = { plain_text_of };
 
-    ghost record_of = { λ plain. plain };
+    ghost held_text_of = { λ plain. plain };
 
     // The text of a chunk fits whatever its bytes are, so no character needs a stop.
     fn collect<'a>(&mut self, parser: &mut RunParser, bytes: &'a [u8]) -> &'a [u8] {
         laws::bytes_are_brief();
         let mut unread = bytes;
         while !unread.is_empty() && !self.terminated() {
-            let size = self.texts.remaining_capacity() / MAX_TEXT;
+            let size = self.texts.remaining_capacity() / MAX_TEXT_PER_BYTE;
             let (chunk, rest) = unread.split_at(unread.len().min(size));
             parser.advance_text(self, chunk);
             unread = rest;

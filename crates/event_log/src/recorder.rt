@@ -1,7 +1,7 @@
 //! The performer that writes lines.
 ghost use Rattle.std.specs.Prelude.{◌++◌, ◌≡◌};
 ghost use Rattle.event_log.specs.Lines.{line_feed, line_of, sequence_fields};
-ghost use Rattle.event_log.specs.Record.{empty_record, is_to_be_written, Record, record_in, record_with_event, record_with_text};
+ghost use Rattle.event_log.specs.HeldText.{empty_text, held_text_in, held_with_event, held_with_text, HeldText, is_to_be_written};
 
 use crate::collector::{Collector, RunParser};
 use crate::lines::{Lines, line_of_execute, line_of_put};
@@ -20,15 +20,15 @@ pub struct Recorder {
 }
 
 impl Model for Recorder {
-    ghost Value = { Record };
+    ghost Value = { HeldText };
 
-    ghost view = { λ recorder. record_in recorder.lines };
+    ghost view = { λ recorder. held_text_in recorder.lines };
 }
 
 impl Recorder {
     /// Creates an empty recorder.
     pub fn new() -> Self
-        ensures { result ≡ empty_record }
+        ensures { result ≡ empty_text }
     {
         Recorder {
             lines: Lines::new(),
@@ -44,7 +44,7 @@ impl Recorder {
 
     /// Removes the lines, and forgets that any was lost.
     pub fn clear(&mut self)
-        ensures { self.new ≡ empty_record }
+        ensures { self.new ≡ empty_text }
     {
         self.lines.clear();
     }
@@ -69,7 +69,7 @@ impl Recorder {
         action: char,
     )
         ensures { self.new
-            ≡ record_with_text self.old
+            ≡ held_with_text self.old
             (name.now ++ sequence_fields params.now intermediates.now ignore action ++ line_feed) }
     {
         self.lines.begin();
@@ -82,11 +82,11 @@ impl Recorder {
 }
 
 impl Perform for Recorder {
-    ghost Value = { Record };
+    ghost Value = { HeldText };
 
     ghost value_of = { λ recorder. recorder };
 
-    ghost step = { record_with_event line_of };
+    ghost step = { held_with_event line_of };
 
     ghost is_terminated = { is_to_be_written };
 
@@ -146,7 +146,7 @@ impl Perform for Recorder {
 impl Collector for Recorder {
     ghost text_of = { line_of };
 
-    ghost record_of = { λ recorder. recorder };
+    ghost held_text_of = { λ recorder. recorder };
 
     fn collect<'a>(&mut self, parser: &mut RunParser, bytes: &'a [u8]) -> &'a [u8] {
         laws::early_stops();

@@ -5,7 +5,7 @@
 //! handler calls instead of events. Of the processor that makes these, FFFE calls `stop_sync`, FFFD
 //! makes the timeout expire, and FFFC turns it off for the rest of the stream.
 
-/// The next part of the input.
+/// What comes next in the input.
 #[derive(Clone, Copy)]
 pub(crate) enum Frame<'a> {
     Chunk(&'a [u8]),

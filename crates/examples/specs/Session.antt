@@ -6,12 +6,12 @@ use Rattle.vte.specs.Handler.{after}
 use Rattle.vte.specs.Processor.{AreInOrder, calls_with_stops, Meaning, State, TakesSteps}
 use Rattle.vte.specs.ProcessorCalls.{HasParsedAndHolds, IsAt}
 use Rattle.vte.specs.StdSyncHandler.{pending_meaning}
-use Rattle.vte.specs.Stream.{usual_limit}
+use Rattle.vte.specs.Stream.{default_limit}
 use Rattle.vte.specs.declared.ansi.laws.replays.Step.{Step}
 
 -- The values are whether the terminal was to ring, and whether an update is pending.
 abbrev pub meaning : Meaning Bool Bool
-meaning = record { limit = usual_limit; step = rung_after; timeout = pending_meaning }
+meaning = record { limit = default_limit; step = rung_after; timeout = pending_meaning }
 
 abbrev pub start : State Bool Bool
 start = record { parsed = []; stops = []; held = []; timeout = false; handler = false }
@@ -29,4 +29,4 @@ pub record RangBy (given held : List ℕ) (rung : Bool) : Type 0 where
   pub stops : List ℕ
   pub each_once : given ≡ parsed ++ held
   pub in_order : AreInOrder 0 stops (length parsed)
-  pub rung_is : rung ≡ after rung_after false (calls_with_stops usual_limit parsed 0 stops)
+  pub rung_is : rung ≡ after rung_after false (calls_with_stops default_limit parsed 0 stops)

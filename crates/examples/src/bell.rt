@@ -2,7 +2,7 @@
 ghost use Rattle.examples.specs.Bell.{rung_after};
 ghost use Rattle.std.specs.Prelude.{false, ◌≡◌};
 ghost use Rattle.vte_core.specs.Event.{after};
-ghost use Rattle.vte_core.specs.Stream.{events, usual_limit};
+ghost use Rattle.vte_core.specs.Stream.{default_limit, events};
 
 use vte_core::{Params, Parser, Perform, laws};
 
@@ -55,7 +55,7 @@ impl Perform for Bell {
 
 /// Whether a stream rings the bell. What follows the first bell isn't read.
 pub fn rings(stream: &[u8]) -> bool
-    ensures { result ≡ after rung_after false (events usual_limit stream.now) }
+    ensures { result ≡ after rung_after false (events default_limit stream.now) }
 {
     laws::empty_stream();
     let mut bell = Bell { has_rung: false };

@@ -2,7 +2,7 @@
 ghost use Rattle.examples.specs.LastPrinted.{last_after, Watches};
 ghost use Rattle.std.specs.Prelude.{List, None, ℕ, [], ◌++◌, ◌≡◌};
 ghost use Rattle.vte_core.specs.Event.{after};
-ghost use Rattle.vte_core.specs.Stream.{events, usual_limit};
+ghost use Rattle.vte_core.specs.Stream.{default_limit, events};
 
 use vte_core::{Params, Parser, Perform, laws};
 
@@ -82,7 +82,7 @@ impl Watcher {
     /// The character that the stream printed last.
     pub fn last(&self) -> Option<char>
         ensures { (stream : List ℕ) → Watches self.now stream →
-            result ≡ after last_after None (events usual_limit stream) }
+            result ≡ after last_after None (events default_limit stream) }
     {
         self.last.c
     }

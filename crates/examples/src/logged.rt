@@ -1,7 +1,7 @@
 //! The lines of a stream in memory, by `run` of `event_log`, with a sink of our own.
 ghost use Rattle.event_log.specs.Lines.{lines_of};
 ghost use Rattle.std.specs.Prelude.{IfSome, ◌≡◌};
-ghost use Rattle.vte_core.specs.Stream.{events, usual_limit};
+ghost use Rattle.vte_core.specs.Stream.{default_limit, events};
 
 use event_log::{Device, Sink, run};
 use std::alloc::Global;
@@ -16,7 +16,7 @@ struct Text {
 impl Sink for Text {
     ghost use Rattle.examples.specs.Logged.{bytes_unless};
 
-    ghost taken = { λ text. bytes_unless text.refused text.bytes.items };
+    ghost contents = { λ text. bytes_unless text.refused text.bytes.items };
 
     ghost has_failed = { λ text. text.refused };
 
@@ -32,7 +32,7 @@ impl Sink for Text {
 
 /// The lines of a stream's events; none if there is no memory for them.
 pub fn lines(alloc: Global, stream: &[u8]) -> Option<Vec<u8>>
-    ensures { IfSome result (λ lines. lines.items ≡ lines_of (events usual_limit stream.now)) }
+    ensures { IfSome result (λ lines. lines.items ≡ lines_of (events default_limit stream.now)) }
 {
     let mut text = Text {
         bytes: Vec::new(alloc),

@@ -3,7 +3,7 @@ ghost use Rattle.examples.specs.Page.{rung_after};
 ghost use Rattle.std.specs.Prelude.{false, IfOk, ◌≡◌};
 ghost use Rattle.vte.specs.Calls.{calls};
 ghost use Rattle.vte.specs.Handler.{after};
-ghost use Rattle.vte.specs.Stream.{events, usual_limit};
+ghost use Rattle.vte.specs.Stream.{default_limit, events};
 
 use std::alloc::{AllocError, Allocator, Global};
 use std::time::Duration;
@@ -123,7 +123,7 @@ impl Timeout for NeverPending {
 /// `AllocError` if there is no memory for the processor.
 pub fn rings(alloc: Global, stream: &[u8]) -> Result<bool, AllocError>
     ensures { IfOk result
-        (λ rung. rung ≡ after rung_after false (calls (events usual_limit stream.now))) }
+        (λ rung. rung ≡ after rung_after false (calls (events default_limit stream.now))) }
 {
     laws::empty_stream();
     let mut page = ByCall(Page {

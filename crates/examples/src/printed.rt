@@ -3,7 +3,7 @@ ghost use Rattle.examples.specs.Printed.{seen_after};
 ghost use Rattle.std.specs.List.{flat_map};
 ghost use Rattle.std.specs.Prelude.{false, ◌≡◌};
 ghost use Rattle.vte_core.specs.Event.{after};
-ghost use Rattle.vte_core.specs.Stream.{events, usual_limit};
+ghost use Rattle.vte_core.specs.Stream.{default_limit, events};
 
 use vte_core::{Params, Perform, laws};
 
@@ -55,7 +55,7 @@ impl Perform for Printed {
 /// Whether a stream, which comes in chunks, prints a character.
 pub fn prints(chunks: &[&[u8]]) -> bool
     ensures { result
-        ≡ after seen_after false (events usual_limit (flat_map (λ chunk. chunk.now) chunks.now)) }
+        ≡ after seen_after false (events default_limit (flat_map (λ chunk. chunk.now) chunks.now)) }
 {
     let mut printed = Printed { seen: false };
     laws::replay::<Printed, 1024>(&mut printed, chunks);

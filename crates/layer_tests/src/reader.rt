@@ -18,7 +18,7 @@ impl<'a, 'b> ChunkReader<'a, 'b> {
 impl Source for ChunkReader<'_, '_> {
     ghost use Rattle.std.specs.Prelude.{None, false};
 
-    ghost to_come = { λ reader. None };
+    ghost remaining = { λ reader. None };
 
     ghost has_failed = { λ reader. false };
 

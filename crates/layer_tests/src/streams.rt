@@ -1,5 +1,5 @@
-//! Random hostile streams: parts of the grammar, complete, broken off, at a limit, or with a byte
-//! that doesn't belong there.
+//! Random hostile streams: fragments of the grammar, complete, broken off, at a limit, or with a
+//! byte that doesn't belong there.
 ghost use Rattle.std.specs.Prelude.{◌<◌};
 
 use rand_core::Rng;
@@ -119,7 +119,7 @@ impl Streams {
         self.random.next_u32() % bound
     }
 
-    /// Returns a stream of up to 24 parts.
+    /// Returns a stream of up to 24 fragments.
     pub(crate) fn stream(&mut self, alloc: Global) -> Result<Vec<u8>, AllocError> {
         let mut stream = Vec::new(alloc);
         for _ in 0..=self.below(24) {

@@ -4,7 +4,7 @@ use crate::variant::Variant;
 use vte::ansi::cursor_icon::CursorIcon;
 use vte::ansi::{Attr, CursorStyle, HandlerCall, Hyperlink, KeyboardModesApplyBehavior, Rgb};
 
-/// Visits the parts of calls. There is a method for each kind of argument.
+/// Visits the names and arguments of calls. There is a method for each kind of argument.
 pub trait CallVisitor {
     /// A call begins. This is the name of its method.
     fn visit_name(&mut self, name: &'static str);
@@ -44,7 +44,7 @@ pub trait CallVisitor {
     fn visit_variant<T: Variant + Drop>(&mut self, value: T);
 }
 
-/// The arms of a match: of each call its arguments and its method, and what is visited of it.
+/// The arms of a match: each call with its arguments, its method, and what is visited of it.
 macro_rules! visited {
     ($call:ident, $visitor:ident:
     $($variant:ident $(($($argument:ident),+))?: $name:ident $($visit:ident($value:expr))*;)*) => {

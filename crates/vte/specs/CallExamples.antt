@@ -2,7 +2,7 @@
 -- definitions, not with code.
 use Rattle.std.specs.Prelude.{codes, false, List, map, None, Option, pos, Some, true, ℕ, [], ◌++◌, ◌∷◌, ◌≡◌}
 use Rattle.std.specs.List.{range_with_len}
-use Rattle.vte_core.specs.Stream.{events, usual_limit}
+use Rattle.vte_core.specs.Stream.{default_limit, events}
 use Rattle.vte_handler.specs.Call.{Call}
 use Rattle.vte_handler.specs.Call as call
 use Rattle.vte_types.specs.Keyboard.{modes_of_bits}
@@ -44,9 +44,9 @@ abbrev pub makes_one : List ℕ → Call → CallExample
 makes_one stream made = record { stream = stream; made = made ∷ [] }
 
 -- Each example makes exactly its calls.
-abbrev pub AreMade : List CallExample → Type 0
-AreMade examples =
-    map (λ example. calls (events usual_limit example.stream)) examples
+abbrev pub HaveCalls : List CallExample → Type 0
+HaveCalls examples =
+    map (λ example. calls (events default_limit example.stream)) examples
     ≡ map (λ example. example.made) examples
 
 abbrev pub executed_examples : List CallExample
@@ -292,8 +292,8 @@ rendition_examples =
 abbrev pub bell : List ℕ
 bell = 0x07 ∷ []
 
-abbrev pub string_end : List ℕ
-string_end = 0x1b ∷ 0x5c ∷ []
+abbrev pub string_terminator : List ℕ
+string_terminator = 0x1b ∷ 0x5c ∷ []
 
 -- Titles: white space at both ends is trimmed, and pieces that aren't UTF-8 are dropped.
 abbrev pub title_examples : List CallExample
@@ -335,7 +335,7 @@ abbrev pub palette_examples : List CallExample
 palette_examples =
     makes_one (codes "\u{1b}]4;0;?\u{7}") (call.DynamicColorSequence (codes "4;0") 0 bell)
     ∷ makes_one (codes "\u{1b}]4;007;?\u{1b}\\")
-    (call.DynamicColorSequence (codes "4;7") 7 string_end)
+    (call.DynamicColorSequence (codes "4;7") 7 string_terminator)
     ∷ makes (codes "\u{1b}]4;255;?;10;#fff\u{7}")
     (call.DynamicColorSequence (codes "4;255") 255 bell
     ∷ call.SetColor 10 (record { r = 240; g = 240; b = 240 }) ∷ [])
@@ -369,14 +369,15 @@ command_examples =
     (call.SetCursorShape Block ∷ call.SetCursorShape Beam ∷ call.SetCursorShape Underline ∷ [])
     ∷ makes (codes "\u{1b}]50;CursorShape=3\u{7}\u{1b}]50;CursorShape=\u{7}\u{1b}]50\u{7}") []
     ∷ makes_one (codes "\u{1b}]52;s;YQ==\u{7}") (call.ClipboardStore 0x73 (codes "YQ=="))
-    ∷ makes_one (codes "\u{1b}]52;;?\u{1b}\\") (call.ClipboardLoad 0x63 string_end)
+    ∷ makes_one (codes "\u{1b}]52;;?\u{1b}\\") (call.ClipboardLoad 0x63 string_terminator)
     ∷ makes (codes "\u{1b}]52;c\u{7}") []
     ∷ makes (codes "\u{1b}]110\u{7}\u{1b}]111\u{7}\u{1b}]112;x\u{7}")
     (call.ResetColor 256 ∷ call.ResetColor 257 ∷ call.ResetColor 258 ∷ [])
     -- CAN ends a command, and so does ESC
-    ∷ makes_one (codes "\u{1b}]10;?\u{18}") (call.DynamicColorSequence (codes "10") 256 string_end)
+    ∷ makes_one (codes "\u{1b}]10;?\u{18}")
+    (call.DynamicColorSequence (codes "10") 256 string_terminator)
     ∷ makes (codes "\u{1b}]11;?\u{1b}c")
-    (call.DynamicColorSequence (codes "11") 257 string_end ∷ call.ResetState ∷ [])
+    (call.DynamicColorSequence (codes "11") 257 string_terminator ∷ call.ResetState ∷ [])
     ∷ []
 
 -- A text and its colour.
@@ -390,8 +391,8 @@ reads text r g b = record { text = text; color = Some (record { r = r; g = g; b 
 abbrev pub reads_none : List ℕ → ColorExample
 reads_none text = record { text = text; color = None }
 
-abbrev pub AreRead : List ColorExample → Type 0
-AreRead examples =
+abbrev pub HaveColors : List ColorExample → Type 0
+HaveColors examples =
     map (λ example. xparse_color_of example.text) examples ≡ map (λ example. example.color) examples
 
 abbrev pub color_examples : List ColorExample

@@ -1,7 +1,7 @@
 -- The calls of events.
 use Rattle.std.specs.Prelude.{Bool, drop, false, length, List, None, Option, Some, true, ℕ, [], ◌++◌, ◌∷◌}
 use Rattle.vte.specs.CommandCalls.{system_command_calls}
-use Rattle.vte.specs.ControlCalls.{control_calls}
+use Rattle.vte.specs.ControlSequenceCalls.{control_sequence_calls}
 use Rattle.vte.specs.EscapeCalls.{escape_calls, execute_calls}
 use Rattle.vte_core.specs.Event.{CsiDispatch, EscDispatch, Event, Execute, OscDispatch, Print}
 use Rattle.vte_handler.specs.Call.{Call}
@@ -10,7 +10,8 @@ use Rattle.vte_handler.specs.Call as call
 -- A control sequence that is ignored makes no call.
 abbrev pub sequence_calls : Option ℕ → List (List ℕ) → List ℕ → Bool → ℕ → List Call
 sequence_calls last groups intermediates true final = []
-sequence_calls last groups intermediates false final = control_calls last groups intermediates final
+sequence_calls last groups intermediates false final =
+    control_sequence_calls last groups intermediates final
 
 -- The calls of an event, given the last printed character before it.
 abbrev pub calls_of : Option ℕ → Event → List Call

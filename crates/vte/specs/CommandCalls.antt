@@ -137,8 +137,8 @@ reset_calls ((byte ∷ text) ∷ texts) =
     map (λ index. call.ResetColor index) (filter_map decimal_number ((byte ∷ text) ∷ texts))
 
 -- xterm's commands: the first piece selects what the others ask for.
-abbrev pub command_rows : List (List ℕ × (List ℕ → List (List ℕ) → List Call))
-command_rows =
+abbrev pub command_table : List (List ℕ × (List ℕ → List (List ℕ) → List Call))
+command_table =
     (codes "0", λ terminator texts. title_calls texts) ∷
     (codes "2", λ terminator texts. title_calls texts) ∷
     (codes "4", λ terminator texts. palette_calls terminator texts) ∷
@@ -165,4 +165,4 @@ calls_by terminator texts (Some row) = row terminator texts
 abbrev pub system_command_calls : List (List ℕ) → Bool → List Call
 system_command_calls [] bell = []
 system_command_calls (first ∷ texts) bell =
-    calls_by (terminator_of bell) texts (entry_of_word command_rows first)
+    calls_by (terminator_of bell) texts (entry_of_word command_table first)

@@ -9,8 +9,8 @@ use Rattle.vte_types.specs.declared.charset.StandardCharset.{StandardCharset}
 use Rattle.vte_types.specs.declared.charset.StandardCharset.TheVariants.{Ascii, SpecialCharacterAndLineDrawing}
 
 -- The C0 controls that a terminal acts on.
-abbrev pub execute_rows : List (Row (List Call))
-execute_rows =
+abbrev pub execute_table : List (Row (List Call))
+execute_table =
     (0x07, call.Bell ∷ []) ∷  -- BEL
     (0x08, call.Backspace ∷ []) ∷  -- BS
     (0x09, call.PutTab 1 ∷ []) ∷  -- HT
@@ -24,11 +24,11 @@ execute_rows =
     []
 
 abbrev pub execute_calls : ℕ → List Call
-execute_calls byte = unwrap_or (entry_of execute_rows byte) []
+execute_calls byte = unwrap_or (entry_of execute_table byte) []
 
 -- Without intermediates.
-abbrev pub escape_rows : List (Row (List Call))
-escape_rows =
+abbrev pub escape_table : List (Row (List Call))
+escape_table =
     (0x37, call.SaveCursorPosition ∷ []) ∷  -- 7: DECSC
     (0x38, call.RestoreCursorPosition ∷ []) ∷  -- 8: DECRC
     (0x3d, call.SetKeypadApplicationMode ∷ []) ∷  -- =: DECKPAM
@@ -42,8 +42,8 @@ escape_rows =
     []
 
 -- The character set that an intermediate designates (ECMA-35).
-abbrev pub charset_rows : List (Row CharsetIndex)
-charset_rows = (0x28, G0) ∷ (0x29, G1) ∷ (0x2a, G2) ∷ (0x2b, G3) ∷ []
+abbrev pub charset_table : List (Row CharsetIndex)
+charset_table = (0x28, G0) ∷ (0x29, G1) ∷ (0x2a, G2) ∷ (0x2b, G3) ∷ []
 
 abbrev pub standard_charsets : List (Row StandardCharset)
 standard_charsets = (0x30, SpecialCharacterAndLineDrawing) ∷ (0x42, Ascii) ∷ []
@@ -54,8 +54,8 @@ charset_calls _ _ = []
 
 -- `ESC # 8` is DECALN.
 abbrev pub escape_calls : List ℕ → ℕ → List Call
-escape_calls [] byte = unwrap_or (entry_of escape_rows byte) []
+escape_calls [] byte = unwrap_or (entry_of escape_table byte) []
 escape_calls (intermediate ∷ []) byte =
     if intermediate == 0x23 then (if byte == 0x38 then call.Decaln ∷ [] else [])
-    else charset_calls (entry_of charset_rows intermediate) (entry_of standard_charsets byte)
+    else charset_calls (entry_of charset_table intermediate) (entry_of standard_charsets byte)
 escape_calls _ byte = []

@@ -9,7 +9,7 @@ pub mod SelectedValues
 pub mod Split
 pub mod Colors
 pub mod Rendition
-pub mod ControlCalls
+pub mod ControlSequenceCalls
 -- Those of operating system commands.
 pub mod CommandCalls
 -- Those of all events.

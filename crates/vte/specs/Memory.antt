@@ -33,8 +33,10 @@ abbrev pub parser_in_long : {T A : Type 0} → LongProcessor T A → LongParser 
 parser_in_long processor = processor.engine.parser
 
 -- After the stream, the processor can parse `count` more bytes and is refused no memory.
-abbrev pub HasMemory : {T A : Type 0} → LongProcessor T A → (stream : List ℕ) → (count : ℕ) → Type 0
-HasMemory processor = ParserHasMemory (parser_in_long processor) processor.engine.state.text.size
+abbrev pub HasMemoryLong : {T A : Type 0} → LongProcessor T A → (stream : List ℕ) → (count : ℕ)
+    → Type 0
+HasMemoryLong processor =
+    ParserHasMemory (parser_in_long processor) processor.engine.state.text.size
 
 -- Memory that was there (`had`) is still there (`has`), so that later calls can use what was
 -- reserved.
@@ -42,7 +44,7 @@ abbrev pub KeepsMemory : (had has : List ℕ → ℕ → Type 0) → Type 0
 KeepsMemory had has = (stream : List ℕ) (count : ℕ) → had stream count → has stream count
 
 -- The processor has given back its memory: that for data of a command, and that to join a text.
-abbrev pub HasFreedMemory : {T A : Type 0} → LongProcessor T A → Type 0
-HasFreedMemory processor =
+abbrev pub HasFreedMemoryLong : {T A : Type 0} → LongProcessor T A → Type 0
+HasFreedMemoryLong processor =
     (memory_of (parser_in_long processor) ≡ 0)
     × (string_capacity processor.engine.state.text.text ≡ 0)

@@ -20,9 +20,9 @@ pub record Meaning (V W : Type 0) : Type 1 where
   pub step : V → Call → V
   pub timeout : TimeoutMeaning W
 
-abbrev pub meaning_of : {V W : Type 0} → Option ℕ → (V → Call → V) → (W → ℕ → W) → (W → W)
+abbrev pub processor_meaning : {V W : Type 0} → Option ℕ → (V → Call → V) → (W → ℕ → W) → (W → W)
     → (W → Bool → Type 0) → Meaning V W
-meaning_of limit step set clear allows =
+processor_meaning limit step set clear allows =
     record { limit = limit; step = step; timeout = timeout_meaning set clear allows }
 
 -- The timeout of an update, 150 ms.
@@ -30,9 +30,10 @@ abbrev pub update_nanos : ℕ
 update_nanos = 150_000_000
 
 -- The value after the timeout is set this many times.
-abbrev pub set_times : {W : Type 0} → TimeoutMeaning W → ℕ → W → W
-set_times meaning zero value = value
-set_times meaning (suc count) value = set_times meaning count (meaning.set value update_nanos)
+abbrev pub timeout_set_times : {W : Type 0} → TimeoutMeaning W → ℕ → W → W
+timeout_set_times meaning zero value = value
+timeout_set_times meaning (suc count) value =
+    timeout_set_times meaning count (meaning.set value update_nanos)
 
 -- ---- the state between calls
 
@@ -64,7 +65,7 @@ module _ {V W : Type 0} (meaning : Meaning V W) where
   parse state bytes = let begins = begin_count (added meaning.limit state.parsed bytes) in
       record state {
         parsed = state.parsed ++ bytes;
-        timeout = set_times meaning.timeout begins state.timeout;
+        timeout = timeout_set_times meaning.timeout begins state.timeout;
         handler = after meaning.step state.handler (added_calls meaning.limit state.parsed bytes);
       }
 
@@ -127,7 +128,7 @@ module _ {V W : Type 0} (meaning : Meaning V W) where
   extend state bytes =
       let all = state.held ++ bytes in
       let begins = begins_ending_in_last (length bytes) (part_after_last_end all) in
-      record state { held = all; timeout = set_times meaning.timeout begins state.timeout }
+      record state { held = all; timeout = timeout_set_times meaning.timeout begins state.timeout }
 
   -- Bytes at the end of the hold are kept, and those before them parsed. If none are kept, the
   -- update is stopped.

@@ -4,7 +4,7 @@
 use Rattle.std.specs.Prelude.{Bool, drop, false, IfOk, length, List, MatchResult, None, Option, Result, ℕ, [], ⊤, ◌++◌, ◌∷◌, ◌≡◌, ◌≤◌}
 use Rattle.vte_core.specs.Outcome.{SaysLoss}
 use Rattle.vte_core.specs.Parser.{HasRead, Reading}
-use Rattle.vte_core.specs.Stream.{events, outcome, usual_limit}
+use Rattle.vte_core.specs.Stream.{default_limit, events, outcome}
 use Rattle.vte_core.specs.declared.parser.Parser.{Parser}
 use Rattle.vte_handler.specs.Handler.{after}
 use Rattle.vte_handler.specs.Timeout.{AllowsOnly, IsSteady, TimeoutMeaning}
@@ -56,7 +56,7 @@ parser_in processor = processor.engine.parser
 pub record HasParsedAndHolds {T A W : Type 0} (timeout_of : T → W) (processor : Processor T A)
     (parsed held : List ℕ) (timeout : W) : Type 0 where
   pub has_read : HasRead processor.engine.parser parsed
-  pub last : processor.engine.state.preceding_char ≡ last_printed (events usual_limit parsed)
+  pub last : processor.engine.state.preceding_char ≡ last_printed (events default_limit parsed)
   pub timeout_is : timeout_of (timeout_in processor) ≡ timeout
   pub holds : held_in processor ≡ held
 
@@ -103,7 +103,7 @@ pub record HasReplayed {V W : Type 0} (meaning : Meaning V W) (state : State V W
   -- `HoldsWell` stays true.
   pub holds_well : HoldsWellAt meaning state → HoldsWellAt meaning next
   -- If the timeout is steady, the calls lead to no other state.
-  pub only : IsSteady meaning.timeout → HoldsWellAt meaning state → (other : State V W)
+  pub unique_state : IsSteady meaning.timeout → HoldsWellAt meaning state → (other : State V W)
       → TakesSteps meaning state steps other
       → other ≡ next
   -- Processor and handler are at that state.
@@ -150,17 +150,16 @@ pub record Creates {P T W : Type 0} (limit : Option ℕ) (meaning : TimeoutMeani
   pub timeout : IfOk result (λ processor. timeout_in processor ≡ given)
   pub parses_all : IfOk result (λ processor. HasParsedAll (Agrees processor) [])
 
--- `clone`: the copy is where the processor is, if the copy of the timeout has its value. Of
--- each two parameters the second is the copy's.
-pub record IsCopyOfProcessor {T W : Type 0} (is_clone : T → T → Type 0) (timeout_of : T → W)
-    (first second : T) (Agrees CopyAgrees : ProcessorPredicate W) (parser copy : Reading)
-    : Type 0 where
-  pub timeout : is_clone first second
-  pub agrees : timeout_of second ≡ timeout_of first
+-- `clone`: the clone is where the processor is, if the clone of the timeout has its value.
+pub record IsCloneOfProcessor {T W : Type 0} (is_clone : T → T → Type 0) (timeout_of : T → W)
+    (timeout cloned_timeout : T) (Agrees CloneAgrees : ProcessorPredicate W)
+    (parser cloned_parser : Reading) : Type 0 where
+  pub timeout_is : is_clone timeout cloned_timeout
+  pub agrees : timeout_of cloned_timeout ≡ timeout_of timeout
       → (parsed held : List ℕ) (timeout : W) → Agrees parsed held timeout
-      → CopyAgrees parsed held timeout
-  -- `command_lost_data` of the copy answers as that of the processor.
-  pub lost : copy.lost ≡ parser.lost
+      → CloneAgrees parsed held timeout
+  -- `command_lost_data` of the clone answers as that of the processor.
+  pub lost : cloned_parser.lost ≡ parser.lost
 
 -- `sync_bytes_count`
 pub record CountsHeld (held : List ℕ) (result : ℕ) : Type 0 where
@@ -182,12 +181,14 @@ pub record StopsSync {V W : Type 0} (meaning : Meaning V W) (Before After : Proc
   pub holds_well : (state : State V W) → HoldsWellAt meaning (stop meaning state)
 
 -- `advance` and `advance_text`, which read all bytes
-pub record ReadsInTurns {V W : Type 0} (meaning : Meaning V W) (Before After : ProcessorPredicate W)
+pub record AdvancesInTurns {V W : Type 0} (meaning : Meaning V W)
+    (Before After : ProcessorPredicate W)
     (old new : V) (bytes : List ℕ) : Type 0 where
   pub advances : (state : State V W) → IsAt Before old state
       → HasAdvanced meaning state bytes (IsAt After new)
   -- With a timeout that is never pending, all bytes are parsed if nothing was held.
-  pub plain : IsNeverPending meaning.timeout.allows → ParsesAll meaning Before After old new bytes
+  pub if_never_pending : IsNeverPending meaning.timeout.allows
+      → ParsesAll meaning Before After old new bytes
 
 -- `replay`
 pub record Replays {V W : Type 0} (meaning : Meaning V W) (Before After : ProcessorPredicate W)
@@ -195,5 +196,5 @@ pub record Replays {V W : Type 0} (meaning : Meaning V W) (Before After : Proces
   pub replays : (state : State V W) → IsAt Before old state
       → HasReplayed meaning state steps (IsAt After new)
   -- The same of calls of `advance` alone.
-  pub plain : IsNeverPending meaning.timeout.allows → AreAdvances steps
+  pub if_never_pending : IsNeverPending meaning.timeout.allows → AreAdvances steps
       → ParsesAll meaning Before After old new (given_bytes steps)

@@ -49,7 +49,7 @@ module _ {V W : Type 0} (meaning : Meaning V W) where
 
   -- A call that may have been refused memory has read `read` of its bytes. `IsNowAt` is as in
   -- `HasAdvanced`.
-  pub record HasTaken (state : State V W) (bytes : List ℕ) (read : ℕ)
+  pub record HasAdvancedPart (state : State V W) (bytes : List ℕ) (read : ℕ)
       (IsNowAt : State V W → Type 0) : Type 0 where
     -- the state to which it led
     pub next : State V W
@@ -65,7 +65,7 @@ module _ {V W : Type 0} (meaning : Meaning V W) where
   -- The first of these steps, an `Advance`, was refused memory after `read` of its bytes.
   abbrev pub IsFirstRefused : State V W → List Step → ℕ → (State V W → Type 0) → Type 0
   IsFirstRefused state (Advance bytes ∷ steps) read IsNowAt =
-      (read < length bytes.now) × HasTaken state bytes.now read IsNowAt
+      (read < length bytes.now) × HasAdvancedPart state bytes.now read IsNowAt
   IsFirstRefused state _ read IsNowAt = ⊥
 
   -- The steps before the refused one were taken, and led to a state at which it was refused.

@@ -18,8 +18,8 @@ abbrev pub background : NamedColor → Attr
 background color = attr.Background (Named color)
 
 -- Groups of one number.
-abbrev pub attribute_rows : List (Row Attr)
-attribute_rows =
+abbrev pub attribute_table : List (Row Attr)
+attribute_table =
     (0, attr.Reset) ∷
     (1, attr.Bold) ∷
     (2, attr.Dim) ∷
@@ -76,8 +76,8 @@ attribute_rows =
     []
 
 -- Kinds of underline: the number after 4 in a group.
-abbrev pub underline_rows : List (Row Attr)
-underline_rows =
+abbrev pub underline_table : List (Row Attr)
+underline_table =
     (0, attr.CancelUnderline) ∷
     (2, attr.DoubleUnderline) ∷
     (3, attr.Undercurl) ∷
@@ -86,8 +86,8 @@ underline_rows =
     []
 
 -- The attribute that a number makes of a colour.
-abbrev pub color_rows : List (Row (Color → Attr))
-color_rows =
+abbrev pub color_table : List (Row (Color → Attr))
+color_table =
     (38, λ color. attr.Foreground color) ∷ (48, λ color. attr.Background color)
     ∷ (58, λ color. attr.UnderlineColor (Some color)) ∷ []
 
@@ -104,11 +104,11 @@ abbrev pub single_rendition : ℕ → Option (Color → Attr) → List (List ℕ
 single_rendition number (Some with_color) groups =
     let reading = color_reading (first_numbers groups) in
     record { attribute = option_map with_color reading.color; used = reading.used }
-single_rendition number None groups = without_further_groups (entry_of attribute_rows number)
+single_rendition number None groups = without_further_groups (entry_of attribute_table number)
 
 -- A plain underline if the kind has no row, or if several numbers follow the 4.
 abbrev pub underline_of : List ℕ → Attr
-underline_of (kind ∷ []) = unwrap_or (entry_of underline_rows kind) attr.Underline
+underline_of (kind ∷ []) = unwrap_or (entry_of underline_table kind) attr.Underline
 underline_of _ = attr.Underline
 
 -- A group of several numbers.
@@ -121,9 +121,9 @@ joined_rendition number numbers None =
 
 abbrev pub rendition : List ℕ → List (List ℕ) → Rendition
 rendition [] groups = without_further_groups None
-rendition (number ∷ []) groups = single_rendition number (entry_of color_rows number) groups
+rendition (number ∷ []) groups = single_rendition number (entry_of color_table number) groups
 rendition (number ∷ more ∷ numbers) groups =
-    joined_rendition number (more ∷ numbers) (entry_of color_rows number)
+    joined_rendition number (more ∷ numbers) (entry_of color_table number)
 
 -- The attributes of groups, the first of which may already be used.
 abbrev pub attributes_from : ℕ → List (List ℕ) → List Attr

@@ -22,27 +22,29 @@ use Rattle.vte_types.specs.declared.screen.TabulationClearMode.TheVariants as ta
 use Rattle.vte_types.specs.Words.{Row}
 
 -- TBC
-abbrev pub tab_rows : List (Row TabulationClearMode)
-tab_rows = (0, tab.Current) ∷ (3, tab.All) ∷ []
+abbrev pub clear_tabs_table : List (Row TabulationClearMode)
+clear_tabs_table = (0, tab.Current) ∷ (3, tab.All) ∷ []
 
 -- ED; 3 is xterm's
-abbrev pub screen_rows : List (Row ClearMode)
-screen_rows = (0, screen.Below) ∷ (1, screen.Above) ∷ (2, screen.All) ∷ (3, screen.Saved) ∷ []
+abbrev pub clear_screen_table : List (Row ClearMode)
+clear_screen_table = (0, screen.Below) ∷ (1, screen.Above) ∷ (2, screen.All) ∷
+    (3, screen.Saved) ∷ []
 
 -- EL
-abbrev pub line_rows : List (Row LineClearMode)
-line_rows = (0, line.Right) ∷ (1, line.Left) ∷ (2, line.All) ∷ []
+abbrev pub clear_line_table : List (Row LineClearMode)
+clear_line_table = (0, line.Right) ∷ (1, line.Left) ∷ (2, line.All) ∷ []
 
 -- XTMODKEYS
-abbrev pub keys_rows : List (Row ModifyOtherKeys)
-keys_rows = (0, keys.Reset) ∷ (1, keys.EnableExceptWellDefined) ∷ (2, keys.EnableAll) ∷ []
+abbrev pub modify_other_keys_table : List (Row ModifyOtherKeys)
+modify_other_keys_table =
+    (0, keys.Reset) ∷ (1, keys.EnableExceptWellDefined) ∷ (2, keys.EnableAll) ∷ []
 
 -- SCP
-abbrev pub path_rows : List (Row ScpCharPath)
-path_rows = (0, path.Default) ∷ (1, path.LTR) ∷ (2, path.RTL) ∷ []
+abbrev pub char_path_table : List (Row ScpCharPath)
+char_path_table = (0, path.Default) ∷ (1, path.LTR) ∷ (2, path.RTL) ∷ []
 
-abbrev pub scp_update_rows : List (Row ScpUpdateMode)
-scp_update_rows =
+abbrev pub scp_update_table : List (Row ScpUpdateMode)
+scp_update_table =
     (0, update.ImplementationDependant) ∷ (1, update.DataToPresentation)
     ∷ (2, update.PresentationToData) ∷ []
 
@@ -53,8 +55,8 @@ steady_style shape = Some (record { shape = shape; blinking = false })
 abbrev pub blinking_style : CursorShape → Option CursorStyle
 blinking_style shape = Some (record { shape = shape; blinking = true })
 
-abbrev pub cursor_rows : List (Row (Option CursorStyle))
-cursor_rows =
+abbrev pub cursor_style_table : List (Row (Option CursorStyle))
+cursor_style_table =
     (0, None) ∷
     (1, blinking_style Block) ∷
     (2, steady_style Block) ∷

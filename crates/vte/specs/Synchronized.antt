@@ -30,16 +30,16 @@ is_private _ = false
 
 -- How often an event begins an update: once per group of the mode, in a sequence `?h` that isn't
 -- ignored.
-abbrev pub begins_in_event : Event → ℕ
-begins_in_event (CsiDispatch groups intermediates ignore final) =
+abbrev pub begin_count_in_event : Event → ℕ
+begin_count_in_event (CsiDispatch groups intermediates ignore final) =
     if ignore then 0
     else if final == 0x68 && is_private intermediates then update_group_count groups
     else 0
-begins_in_event _ = 0
+begin_count_in_event _ = 0
 
 abbrev pub begin_count : List Event → ℕ
 begin_count [] = 0
-begin_count (event ∷ events) = begins_in_event event + begin_count events
+begin_count (event ∷ events) = begin_count_in_event event + begin_count events
 
 -- ---- in a hold
 

@@ -1,7 +1,7 @@
 -- Examples of synchronized updates, worked out by hand. The prover compares them with the
 -- definitions, not with code.
 use Rattle.std.specs.Prelude.{Bool, codes, false, length, List, map, None, Some, suc, true, zero, ℕ, [], ◌++◌, ◌-◌, ◌∷◌, ◌≡◌}
-use Rattle.vte_core.specs.Stream.{usual_limit}
+use Rattle.vte_core.specs.Stream.{default_limit}
 use Rattle.vte_handler.specs.Call.{Call, Input, SetPrivateMode, TerminalAttribute}
 use Rattle.vte_types.specs.declared.color.Attr.TheVariants.{Bold, Foreground, Underline}
 use Rattle.vte_types.specs.declared.color.Color.TheVariants as color
@@ -18,7 +18,7 @@ use Rattle.vte.specs.declared.ansi.laws.replays.Step.TheVariants.{Advance, StopS
 -- when it is set until it is cleared.
 abbrev pub recording_meaning : Meaning (List Call) Bool
 recording_meaning = record {
-  limit = usual_limit;
+  limit = default_limit;
   step = λ received call. received ++ call ∷ [];
   timeout = pending_meaning;
 }
@@ -57,8 +57,8 @@ example_of steps =
     let state = state_after_steps start steps in
     record { steps = steps; received = state.handler; held = state.held }
 
-abbrev pub AreRight : List UpdateExample → Type 0
-AreRight examples = map (λ example. example_of example.steps) examples ≡ examples
+abbrev pub HaveOutcomes : List UpdateExample → Type 0
+HaveOutcomes examples = map (λ example. example_of example.steps) examples ≡ examples
 
 -- A call of `advance`. Where in memory the bytes are makes no difference.
 abbrev pub advance : List ℕ → Step
@@ -140,8 +140,8 @@ update_examples =
 
 -- An expired update is stopped before new bytes are parsed: the timeout answers "not pending"
 -- although bytes are held.
-abbrev pub expired_example : Type 0
-expired_example =
+abbrev pub ExpiredExample : Type 0
+ExpiredExample =
     let held = state_after_steps start (advance (begin_update ++ codes "x") ∷ []) in
     (turn recording_meaning false held (codes "y")).state.handler
     ≡ update_begun_call ∷ Input 0x78 ∷ update_ended_call ∷ Input 0x79 ∷ []
@@ -156,13 +156,13 @@ pub record ShortExamples : Type 0 where
   pub ends_in_last_two : begins_ending_in_last 2 (codes "\u{1b}[?2026hb") ≡ 1
   pub ends_before_last : begins_ending_in_last 1 (codes "\u{1b}[?2026hb") ≡ 0
   -- after bytes that were parsed, up to the one that begins an update
-  pub prefix : prefix_to_begin usual_limit (codes "\u{1b}[?25;20") (codes "26hb") ≡ codes "26h"
-  pub prefix_without_begin : prefix_to_begin usual_limit [] (codes "ab") ≡ codes "ab"
+  pub prefix : prefix_to_begin default_limit (codes "\u{1b}[?25;20") (codes "26hb") ≡ codes "26h"
+  pub prefix_without_begin : prefix_to_begin default_limit [] (codes "ab") ≡ codes "ab"
   -- the hold takes its last byte, and none after it
   pub fits : turn_kind_of true (max_held - 1) 1 ≡ HoldTurn
   pub full : turn_kind_of true max_held 1 ≡ FullTurn
   -- a stop between `x` and `y`, and two stops inside a character of two bytes
-  pub with_stop : calls_with_stops usual_limit (begin_update ++ codes "xy") 0 (9 ∷ [])
+  pub with_stop : calls_with_stops default_limit (begin_update ++ codes "xy") 0 (9 ∷ [])
       ≡ update_begun_call ∷ Input 0x78 ∷ update_ended_call ∷ Input 0x79 ∷ []
-  pub with_two_stops : calls_with_stops usual_limit (0xc3 ∷ 0xa9 ∷ []) 0 (1 ∷ 1 ∷ [])
+  pub with_two_stops : calls_with_stops default_limit (0xc3 ∷ 0xa9 ∷ []) 0 (1 ∷ 1 ∷ [])
       ≡ update_ended_call ∷ update_ended_call ∷ Input 0xe9 ∷ []

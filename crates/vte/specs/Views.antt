@@ -36,13 +36,19 @@ long_parser_view =
 pub record EngineView (P B T W : Type 0) : Type 1 where
   pub limit : Option ℕ
   pub parser : ParserView P
-  pub text_size_of : B → ℕ
+  pub text_capacity_of : B → ℕ
   pub timeout_of : T → W
 
 abbrev pub engine_view : {P B T W : Type 0} → Option ℕ → ParserView P → (B → ℕ) → (T → W)
     → EngineView P B T W
-engine_view limit parser text_size_of timeout_of =
-    record { limit = limit; parser = parser; text_size_of = text_size_of; timeout_of = timeout_of }
+engine_view limit parser text_capacity_of timeout_of =
+    record {
+      limit = limit;
+      parser = parser;
+      text_capacity_of = text_capacity_of;
+      timeout_of =
+          timeout_of;
+    }
 
 -- The parts of a processor with a limit of its own.
 abbrev pub bounded_engine_view : {N : ℕ} {T A W : Type 0} → (T → W)
@@ -59,7 +65,7 @@ long_engine_view timeout_of = engine_view None long_parser_view (λ text. text.s
 abbrev pub EngineHasMemory : {P B T A W : Type 0} → EngineView P B T W → Engine P B T A
     → (stream : List ℕ) → (count : ℕ) → Type 0
 EngineHasMemory view engine =
-    view.parser.has_memory engine.parser (view.text_size_of engine.state.text)
+    view.parser.has_memory engine.parser (view.text_capacity_of engine.state.text)
 
 -- The engine has parsed bytes, and holds those that follow, with memory to parse them. It knows the
 -- last printed character.

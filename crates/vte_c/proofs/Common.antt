@@ -14,26 +14,26 @@ pub use Rattle.std.specs.List.{All, concat, flat_map}
 pub use Rattle.std.specs.Str.{chars, IsUtf8}
 pub use Rattle.event_log.specs.Plain.{plain_text}
 unfoldable pub use Rattle.event_log.specs.Plain.{plain_text_of}
-pub use Rattle.vte_core.specs.EventBounds.{AreFromOneByte, IsBounded, IsShort}
+pub use Rattle.vte_core.specs.EventBounds.{AreBrief, IsBounded, IsShort}
 pub use Rattle.vte_core.specs.EarlyStop.{breaks, ComesTo, IsStart}
 unfoldable pub use Rattle.vte_core.specs.EarlyStop.{breaks_at, reported_before, resumed_stream}
 pub use Rattle.vte_core.specs.Event.{after, CsiDispatch, EscDispatch, Event, Execute, Hook, OscDispatch, Print, Put, replacement, Unhook}
 pub use Rattle.vte_core.specs.Laws.{OpensSilently}
-pub use Rattle.vte_core.specs.Parameters.{AreGroups, count_of, IsFilled}
+pub use Rattle.vte_core.specs.Parameters.{AreGroups, count_of, IsNonEmpty}
 pub use Rattle.vte_core.specs.Parser.{HasRead}
 pub use Rattle.vte_core.specs.Saved.{HasReadSaved}
 pub use Rattle.vte_core.specs.EarlyStopLaws.{GoesOnFromPositions, ReportsUnits}
-pub use Rattle.vte_core.specs.Stream.{added, usual_limit}
+pub use Rattle.vte_core.specs.Stream.{added, default_limit}
 unfoldable pub use Rattle.vte_core.specs.Stream.{events, open_character}
 pub use Rattle.vte_core.specs.declared.parser.Parser.{Parser}
 pub use Rattle.vte_core.specs.declared.parser.saved.Saved.{Saved}
-pub use Rattle.vte_c.specs.private.Buffers.{AreCharacters, Buffers, buffers_of, buffers_with_event, has_room_for, Holds, is_full, paused_if, resumed, Starts, with_run, with_taken, with_wanted}
-unfoldable pub use Rattle.vte_c.specs.private.Buffers.{with_one, with_record}
-pub use Rattle.vte_c.specs.private.Feeding.{AreFirst, Continues, has_kind, HasEntries, HasFed, HasReadOn, kinds_of, NoRecordStops, ReadsOn, StopsAtNone, with_entries}
-pub use Rattle.vte_c.specs.Record.{all_kinds, count_byte, data_of, DataRun, Entry, entry_data, entry_events, event_kind, events_in, events_of_run, flag_byte, group_bytes, groups_in, InInput, intermediates_in, is_at_limit, max_added, may_have_lost, numbers_in, piece_bytes, pieces_in, record_at, records_from, reported, run_kind, run_record, RunKind, Single, TextRun, two_bytes, with_intermediates, with_loss}
-unfoldable pub use Rattle.vte_c.specs.Record.{event_in, events_of, has, without_loss}
-pub use Rattle.vte_c.specs.private.TextBuffer.{text_buffer_of, text_buffer_with_event, TextBuffer}
-unfoldable pub use Rattle.vte_c.specs.private.TextBuffer.{text_buffer_with}
-pub use Rattle.vte_c.specs.Reported.{AreEncoded, AreReadable, fed_count, HasGiven, HasReported, is_stop, IsRunAt, IsRunOfKind, no_room, NoEventStops, NoKindStops, StopsAtKind}
+pub use Rattle.vte_c.specs.private.Buffers.{AreaHolds, AreCharacters, AreEmptyBuffers, Buffers, buffers_of, buffers_with_event, has_room_for, must_return, paused_if, resumed, with_run, with_run_record, with_taken}
+unfoldable pub use Rattle.vte_c.specs.private.Buffers.{with_record, with_record_alone}
+pub use Rattle.vte_c.specs.private.Feeding.{any_of_kinds, Continues, HasEntries, HasFed, HasReadOn, IsPrefix, kinds_of, NoRecordStops, NoRunStops, ReadsOn, with_entries}
+pub use Rattle.vte_c.specs.Record.{all_kinds, count_byte, data_of, DataRun, Entry, entry_data, entry_events, event_kind, events_in, events_of_run, flag_byte, group_bytes, groups_in, InInput, InputRunKind, intermediates_in, is_at_limit, max_data_per_byte, may_have_lost, numbers_in, osc_kind, piece_bytes, pieces_in, record_at, records_from, reported, run_kind, run_record, Single, TextRun, two_bytes, with_intermediates, with_loss}
+unfoldable pub use Rattle.vte_c.specs.Record.{contains_kind, event_in, events_of, without_loss}
+pub use Rattle.vte_c.specs.private.WrittenText.{text_with_event, written_text_of, WrittenText}
+unfoldable pub use Rattle.vte_c.specs.private.WrittenText.{text_with}
+pub use Rattle.vte_c.specs.Reported.{AreEncoded, AreReadable, AtMostOneFollowsStop, HasGiven, HasReported, is_stop, IsRunAt, IsRunOfKind, no_room, NoEventStops, NoKindStops, read_count}
 pub use Rattle.vte_c.specs.declared.event.VteEvent.{VteEvent}
 pub use Rattle.vte_c.specs.declared.events.EventWriter.{EventWriter}

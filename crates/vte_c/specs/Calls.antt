@@ -2,17 +2,17 @@
 use Rattle.std.specs.Prelude.{drop, false, length, List, take, ℕ, ◌++◌, ◌+◌, ◌<◌, ◌≡◌, ◌≤◌}
 use Rattle.vte_core.specs.Event.{Event}
 use Rattle.vte_core.specs.Saved.{HasReadSaved}
-use Rattle.vte_core.specs.Stream.{added, usual_limit}
+use Rattle.vte_core.specs.Stream.{added, default_limit}
 use Rattle.vte_core.specs.declared.parser.saved.Saved.{Saved}
 use Rattle.vte_c.specs.Record.{data_kind, events_in, kinds_in, min_data, min_events, min_text, text_kind}
-use Rattle.vte_c.specs.Reported.{AreEncoded, fed_count, HasReported, HasStripped, is_stop, no_room, NoEventStops, NoKindStops, StopsAtKind}
+use Rattle.vte_c.specs.Reported.{AreEncoded, AtMostOneFollowsStop, HasReported, HasStripped, is_stop, no_room, NoEventStops, NoKindStops, read_count}
 use Rattle.vte_c.specs.declared.event.VteEvent.{VteEvent}
 use Rattle.vte_c.specs.declared.feed.VteCounts.{VteCounts}
 
 -- The result says that there was less than the minimum room, and nothing was read or written.
 pub record FeedsNothing (parser next : Saved) (old_records records : List VteEvent)
     (old_area area : List ℕ) (counts : VteCounts) (result : ℕ) : Type 0 where
-  pub says : result ≡ no_room
+  pub returns_no_room : result ≡ no_room
   pub events : counts.events ≡ 0
   pub bytes : counts.bytes ≡ 0
   pub same : next ≡ parser
@@ -24,13 +24,13 @@ pub record Feeds (kinds stops : ℕ) (parser next : Saved) (bytes : List ℕ)
     (counts : VteCounts) (result : ℕ) : Type 0 where
   -- With enough room, the result is how many bytes were read.
   pub enough : min_events ≤ length old_events → min_data ≤ length old_area
-      → result ≡ fed_count result
-  pub within : fed_count result ≤ length bytes
+      → result ≡ read_count result
+  pub within : read_count result ≤ length bytes
   -- Whatever was given of these kinds before, what is written now comes next, and nothing else.
   pub exact : (given : List Event) (stream rest : List ℕ) →
       HasReported kinds parser given stream (bytes ++ rest) →
       HasReported kinds next (given ++ events_in counts.events events bytes area) stream
-      (drop (fed_count result) bytes ++ rest)
+      (drop (read_count result) bytes ++ rest)
   -- The records and the data are the encoding of these events, and the counts are theirs.
   pub encoded : (given : List Event) (stream rest : List ℕ) →
       HasReported kinds parser given stream (bytes ++ rest) →
@@ -49,22 +49,22 @@ pub record Feeds (kinds stops : ℕ) (parser next : Saved) (bytes : List ℕ)
       min_events ≤ length old_events → min_data ≤ length old_area →
       NoKindStops stops (kinds_in counts.events events) → 0 < length bytes → 0 < result
   -- If a record among the stops is written, at most one follows it.
-  pub first : (given : List Event) (stream rest : List ℕ) →
+  pub at_most_one_follows : (given : List Event) (stream rest : List ℕ) →
       HasReported kinds parser given stream (bytes ++ rest) →
-      StopsAtKind stops (kinds_in counts.events events)
+      AtMostOneFollowsStop stops (kinds_in counts.events events)
   -- Unless text or data stop, a record among the stops came with the last byte that was read: no
   -- shorter prefix of the bytes adds one.
-  pub until : (stream : List ℕ) → HasReadSaved parser stream →
+  pub stops_at_once : (stream : List ℕ) → HasReadSaved parser stream →
       is_stop kinds stops text_kind ≡ false → is_stop kinds stops data_kind ≡ false →
-      (i : ℕ) → i < fed_count result →
-      NoEventStops (is_stop kinds stops) (added usual_limit stream (take i bytes))
+      (i : ℕ) → i < read_count result →
+      NoEventStops (is_stop kinds stops) (added default_limit stream (take i bytes))
 
 -- `vte_strip`
 pub record Strips (parser next : Saved) (bytes old_text text : List ℕ)
     (written result : ℕ) : Type 0 where
   -- With enough room, the result is how many bytes were read.
-  pub enough : min_text ≤ length old_text → result ≡ fed_count result
-  pub within : fed_count result ≤ length bytes
+  pub enough : min_text ≤ length old_text → result ≡ read_count result
+  pub within : read_count result ≤ length bytes
   -- With enough room, it reads at least one byte, whatever the parser's bytes are.
   pub progress : min_text ≤ length old_text → 0 < length bytes → 0 < result
   -- It stops early only where the text of one more byte may not fit.
@@ -72,7 +72,7 @@ pub record Strips (parser next : Saved) (bytes old_text text : List ℕ)
       min_text ≤ length old_text → result < length bytes → length text < written + 8
   -- Whatever text was written before, the text written now comes next, and nothing else.
   pub exact : (given stream rest : List ℕ) → HasStripped parser given stream (bytes ++ rest) →
-      HasStripped next (given ++ take written text) stream (drop (fed_count result) bytes ++ rest)
+      HasStripped next (given ++ take written text) stream (drop (read_count result) bytes ++ rest)
   -- Whatever the parser's bytes are, what was written is in the buffer.
   pub fits : written ≤ length text
   -- With less than the minimum room the result says so, and nothing is read or written.

@@ -50,8 +50,8 @@ may_have_lost _ = false
 
 -- The maximum number of data bytes of what one byte of a stream adds: a command, each of whose 16
 -- pieces has its length before it, and a character after it.
-abbrev pub max_added : ℕ
-max_added = 1024 + 4 * max_pieces + 4
+abbrev pub max_data_per_byte : ℕ
+max_data_per_byte = 1024 + 4 * max_pieces + 4
 
 -- The minimum room, for at least what two bytes of a stream add: how many records the caller's
 -- buffer must have, how many data bytes its area, and how many bytes the buffer of `vte_strip`.
@@ -122,26 +122,26 @@ second_kept (a ∷ b ∷ more) = b
 second_kept _ = 0
 
 abbrev pub with_intermediates : VteEvent → List ℕ → VteEvent
-with_intermediates event intermediates = record event {
+with_intermediates vte_event intermediates = record vte_event {
   intermediate_count = kept_count intermediates;
   first_intermediate = first_kept intermediates;
   second_intermediate = second_kept intermediates;
 }
 
 abbrev pub with_flag : VteEvent → Bool → VteEvent
-with_flag event flag = record event { flag = flag_byte flag }
+with_flag vte_event flag = record vte_event { flag = flag_byte flag }
 
 -- The second bit of a command's flag says that it lost data bytes.
 abbrev pub with_loss : VteEvent → VteEvent
-with_loss event = record event { flag = event.flag % 2 + 2 }
+with_loss vte_event = record vte_event { flag = vte_event.flag % 2 + 2 }
 
 -- A record without that bit, of which no clause speaks.
 unfoldable pub without_loss : VteEvent → VteEvent
-without_loss event =
-    if event.kind == osc_kind then record event { flag = event.flag % 2 } else event
+without_loss vte_event =
+    if vte_event.kind == osc_kind then record vte_event { flag = vte_event.flag % 2 } else vte_event
 
 abbrev pub with_count : VteEvent → ℕ → VteEvent
-with_count event count = record event { count = count_byte count }
+with_count vte_event count = record vte_event { count = count_byte count }
 
 abbrev pub sequence_record : ℕ → List (List ℕ) → List ℕ → Bool → ℕ → VteEvent
 sequence_record kind groups intermediates ignore final =
@@ -168,27 +168,27 @@ abbrev pub event_kind : Event → ℕ
 event_kind event = (record_of event).kind
 
 -- A set of kinds has a bit for each.
-unfoldable pub has : ℕ → ℕ → Bool
-has kinds kind = (kinds / 2 ^ (kind % 32)) % 2 == 1
+unfoldable pub contains_kind : ℕ → ℕ → Bool
+contains_kind kinds kind = (kinds / 2 ^ (kind % 32)) % 2 == 1
 
 abbrev pub all_kinds : ℕ
 all_kinds = 255
 
 -- The events of these kinds.
 abbrev pub reported : ℕ → List Event → List Event
-reported kinds events = filter (λ event. has kinds (event_kind event)) events
+reported kinds events = filter (λ event. contains_kind kinds (event_kind event)) events
 
 -- What a run of bytes is: text, or data of a device control string.
-pub data RunKind : Type 0 where
-  TextRun : RunKind
-  DataRun : RunKind
+pub data InputRunKind : Type 0 where
+  TextRun : InputRunKind
+  DataRun : InputRunKind
 
-abbrev pub run_kind : RunKind → ℕ
+abbrev pub run_kind : InputRunKind → ℕ
 run_kind TextRun = text_kind
 run_kind DataRun = data_kind
 
 -- The events of a run: of a text each character is printed, of data each byte is put.
-abbrev pub events_of_run : RunKind → List ℕ → List Event
+abbrev pub events_of_run : InputRunKind → List ℕ → List Event
 events_of_run TextRun bytes = map Print (chars bytes)
 events_of_run DataRun bytes = map Put bytes
 
@@ -199,7 +199,7 @@ run_record kind start size = record (blank_record kind size) { start = start }
 -- What a record is for: an event, with its data in the area, or a run in the input.
 pub data Entry : Type 0 where
   Single : Event → Entry
-  InInput : RunKind → ℕ → ℕ → Entry
+  InInput : InputRunKind → ℕ → ℕ → Entry
 
 abbrev pub entry_data : Entry → List ℕ
 entry_data (Single event) = data_of event
@@ -241,40 +241,41 @@ pieces_in (suc n) (a ∷ b ∷ c ∷ d ∷ area) =
 pieces_in _ _ = []
 
 abbrev pub intermediates_in : VteEvent → List ℕ
-intermediates_in event =
-    take event.intermediate_count (event.first_intermediate ∷ event.second_intermediate ∷ [])
+intermediates_in vte_event =
+    take vte_event.intermediate_count
+    (vte_event.first_intermediate ∷ vte_event.second_intermediate ∷ [])
 
 -- The event that a record represents, with its data in the area, if it is no run.
 unfoldable pub event_in : List ℕ → VteEvent → Event
-event_in area event =
-    let later = drop event.start area in
-    let groups = groups_in event.count later in
-    if event.kind == execute_kind then Execute event.code
-    else if event.kind == hook_kind
-    then Hook groups (intermediates_in event) (event.flag == 1) event.code
-    else if event.kind == unhook_kind then Unhook
-    else if event.kind == osc_kind
-    then OscDispatch (pieces_in event.count later) (event.flag % 2 == 1)
-    else if event.kind == csi_kind
-    then CsiDispatch groups (intermediates_in event) (event.flag == 1) event.code
-    else EscDispatch (intermediates_in event) (event.flag == 1) event.code
+event_in area vte_event =
+    let later = drop vte_event.start area in
+    let groups = groups_in vte_event.count later in
+    if vte_event.kind == execute_kind then Execute vte_event.code
+    else if vte_event.kind == hook_kind
+    then Hook groups (intermediates_in vte_event) (vte_event.flag == 1) vte_event.code
+    else if vte_event.kind == unhook_kind then Unhook
+    else if vte_event.kind == osc_kind
+    then OscDispatch (pieces_in vte_event.count later) (vte_event.flag % 2 == 1)
+    else if vte_event.kind == csi_kind
+    then CsiDispatch groups (intermediates_in vte_event) (vte_event.flag == 1) vte_event.code
+    else EscDispatch (intermediates_in vte_event) (vte_event.flag == 1) vte_event.code
 
 -- The bytes of a run that a record represents: in the area if it has the flag, in the input
 -- otherwise.
 abbrev pub run_in : List ℕ → List ℕ → VteEvent → List ℕ
-run_in input area event =
-    take event.code (drop event.start (if event.flag == 1 then area else input))
+run_in input area vte_event =
+    take vte_event.code (drop vte_event.start (if vte_event.flag == 1 then area else input))
 
 -- The events that a record represents.
 unfoldable pub events_of : List ℕ → List ℕ → VteEvent → List Event
-events_of input area event =
-    if event.kind == text_kind then events_of_run TextRun (run_in input area event)
-    else if event.kind == data_kind then events_of_run DataRun (run_in input area event)
-    else event_in area event ∷ []
+events_of input area vte_event =
+    if vte_event.kind == text_kind then events_of_run TextRun (run_in input area vte_event)
+    else if vte_event.kind == data_kind then events_of_run DataRun (run_in input area vte_event)
+    else event_in area vte_event ∷ []
 
 -- The kinds of the first `count` records.
 abbrev pub kinds_in : ℕ → List VteEvent → List ℕ
-kinds_in count records = map (λ event. event.kind) (take count records)
+kinds_in count records = map (λ vte_event. vte_event.kind) (take count records)
 
 -- The events of the first `count` records.
 abbrev pub events_in : ℕ → List VteEvent → List ℕ → List ℕ → List Event

@@ -6,22 +6,22 @@ use Rattle.event_log.specs.Plain.{plain_text}
 use Rattle.vte_core.specs.EventBounds.{IsBounded}
 use Rattle.vte_core.specs.Event.{Event}
 use Rattle.vte_core.specs.Saved.{HasReadSaved}
-use Rattle.vte_core.specs.Stream.{added, events, usual_limit}
+use Rattle.vte_core.specs.Stream.{added, default_limit, events}
 use Rattle.vte_core.specs.Text.{HasNoControls}
 use Rattle.vte_core.specs.declared.parser.saved.Saved.{Saved}
-use Rattle.vte_c.specs.Record.{DataRun, Entry, entry_data, entry_events, event_kind, has, InInput, records_from, reported, RunKind, Single, TextRun, without_loss}
+use Rattle.vte_c.specs.Record.{contains_kind, DataRun, Entry, entry_data, entry_events, event_kind, InInput, InputRunKind, records_from, reported, Single, TextRun, without_loss}
 use Rattle.vte_c.specs.declared.event.VteEvent.{VteEvent}
 
 -- The parser has read the stream except for the unread bytes at its end. What was given of its
 -- events, followed by what is given of those that the unread and more bytes add, is what is given
 -- of the events of all bytes.
-pub record HasGiven {A : Type 0} (of : List Event → List A) (parser : Saved) (given : List A)
+pub record HasGiven {A : Type 0} (report_of : List Event → List A) (parser : Saved) (given : List A)
     (stream unread : List ℕ) : Type 0 where
-  pub since : List ℕ
-  pub reads : HasReadSaved parser since
+  pub already_read : List ℕ
+  pub reads : HasReadSaved parser already_read
   pub goes_on : (more : List ℕ) →
-      given ++ of (added usual_limit since (unread ++ more))
-      ≡ of (events usual_limit (stream ++ more))
+      given ++ report_of (added default_limit already_read (unread ++ more))
+      ≡ report_of (events default_limit (stream ++ more))
 
 -- The events of these kinds were reported.
 abbrev pub HasReported : ℕ → Saved → List Event → List ℕ → List ℕ → Type 0
@@ -36,12 +36,12 @@ abbrev pub no_room : ℕ
 no_room = 2 ^ 64 - 1
 
 -- How many bytes a call with this result has read.
-abbrev pub fed_count : ℕ → ℕ
-fed_count result = if result == no_room then 0 else result
+abbrev pub read_count : ℕ → ℕ
+read_count result = if result == no_room then 0 else result
 
 -- Events of a kind stop a call if they are reported and among the stops.
 abbrev pub is_stop : ℕ → ℕ → ℕ → Bool
-is_stop kinds stops kind = has kinds kind && has stops kind
+is_stop kinds stops kind = contains_kind kinds kind && contains_kind stops kind
 
 -- No event has a kind that stops.
 abbrev pub NoEventStops : (ℕ → Bool) → List Event → Type 0
@@ -51,10 +51,10 @@ NoEventStops stops (event ∷ events) = (stops (event_kind event) ≡ false) × 
 -- None of these is among the stops.
 abbrev pub NoKindStops : ℕ → List ℕ → Type 0
 NoKindStops stops [] = ⊤
-NoKindStops stops (kind ∷ kinds) = (has stops kind ≡ false) × NoKindStops stops kinds
+NoKindStops stops (kind ∷ kinds) = (contains_kind stops kind ≡ false) × NoKindStops stops kinds
 
 -- A call stops after the first record that is among the stops: at most one follows it.
-pub record StopsAtKind (stops : ℕ) (kinds : List ℕ) : Type 0 where
+pub record AtMostOneFollowsStop (stops : ℕ) (kinds : List ℕ) : Type 0 where
   pub before : List ℕ
   pub last : List ℕ
   pub parts : kinds ≡ before ++ last
@@ -63,20 +63,21 @@ pub record StopsAtKind (stops : ℕ) (kinds : List ℕ) : Type 0 where
 
 -- A text is well-formed characters, none of them a control. Data may be any bytes: its events are
 -- these.
-abbrev pub IsRunOfKind : RunKind → List ℕ → Type 0
+abbrev pub IsRunOfKind : InputRunKind → List ℕ → Type 0
 IsRunOfKind TextRun bytes = IsUtf8 bytes × HasNoControls bytes
 IsRunOfKind DataRun bytes = ⊤
 
 -- A part of the input that is a run, of one byte or more.
-pub record IsRunAt (input : List ℕ) (run : RunKind) (start size : ℕ) : Type 0 where
+pub record IsRunAt (input : List ℕ) (run : InputRunKind) (start size : ℕ) : Type 0 where
   pub within : start + size ≤ length input
   pub some : 0 < size
-  pub is : IsRunOfKind run (take size (drop start input))
+  pub is_of_kind : IsRunOfKind run (take size (drop start input))
 
 -- The entries can be read: an event is within the limits, and what is in the input is a run.
 abbrev pub AreReadable : List ℕ → List Entry → Type 0
 AreReadable input [] = ⊤
-AreReadable input (Single event ∷ entries) = IsBounded usual_limit event × AreReadable input entries
+AreReadable input (Single event ∷ entries) = IsBounded default_limit event
+    × AreReadable input entries
 AreReadable input (InInput run start size ∷ entries) =
     IsRunAt input run start size × AreReadable input entries
 

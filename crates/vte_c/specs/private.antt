@@ -1,4 +1,4 @@
 -- What private functions promise each other. Callers need none of it. In reading order.
 pub mod Buffers
-pub mod TextBuffer
+pub mod WrittenText
 pub mod Feeding

@@ -1,6 +1,6 @@
 //! Events as records of a fixed size.
 ghost use Rattle.std.specs.Prelude.{◌≡◌};
-ghost use Rattle.vte_c.specs.Record.{blank_record, count_byte, has, run_record, with_count, with_flag, with_intermediates, with_loss};
+ghost use Rattle.vte_c.specs.Record.{blank_record, contains_kind, count_byte, run_record, with_count, with_flag, with_intermediates, with_loss};
 
 /// The kinds of events, by the numbers of `vte.h`.
 pub const TEXT: u8 = 0;
@@ -20,8 +20,8 @@ pub const CSI: u8 = 6;
 pub const ESC: u8 = 7;
 
 /// An event, or the events of a text or of data. Groups of numbers and pieces of an operating
-/// system command are in the data area, from `start` on; a text or data is there if `flag` is 1,
-/// and otherwise in the input of the call.
+/// system command are in the data area, from `start` on. A text or data is in the data area if
+/// `flag` is 1, and otherwise in the input of the call.
 #[repr(C)]
 #[derive(Clone, Copy)]
 pub struct VteEvent {
@@ -119,9 +119,9 @@ impl VteEvent {
 
 /// Returns whether a kind is in a set of kinds.
 #[inline(always)]
-#[tactic(auto, unfolding(crate::specs::Record::has))]
-pub fn has(kinds: u32, kind: u8) -> bool
-    ensures { result ≡ has kinds kind }
+#[tactic(auto, unfolding(crate::specs::Record::contains_kind))]
+pub fn contains_kind(kinds: u32, kind: u8) -> bool
+    ensures { result ≡ contains_kind kinds kind }
 {
     (kinds >> (kind % 32)) % 2 == 1
 }

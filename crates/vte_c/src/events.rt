@@ -3,28 +3,28 @@ ghost use Rattle.std.specs.Prelude.{false, if◌then◌else◌, length, List, ma
 ghost use Rattle.std.specs.List.{flat_map};
 ghost use Rattle.vte_core.specs.Event.{OscDispatch, Print};
 ghost use Rattle.vte_core.specs.AdvanceToRun.{run_bytes};
-ghost use Rattle.vte_c.specs.Record.{data_of, group_bytes, has, is_at_limit, max_added, min_data, min_events, record_of, sequence_record};
+ghost use Rattle.vte_c.specs.Record.{contains_kind, data_of, group_bytes, is_at_limit, max_data_per_byte, min_data, min_events, record_of, sequence_record};
 
 mod data;
 mod pause;
 
-use crate::event::{self, VteEvent, has};
+use crate::event::{self, VteEvent, contains_kind};
 use vte_core::{Params, Perform, Run, Taken};
 
-/// The most pieces of a command.
+/// How many pieces of a command the parser keeps.
 const MAX_PIECES: usize = 16;
 
-/// The most bytes of all pieces of a command, which is the limit of the parser.
+/// How many data bytes of a command the parser keeps.
 const MAX_PIECE_BYTES: usize = 1024;
 
 /// The most data bytes of one event: of a command, each piece after four bytes with its length.
-pub(crate) const MAX_DATA: usize = MAX_PIECE_BYTES + 4 * MAX_PIECES;
+pub(crate) const MAX_EVENT_DATA: usize = MAX_PIECE_BYTES + 4 * MAX_PIECES;
 
 /// The most data bytes of what one byte of a stream adds: an event, and a character after it.
-const MAX_ADDED: usize = MAX_DATA + 4;
+const MAX_DATA_PER_BYTE: usize = MAX_EVENT_DATA + 4;
 
-/// Returns whether a command has the most pieces, or with their lengths the most data bytes that a
-/// parser with a limit keeps. Any other has lost no data.
+/// Returns whether a command has 16 pieces, or at least 1,024 bytes with the lengths of its pieces.
+/// Only such a command may have lost data.
 fn is_at_limit(pieces: usize, size: usize) -> bool
     ensures { result ≡ is_at_limit pieces size }
 {
@@ -41,13 +41,13 @@ fn bytes_of_one(number: u16) -> [u8; 3]
 /// Writes events of some kinds into the caller's buffers, each as a whole or not at all.
 ///
 /// It is terminated if there is no room for what one byte may add: two events, and the data of one
-/// and of a character. It also is after a command that may have lost data, so that the parser can
-/// be asked whether it has, and after an event of the kinds that stop.
+/// and of a character. It is also terminated after an event of the kinds that stop, and after a
+/// command that may have lost data, so that the parser can be asked whether it has.
 #[derive(Drop)]
 pub(crate) struct EventWriter<'a> {
     events: &'a mut [VteEvent],
     area: &'a mut [u8],
-    // for how many data bytes there is room, whose offsets 32 bits hold
+    // how many data bytes there is room for, at offsets of 32 bits
     size: usize,
     // how many events and data bytes were written
     count: usize,
@@ -55,21 +55,22 @@ pub(crate) struct EventWriter<'a> {
     // the kinds to write, those after which to stop, and whether one of these was written
     kinds: u32,
     stops: u32,
-    met: bool,
-    // whether a command came of which the parser wasn't asked yet, and the index of its record
+    has_stopped: bool,
+    // whether a command came about which the parser wasn't asked yet, and the index of its record
     paused: bool,
-    command: usize,
-    // from how many events on the buffers are full: from none on once one that stops was written,
+    command_index: usize,
+    // the number of events at which the buffers are full: 0 once an event that stops was written,
     // in a pause, and if the area has little room left
-    full_count: usize,
+    full_at: usize,
     ghost size_limit: { size ≡ min (length area.now) (2 ^ 32 - 1) },
     ghost used_limit: { used ≤ size },
-    ghost count_limit: { full_count
-        ≡ (if met || paused || nat_lt (size - used) max_added then 0 else length events.now - 1) },
+    ghost count_limit: { full_at
+        ≡ (if has_stopped || paused || nat_lt
+        (size - used) max_data_per_byte then 0 else length events.now - 1) },
 }
 
 impl<'a> EventWriter<'a> {
-    ghost use Rattle.vte_c.specs.private.Buffers.{AreCharacters, Holds, Buffers, Starts, is_full, buffers_of, buffers_with_event, with_one, with_record, with_reported, with_run};
+    ghost use Rattle.vte_c.specs.private.Buffers.{AreCharacters, AreaHolds, Buffers, AreEmptyBuffers, must_return, buffers_of, buffers_with_event, with_record_alone, with_record, with_reported, with_run};
 
     /// Creates a performer that has written nothing, and writes into these buffers.
     pub(crate) fn new(
@@ -78,15 +79,15 @@ impl<'a> EventWriter<'a> {
         kinds: u32,
         stops: u32,
     ) -> Self
-        requires most { min_events ≤ length events.old }
-        requires size { min_data ≤ length area.old }
-        ensures starts { Starts (buffers_of result) }
+        requires enough_events { min_events ≤ length events.old }
+        requires enough_data { min_data ≤ length area.old }
+        ensures are_empty { AreEmptyBuffers (buffers_of result) }
         ensures kinds { (buffers_of result).kinds ≡ kinds }
         ensures stops { (buffers_of result).stops ≡ stops }
         ensures same_events { result.events.ghost_name ≡ events.entry.ghost_name }
         ensures same_area { result.area.ghost_name ≡ area.entry.ghost_name }
     {
-        let full_count = events.len() - 1;
+        let full_at = events.len() - 1;
         let size = area.len().min(u32::MAX as usize);
         EventWriter {
             events,
@@ -96,26 +97,26 @@ impl<'a> EventWriter<'a> {
             used: 0,
             kinds,
             stops,
-            met: false,
+            has_stopped: false,
             paused: false,
-            command: 0,
-            full_count,
+            command_index: 0,
+            full_at,
         }
     }
 
     /// Returns whether events of a kind are written.
     #[inline(always)]
     fn writes(&self, kind: u8) -> bool
-        ensures { result ≡ has (buffers_of self.now).kinds kind }
+        ensures { result ≡ contains_kind (buffers_of self.now).kinds kind }
     {
-        has(self.kinds, kind)
+        contains_kind(self.kinds, kind)
     }
 
     /// Returns whether there may be no room for what one byte adds, or a stop or a pause has come.
-    pub(crate) fn is_full(&self) -> bool
-        ensures { result ≡ is_full (buffers_of self.now) }
+    pub(crate) fn must_return(&self) -> bool
+        ensures { result ≡ must_return (buffers_of self.now) }
     {
-        self.count >= self.full_count
+        self.count >= self.full_at
     }
 
     /// Returns how many events were written.
@@ -134,24 +135,24 @@ impl<'a> EventWriter<'a> {
 
     /// Writes a record, if there is room for it.
     #[inline(always)]
-    #[tactic(auto, unfolding(crate::specs::private::Buffers::with_one))]
+    #[tactic(auto, unfolding(crate::specs::private::Buffers::with_record_alone))]
     fn add_record(&mut self, event: VteEvent)
-        ensures { buffers_of self.new ≡ with_one (buffers_of self.old) event }
+        ensures { buffers_of self.new ≡ with_record_alone (buffers_of self.old) event }
     {
         let count = self.count;
         if count < self.events.len() {
             self.events[count] = event;
             self.count = count + 1;
-            if has(self.stops, event.kind) {
-                self.met = true;
-                self.full_count = 0;
+            if contains_kind(self.stops, event.kind) {
+                self.has_stopped = true;
+                self.full_at = 0;
             }
         }
     }
 
     /// Writes an event without data.
     #[inline(always)]
-    #[tactic(auto, unfolding(crate::specs::private::Buffers::with_one, crate::specs::private::Buffers::with_record))]
+    #[tactic(auto, unfolding(crate::specs::private::Buffers::with_record_alone, crate::specs::private::Buffers::with_record))]
     fn add_without_data(&mut self, event: VteEvent)
         ensures { buffers_of self.new ≡ with_reported (buffers_of self.old) event [] }
     {
@@ -172,8 +173,8 @@ impl<'a> EventWriter<'a> {
         self.add_written(event, end);
     }
 
-    /// Writes a run that is in the input, where the parser returned it for the bytes from an offset
-    /// on. Without a run it goes on after a pause, in which the parser returns none.
+    /// Writes a run that is in the input. The parser returned it for the bytes from an offset on.
+    /// Without a run it goes on after a pause, in which the parser returns none.
     #[inline(always)]
     pub(crate) fn add_run(&mut self, from: usize, run: Run<'_>, lost_data: bool)
         requires { from + run.start + length (run_bytes run) < 2 ^ 32 }
@@ -279,13 +280,13 @@ impl<'a> EventWriter<'a> {
             (λ piece. piece.now) pieces.now) bell_terminated) }
     {
         if self.writes(event::OSC) {
-            let (command, start) = (self.count, self.used);
+            let (command_index, start) = (self.count, self.used);
             let end = self.write_pieces(pieces);
             let event = VteEvent::new(event::OSC, 0)
                 .with_flag(bell_terminated)
                 .with_count(pieces.len());
             self.add_written(event, end);
-            self.pause_if(is_at_limit(pieces.len(), end - start), command);
+            self.pause_if(is_at_limit(pieces.len(), end - start), command_index);
         }
     }
 
@@ -294,14 +295,14 @@ impl<'a> EventWriter<'a> {
     #[tactic(auto, unfolding(crate::specs::private::Buffers::with_record))]
     fn add_written(&mut self, event: VteEvent, end: usize)
         requires { self.old.used ≤ end }
-        ensures { (buffers : Buffers) (text : List ℕ) → Holds buffers self.old end text →
+        ensures { (buffers : Buffers) (text : List ℕ) → AreaHolds buffers self.old end text →
             buffers_of self.new ≡ with_record buffers event text }
     {
         if end <= self.size && self.count < self.events.len() {
             let start = self.used as u32;
             self.used = end;
-            if self.size - self.used < MAX_ADDED {
-                self.full_count = 0;
+            if self.size - self.used < MAX_DATA_PER_BYTE {
+                self.full_at = 0;
             }
             self.add_record(VteEvent { start, ..event });
         }
@@ -309,7 +310,7 @@ impl<'a> EventWriter<'a> {
 }
 
 impl Perform for EventWriter<'_> {
-    ghost use Rattle.vte_c.specs.private.Buffers.{Buffers, is_full, buffers_of, buffers_with_event};
+    ghost use Rattle.vte_c.specs.private.Buffers.{Buffers, must_return, buffers_of, buffers_with_event};
 
     ghost Value = { Buffers };
 
@@ -317,7 +318,7 @@ impl Perform for EventWriter<'_> {
 
     ghost step = { buffers_with_event };
 
-    ghost is_terminated = { is_full };
+    ghost is_terminated = { must_return };
 
     /// Writes a character that isn't in the input as it is.
     fn print(&mut self, c: char) {
@@ -367,6 +368,6 @@ impl Perform for EventWriter<'_> {
     }
 
     fn terminated(&self) -> bool {
-        self.is_full()
+        self.must_return()
     }
 }

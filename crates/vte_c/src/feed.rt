@@ -3,25 +3,25 @@ ghost use Rattle.std.specs.Prelude.{false, length, List, take, ℕ, ◌++◌, �
 ghost use Rattle.vte_core.specs.Parser.{HasRead};
 ghost use Rattle.vte_core.specs.Event.{Event};
 ghost use Rattle.vte_core.specs.Saved.{HasReadSaved};
-ghost use Rattle.vte_core.specs.Stream.{added, usual_limit};
+ghost use Rattle.vte_core.specs.Stream.{added, default_limit};
 ghost use Rattle.vte_c.specs.Calls.{Feeds};
-ghost use Rattle.vte_c.specs.private.Buffers.{buffers_of, is_full, Starts};
-ghost use Rattle.vte_c.specs.private.Feeding.{HasFed, HasReadOn, NoEventStopsIn, NoRecordStops, StopsAtNone};
+ghost use Rattle.vte_c.specs.private.Buffers.{AreEmptyBuffers, buffers_of, must_return};
+ghost use Rattle.vte_c.specs.private.Feeding.{HasFed, HasReadOn, NoEventStopsIn, NoRecordStops, NoRunStops};
 ghost use Rattle.vte_c.specs.Reported.{HasReported};
 
 use crate::event::VteEvent;
 use crate::events::EventWriter;
 use vte_core::{Parser, Saved, laws};
 
-/// For how many events there must be room: what two bytes add.
+/// The number of events for which there must be room: what two bytes add.
 pub(crate) const MIN_EVENTS: usize = 4;
 
-/// For how many data bytes there must be room: more than two bytes add. A call then reads at least
-/// one, for which 3 events and 1,095 bytes would do: first comes U+FFFD for a character that this
-/// byte breaks, and then there must be room for what one byte may add.
+/// The number of data bytes for which there must be room: more than two bytes add. A call then
+/// reads at least one byte, for which 3 events and 1,095 bytes would do: U+FFFD comes first for a
+/// character that this byte breaks, and then there must be room for what one byte may add.
 pub(crate) const MIN_DATA: usize = 2112;
 
-/// What a call with less room returns, which is no count of bytes.
+/// The return value of a call with less room, which is no count of bytes.
 pub(crate) const NO_ROOM: usize = usize::MAX;
 
 /// How many events, and how many bytes of the data area (`data` in vte.h), a call wrote.
@@ -68,12 +68,12 @@ pub(crate) fn feed(
 
 /// Reads bytes into empty buffers.
 fn read_into(saved: &mut Saved, bytes: &[u8], writer: &mut EventWriter<'_>) -> usize
-    requires starts { Starts (buffers_of writer.old) }
-    requires small { length bytes.now < 2 ^ 32 }
+    requires are_empty { AreEmptyBuffers (buffers_of writer.old) }
+    requires fits_32_bits { length bytes.now < 2 ^ 32 }
     ensures within { result ≤ length bytes.now }
     ensures stops { (stream : List ℕ) → HasReadSaved saved.old stream →
-        StopsAtNone (buffers_of writer.old) → (i : ℕ) → i < result →
-        NoEventStopsIn (buffers_of writer.old) (added usual_limit stream (take i bytes.now)) }
+        NoRunStops (buffers_of writer.old) → (i : ℕ) → i < result →
+        NoEventStopsIn (buffers_of writer.old) (added default_limit stream (take i bytes.now)) }
     ensures feeds { (given : List Event) (stream rest : List ℕ) →
         HasReported (buffers_of writer.old).kinds saved.old given stream (bytes.now ++ rest) →
         HasFed writer.old writer.new saved.new given stream bytes.now rest result }
@@ -87,18 +87,19 @@ fn read_into(saved: &mut Saved, bytes: &[u8], writer: &mut EventWriter<'_>) -> u
 
 /// Reads bytes until they end or the buffers are full.
 fn read_all(parser: &mut Parser<1024>, bytes: &[u8], writer: &mut EventWriter<'_>) -> usize
-    requires starts { Starts (buffers_of writer.old) }
-    requires small { length bytes.now < 2 ^ 32 }
+    requires are_empty { AreEmptyBuffers (buffers_of writer.old) }
+    requires fits_32_bits { length bytes.now < 2 ^ 32 }
     ensures within { result ≤ length bytes.now }
-    ensures reads_on { (since : List ℕ) → HasRead parser.old since →
-        HasReadOn (buffers_of writer.old) (buffers_of writer.new) parser.new since bytes.now 0
+    ensures reads_on { (already_read : List ℕ) → HasRead parser.old already_read →
+        HasReadOn (buffers_of writer.old)
+        (buffers_of writer.new) parser.new already_read bytes.now 0
         result }
-    ensures progress { (since : List ℕ) → HasRead parser.old since →
+    ensures progress { (already_read : List ℕ) → HasRead parser.old already_read →
         NoRecordStops (buffers_of writer.old).stops (buffers_of writer.new).events →
         0 < length bytes.now → 0 < result }
 {
     let mut position = 0;
-    while position < bytes.len() && !writer.is_full() {
+    while position < bytes.len() && !writer.must_return() {
         let read = read_more(parser, bytes, position, writer);
         if read == 0 {
             return position;
@@ -108,7 +109,7 @@ fn read_all(parser: &mut Parser<1024>, bytes: &[u8], writer: &mut EventWriter<'_
     position
 }
 
-/// Reads up to a run of text or data, and the run, whose record it writes.
+/// Reads bytes up to and including a run of text or data, and writes the record of the run.
 fn read_more(
     parser: &mut Parser<1024>,
     bytes: &[u8],
@@ -116,14 +117,15 @@ fn read_more(
     writer: &mut EventWriter<'_>,
 ) -> usize
     requires within { from < length bytes.now }
-    requires small { length bytes.now < 2 ^ 32 }
-    requires has_room { is_full (buffers_of writer.old) ≡ false }
+    requires fits_32_bits { length bytes.now < 2 ^ 32 }
+    requires has_room { must_return (buffers_of writer.old) ≡ false }
     ensures within { from + result ≤ length bytes.now }
-    ensures reads_on { (since : List ℕ) → HasRead parser.old since →
-        HasReadOn (buffers_of writer.old) (buffers_of writer.new) parser.new since bytes.now from
+    ensures reads_on { (already_read : List ℕ) → HasRead parser.old already_read →
+        HasReadOn (buffers_of writer.old)
+        (buffers_of writer.new) parser.new already_read bytes.now from
         result }
-    ensures progress { (since : List ℕ) → HasRead parser.old since →
-        Starts (buffers_of writer.old) →
+    ensures progress { (already_read : List ℕ) → HasRead parser.old already_read →
+        AreEmptyBuffers (buffers_of writer.old) →
         NoRecordStops (buffers_of writer.old).stops (buffers_of writer.new).events → 0 < result }
 {
     laws::early_stops();

@@ -3,7 +3,7 @@ ghost use Rattle.event_log.specs.Plain.{plain_text};
 ghost use Rattle.std.specs.Prelude.{List, ℕ, [], ◌++◌, ◌≡◌};
 ghost use Rattle.vte_core.specs.Event.{Event};
 ghost use Rattle.vte_core.specs.Saved.{IsZero};
-ghost use Rattle.vte_core.specs.Stream.{events, usual_limit};
+ghost use Rattle.vte_core.specs.Stream.{default_limit, events};
 ghost use Rattle.vte_core.specs.declared.parser.saved.Saved.{Saved};
 ghost use Rattle.vte_c.specs.Record.{all_kinds, reported};
 ghost use Rattle.vte_c.specs.Reported.{HasReported, HasStripped};
@@ -24,7 +24,7 @@ pub fn events_are_reported()
     // bytes of a command.
     ensures all { (kinds : ℕ) (parser : Saved) (given : List Event) (stream : List ℕ) →
         HasReported kinds parser given stream [] →
-        given ≡ reported kinds (events usual_limit stream) }
+        given ≡ reported kinds (events default_limit stream) }
     // All kinds are all events.
     ensures every { (events : List Event) → reported all_kinds events ≡ events }
 {
@@ -39,7 +39,7 @@ pub fn text_is_stripped()
         HasStripped parser text stream unread →
         HasStripped parser text (stream ++ bytes) (unread ++ bytes) }
     ensures all { (parser : Saved) (text stream : List ℕ) → HasStripped parser text stream [] →
-        text ≡ plain_text (events usual_limit stream) }
+        text ≡ plain_text (events default_limit stream) }
 {
     vte_core::laws::empty_stream();
     let _ = Saved::new();

@@ -1,6 +1,6 @@
 //! The parser as a library for C, and for whatever links C.
 //!
-//! A parser is plain data that the caller owns, and so are the buffers for what it tells. The
+//! A parser is plain data that the caller owns, and so are the buffers for what it reports. The
 //! library never allocates, and keeps no pointer. `vte.h` declares these functions for C, and
 //! docs/C.md says how to use them. A pointer may be null only if its length is 0, and what is
 //! written may not overlap anything else that is passed.
@@ -9,7 +9,7 @@
 ghost use Rattle.std.specs.Prelude.{List, ℕ, ◌≡◌, ◌≢◌};
 ghost use Rattle.vte_core.specs.Open.{open_at_end};
 ghost use Rattle.vte_core.specs.Saved.{HasReadSaved};
-ghost use Rattle.vte_core.specs.Stream.{IsFinished, IsUnfinished, usual_limit};
+ghost use Rattle.vte_core.specs.Stream.{default_limit, IsFinished, IsUnfinished};
 ghost use Rattle.vte_c.specs.Calls.{Feeds, Strips};
 ghost use Rattle.vte_c.specs.OpenCode.{open_code};
 ghost use Rattle.vte_c.specs.Record.{min_data, min_events, min_text};
@@ -40,11 +40,11 @@ const EVENT_SIZE: usize = size_of::<VteEvent>();
 /// Reads bytes, and writes the events of some kinds that they add to the stream. Returns how many
 /// bytes were read.
 ///
-/// Text is in runs, and so is the data of device control strings: a record says where one is in the
-/// bytes, or in the data area.
+/// Text is in runs, and so is the data of device control strings: a record says where a run is in
+/// the bytes, or in the data area.
 ///
 /// It stops early when the buffers are nearly full, and after an event of the kinds `stops`, which
-/// at most one follows: call it again with the rest. If there is room for fewer than
+/// at most one more event follows. Call it again with the rest. If there is room for fewer than
 /// `vte_min_events` events or `vte_min_data` data bytes, it reads nothing and returns
 /// `usize::MAX`.
 #[unsafe(no_mangle)]
@@ -83,14 +83,14 @@ pub extern "C" fn vte_strip(
 /// Returns what is unfinished, or 0.
 #[unsafe(no_mangle)]
 pub extern "C" fn vte_is_open(parser: &Saved) -> u8
-    ensures which { (stream : List ℕ) → HasReadSaved parser.now stream
+    ensures kind { (stream : List ℕ) → HasReadSaved parser.now stream
         → result ≡ open_code (open_at_end stream) }
     // If nothing is, more bytes give what they give on their own.
     ensures closed { result ≡ 0 → (stream : List ℕ) → HasReadSaved parser.now stream
-        → IsFinished usual_limit stream }
+        → IsFinished default_limit stream }
     // If something is, they don't.
     ensures opens { result ≢ 0 → (stream : List ℕ) → HasReadSaved parser.now stream
-        → IsUnfinished usual_limit stream }
+        → IsUnfinished default_limit stream }
 {
     let mut restored = Parser::new();
     restored.restore(parser);
@@ -121,7 +121,7 @@ pub extern "C" fn vte_event_size() -> usize
     EVENT_SIZE
 }
 
-/// Returns for how many events there has to be room.
+/// Returns the number of events for which there must be room.
 #[unsafe(no_mangle)]
 pub extern "C" fn vte_min_events() -> usize
     ensures { result ≡ min_events }
@@ -129,7 +129,7 @@ pub extern "C" fn vte_min_events() -> usize
     feed::MIN_EVENTS
 }
 
-/// Returns for how many data bytes there has to be room.
+/// Returns the number of data bytes for which there must be room.
 #[unsafe(no_mangle)]
 pub extern "C" fn vte_min_data() -> usize
     ensures { result ≡ min_data }
@@ -137,7 +137,7 @@ pub extern "C" fn vte_min_data() -> usize
     feed::MIN_DATA
 }
 
-/// Returns for how many bytes of text there has to be room.
+/// Returns the number of bytes of text for which there must be room.
 #[unsafe(no_mangle)]
 pub extern "C" fn vte_min_text() -> usize
     ensures { result ≡ min_text }

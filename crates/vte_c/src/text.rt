@@ -2,16 +2,16 @@
 ghost use Rattle.std.specs.Prelude.{false, length, List, true, ℕ, ◌++◌, ◌+◌, ◌-◌, ◌<◌, ◌≡◌, ◌≤◌};
 ghost use Rattle.vte_c.specs.Calls.{Strips};
 ghost use Rattle.vte_c.specs.Reported.{HasStripped};
-ghost use Rattle.vte_c.specs.private.TextBuffer.{StartsText, StripsMore, text_buffer_of, text_buffer_with, text_buffer_with_event, TextBuffer};
+ghost use Rattle.vte_c.specs.private.WrittenText.{IsEmptyBuffer, StripsMore, text_with, text_with_event, written_text_of, WrittenText};
 
 use crate::feed::NO_ROOM;
 use vte_core::{Params, Parser, Perform, PerformText, Saved, laws};
 
-/// For how many bytes of text there must be room: what two bytes of a stream add.
+/// The number of bytes of text for which there must be room: what two bytes of a stream add.
 pub(crate) const MIN_TEXT: usize = 16;
 
 /// The most bytes of text that one byte of a stream adds: one byte adds at most two characters.
-const MAX_TEXT: usize = 8;
+const MAX_TEXT_PER_BYTE: usize = 8;
 
 /// Writes text into the caller's buffer, as long as all of it fits.
 #[derive(Drop)]
@@ -23,18 +23,18 @@ struct TextWriter<'a> {
 }
 
 impl TextWriter<'_> {
-    /// Returns for how many more bytes there is room.
+    /// Returns the number of bytes for which there is still room.
     fn left(&self) -> usize
-        ensures { result ≡ (text_buffer_of self.now).size - (text_buffer_of self.now).used }
+        ensures { result ≡ (written_text_of self.now).size - (written_text_of self.now).used }
     {
         self.bytes.len().saturating_sub(self.used)
     }
 
     /// Writes a text, if there is room for it.
     #[inline(always)]
-    #[tactic(auto, unfolding(crate::specs::private::TextBuffer::text_buffer_with))]
+    #[tactic(auto, unfolding(crate::specs::private::WrittenText::text_with))]
     fn add(&mut self, text: &[u8])
-        ensures { text_buffer_of self.new ≡ text_buffer_with (text_buffer_of self.old) text.now }
+        ensures { written_text_of self.new ≡ text_with (written_text_of self.old) text.now }
     {
         let (used, size) = (self.used, self.bytes.len());
         if self.fits && used <= size && text.len() <= size - used {
@@ -48,11 +48,11 @@ impl TextWriter<'_> {
 }
 
 impl Perform for TextWriter<'_> {
-    ghost Value = { TextBuffer };
+    ghost Value = { WrittenText };
 
-    ghost value_of = { text_buffer_of };
+    ghost value_of = { written_text_of };
 
-    ghost step = { text_buffer_with_event };
+    ghost step = { text_with_event };
 
     ghost is_terminated = { λ buffer. false };
 
@@ -66,7 +66,7 @@ impl Perform for TextWriter<'_> {
     fn execute(&mut self, byte: u8) {
         match byte {
             b'\t' | b'\n' | b'\r' => self.add(&[byte]),
-            // proof: what has no text adds an empty one, as `text_buffer_with_event` does.
+            // proof: what has no text adds an empty one, as `text_with_event` does.
             _ => self.add(b""),
         }
     }
@@ -148,11 +148,11 @@ pub(crate) fn strip(parser: &mut Saved, bytes: &[u8], text: &mut [u8], written: 
 /// Reads bytes into an empty buffer, until they end or there may be no room for the text of one
 /// more.
 fn read_into(saved: &mut Saved, bytes: &[u8], writer: &mut TextWriter<'_>) -> usize
-    requires starts { StartsText (text_buffer_of writer.old) }
+    requires is_empty { IsEmptyBuffer (written_text_of writer.old) }
     ensures within { result ≤ length bytes.now }
     ensures progress { 0 < length bytes.now → 0 < result }
     ensures fills { result < length bytes.now
-        → (text_buffer_of writer.new).size < (text_buffer_of writer.new).used + 8 }
+        → (written_text_of writer.new).size < (written_text_of writer.new).used + 8 }
     ensures strips { (text stream rest : List ℕ) →
         HasStripped saved.old text stream (bytes.now ++ rest) →
         StripsMore writer.old writer.new saved.new text stream bytes.now rest result }
@@ -162,9 +162,9 @@ fn read_into(saved: &mut Saved, bytes: &[u8], writer: &mut TextWriter<'_>) -> us
     parser.restore(saved);
     let mut count = 0;
     // The text of a chunk fits whatever its bytes are, so no character needs a stop.
-    while count < bytes.len() && writer.left() >= MAX_TEXT {
+    while count < bytes.len() && writer.left() >= MAX_TEXT_PER_BYTE {
         let unread = &bytes[count..];
-        let size = unread.len().min(writer.left() / MAX_TEXT);
+        let size = unread.len().min(writer.left() / MAX_TEXT_PER_BYTE);
         let chunk = &unread[..size];
         parser.advance_text(writer, chunk);
         count += chunk.len();

@@ -18,8 +18,8 @@ pub use Rattle.std.specs.Prelude.{MatchOption, slice_index}
 pub use Rattle.std.specs.Str.{chars, IsAscii, IsUtf8}
 pub use Rattle.vte_core.specs.Body.{body_rest, sequence_outcome}
 unfoldable pub use Rattle.vte_core.specs.Body.{body_outcome}
-pub use Rattle.vte_core.specs.EventBounds.{AreFromOneByte, FitsStore, IsBounded, IsExecuted, IsPrintable, IsShort}
-pub use Rattle.vte_core.specs.Class.{AreInClass, Cancel, Class, Colon, Control, Delete, Digit, dispatches_escape, ends_body, ends_head, Final, High, Intermediate, is_cancel, is_device_data, is_final, is_head_byte, is_intermediate, is_key, is_marker, is_parameter_text, is_plain_control, IsDeviceData, Marker, Semicolon}
+pub use Rattle.vte_core.specs.EventBounds.{AreBrief, FitsLimit, IsBounded, IsExecuted, IsPrintable, IsShort}
+pub use Rattle.vte_core.specs.Class.{AreInClass, Cancel, Class, Colon, Delete, Digit, dispatches_escape, ends_head, ends_sequence, Final, High, Intermediate, is_cancel, is_device_data, is_final, is_head_byte, is_intermediate, is_key, is_marker, is_parameter_byte, is_plain_control, IsDeviceData, Marker, PlainControl, Semicolon}
 unfoldable pub use Rattle.vte_core.specs.Class.{class_of}
 unfoldable pub use Rattle.vte_core.specs.ControlSequence.{control_sequence_end, control_sequence_outcome}
 pub use Rattle.vte_core.specs.DeviceControl.{ends_device_data}
@@ -34,16 +34,16 @@ pub use Rattle.vte_core.specs.Intermediates.{are_too_many, first_two}
 pub use Rattle.vte_core.specs.SequenceKind.{EscapeSequence, SequenceKind}
 unfoldable pub use Rattle.vte_core.specs.SequenceKind.{sequence_kind}
 pub use Rattle.vte_core.specs.Laws.{AreParameters, CountsData, DispatchesShown}
-pub use Rattle.vte_core.specs.LongParser.{MeetsData, open_command_size, open_data_count, read_count}
-pub use Rattle.vte_core.specs.Looks.{looked}
+pub use Rattle.vte_core.specs.LongParser.{IsDataOfOpenCommand, open_command_size, open_data_count, read_count}
+pub use Rattle.vte_core.specs.Looks.{looks_of, per_byte}
 pub use Rattle.vte_core.specs.OutsideRuns.{AddsOutsideRuns, IsOutsideRuns, PrintsNoAscii, ReportsOutsideRuns}
 pub use Rattle.vte_core.specs.Outcome.{CharacterToClose, closing_events, CommandToClose, events_before_escape, leaves, NothingToClose, open_bytes, Outcome, report, SaysLoss, ToClose}
-pub use Rattle.vte_core.specs.Parameters.{AreGroups, AreSmall, colon, count_of, greatest_number, grouped, is_colon, is_separator, IsFilled, IsSmallNumber, max_numbers, Number, number_of, numbers_of, semicolon, with_number}
+pub use Rattle.vte_core.specs.Parameters.{AreGroups, AreSmall, colon, count_of, grouped, is_colon, is_separator, IsNonEmpty, IsSmallNumber, max_numbers, max_value, Number, number_of, numbers_of, semicolon, with_number}
 unfoldable pub use Rattle.vte_core.specs.Parameters.{groups_of, has_too_many_numbers, numbers, shown}
 pub use Rattle.vte_core.specs.CutBefore.{from_first}
-pub use Rattle.vte_core.specs.Stream.{added, cut_at_escape, escape, usual_limit, with_bodies}
+pub use Rattle.vte_core.specs.Stream.{added, cut_at_escape, default_limit, escape, with_bodies}
 unfoldable pub use Rattle.vte_core.specs.Stream.{events, open_character, outcome}
-pub use Rattle.vte_core.specs.SystemCommand.{bell, ends_command, has_room, is_data_item, IsCommandData, kept_after, max_pieces, system_command_rest}
+pub use Rattle.vte_core.specs.SystemCommand.{bell, ends_system_command, has_room, is_data_item, IsCommandData, kept_after, max_pieces, system_command_rest}
 unfoldable pub use Rattle.vte_core.specs.SystemCommand.{kept_items, loses_data, pieces_of, system_command_outcome}
 pub use Rattle.vte_core.specs.Text.{ends_run, HasNoRunAt, is_control_character, is_layout, run_event, segments_outcome, StaysInRun}
 unfoldable pub use Rattle.vte_core.specs.Text.{character_event, executed_events, malformed_event, segment_event, text_outcome}
@@ -57,12 +57,12 @@ pub use Rattle.vte_core.specs.declared.parser.State.TheVariants.{ControlSequence
 pub use Rattle.vte_core.specs.declared.parser.machine.Machine.{Machine}
 pub use Rattle.vte_core.specs.declared.parser.refused.Refused.{Refused}
 pub use Rattle.vte_core.specs.declared.utf8.Unfinished.{Unfinished}
-pub use Rattle.vte_core.specs.declared.utf8.Unfinished.TheVariants.{Nothing, One, Three, Two}
-pub use Rattle.vte_core.specs.private.Scans.{AreIgnored, ArePrintedAscii, ArePut, IsIgnored, IsPrintedAscii, IsRange, IsRun, IsUtf8Run, PrintsRun, Scans}
+pub use Rattle.vte_core.specs.declared.utf8.Unfinished.TheVariants.{Empty, One, Three, Two}
+pub use Rattle.vte_core.specs.private.Scans.{AreIgnored, ArePositions, ArePrintedAscii, ArePut, IsIgnored, IsPrintedAscii, IsRun, IsUtf8Run, PrintsRun, Scans}
 pub use Rattle.vte_core.specs.private.Place.{AtEscape, BytesLead, closing_events_at, InControlSequence, InDeviceControl, InDeviceData, InEscape, InIgnoredString, InSystemCommand, InText, IsAfter, IsSettledPlace, Leads, left_at, Place, rest_outcome}
 pub use Rattle.vte_core.specs.private.Progress.{Advances, chunk_call, ChunkCall, IsAtPosition, IsInsidePosition, IsRefusedInCommand, IsSettled, MayGoOn, ProgressAt, ProgressInside, ReadsUntilRefused, ReadsUpTo}
-pub use Rattle.vte_core.specs.private.Costs.{SpendsWithin}
-pub use Rattle.vte_core.specs.private.ParserFields.{bytes_of, Carries, CountsNumbers, HasReadHead, HasReadWithLimit, HoldsHead, HoldsIntermediates, HoldsNumbers, IsAtPlace, IsMarker, IsPlaceOfState, may_continue, numbers_from, ReadsHead, SameIntermediates, SameNumbers, StaysIllShaped}
+pub use Rattle.vte_core.specs.private.Costs.{ahead, seen, SpendsWithin}
+pub use Rattle.vte_core.specs.private.ParserFields.{bytes_of, CountsNumbers, Extends, HasReadHead, HasReadWithLimit, HoldsHead, HoldsIntermediates, HoldsNumbers, IsAtPlace, IsMarker, IsPlaceOfState, may_continue, numbers_from, ReadsHead, SameIntermediates, SameNumbers, StaysIllShaped}
 unfoldable pub use Rattle.vte_core.specs.private.Place.{outcome_from}
 pub use Rattle.vte_core.specs.CommandMemory.{Stored}
 pub use Rattle.vte_core.specs.private.Store.{cut_data, cut_pieces, ends_after, fitting, HoldsItems, pieces_from, PiecesEnd, SameItems}

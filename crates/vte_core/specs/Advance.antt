@@ -14,8 +14,8 @@ pub record ReadsBytes {V : Type 0} (step : V → Event → V) (old new : V) (byt
   -- The parser has then read the bytes too.
   pub reads : (stream : List ℕ) → parser.has_read stream → next.has_read (stream ++ bytes)
   -- At most 5 looks per byte and 8 more, and at least one per byte.
-  pub count : next.looks ≤ parser.looks + 5 * length bytes + 8
-  pub at_least : parser.looks + length bytes ≤ next.looks
+  pub looks_at_most : next.looks ≤ parser.looks + 5 * length bytes + 8
+  pub looks_at_least : parser.looks + length bytes ≤ next.looks
 
 -- `advance_until_terminated` and `advance_text_until_terminated`, which read n of the bytes
 pub record ReadsUntilTerminated {V : Type 0} (step : V → Event → V) (is_terminated : V → Bool)
@@ -28,5 +28,5 @@ pub record ReadsUntilTerminated {V : Type 0} (step : V → Event → V) (is_term
   pub reads : (stream : List ℕ) → parser.has_read stream
       → next.has_read (resumed_stream stream bytes n)
   -- At most 5 looks per byte read and 8 more, and at least one per byte read.
-  pub count : next.looks ≤ parser.looks + 5 * n + 8
-  pub at_least : parser.looks + n ≤ next.looks
+  pub looks_at_most : next.looks ≤ parser.looks + 5 * n + 8
+  pub looks_at_least : parser.looks + n ≤ next.looks

@@ -15,7 +15,7 @@ use Rattle.vte_core.specs.Text.{HasNoControls, HasNoRunAt}
 -- The bytes of a run: those of its text, or its data.
 abbrev pub taken_bytes : Taken → List ℕ
 taken_bytes (Text text) = text.now
-taken_bytes (Data those) = those.now
+taken_bytes (Data slice) = slice.now
 taken_bytes Nothing = []
 
 abbrev pub run_bytes : Run → List ℕ
@@ -24,7 +24,7 @@ run_bytes run = taken_bytes run.taken
 -- The events of a run: its characters are printed, or its data put.
 abbrev pub taken_events : Taken → List Event
 taken_events (Text text) = map Print (chars text.now)
-taken_events (Data those) = map Put those.now
+taken_events (Data slice) = map Put slice.now
 taken_events Nothing = []
 
 abbrev pub run_events : Run → List Event
@@ -35,8 +35,8 @@ run_events run = taken_events run.taken
 abbrev pub IsLongestRun : List ℕ → ℕ → Taken → Type 0
 IsLongestRun bytes end (Text text) =
     (0 < length text.now) × HasNoControls text.now × HasNoRunAt false bytes end
-IsLongestRun bytes end (Data those) =
-    (0 < length those.now) × (end < length bytes → IsDeviceData (slice_index bytes end) → ⊥)
+IsLongestRun bytes end (Data slice) =
+    (0 < length slice.now) × (end < length bytes → IsDeviceData (slice_index bytes end) → ⊥)
 IsLongestRun bytes end Nothing = ⊤
 
 -- The run is in the bytes at its position.
@@ -73,5 +73,5 @@ pub record ReadsToRun {V : Type 0} (step : V → Event → V) (is_terminated : V
   pub outside_runs : (stream : List ℕ) → parser.has_read stream
       → ReportsOutsideRuns parser.limit stream bytes run.start
   -- At most 7 looks per byte read and 8 more, and at least one per byte read.
-  pub count : next.looks ≤ parser.looks + 7 * run.end + 8
-  pub at_least : parser.looks + run.end ≤ next.looks
+  pub looks_at_most : next.looks ≤ parser.looks + 7 * run.end + 8
+  pub looks_at_least : parser.looks + run.end ≤ next.looks

@@ -33,4 +33,4 @@ body_rest limit (key ∷ bytes) =
 unfoldable pub body_outcome : Option ℕ → List ℕ → Outcome
 body_outcome limit bytes =
     let cut = cut_before (λ b. is_key (class_of b)) bytes in
-    report (executed_events cut.inside) (body_rest limit cut.rest)
+    report (executed_events cut.before) (body_rest limit cut.rest)

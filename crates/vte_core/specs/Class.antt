@@ -3,7 +3,7 @@ use Rattle.std.specs.Prelude.{Bool, false, if◌then◌else◌, List, nat_lt, tr
 
 pub data Class : Type 0 where
   -- 00..17, 19, 1C..1F: plain controls, which are C0 except CAN, SUB and ESC
-  Control : Class
+  PlainControl : Class
   -- 18, 1A: CAN and SUB, which cancel the current sequence
   Cancel : Class
   -- 1B: ESC, which ends the current sequence and starts another
@@ -27,12 +27,12 @@ pub data Class : Type 0 where
 
 unfoldable pub class_of : ℕ → Class
 class_of b =
-    if nat_lt b 0x18 then Control
+    if nat_lt b 0x18 then PlainControl
     else if b == 0x18 then Cancel
-    else if b == 0x19 then Control
+    else if b == 0x19 then PlainControl
     else if b == 0x1a then Cancel
     else if b == 0x1b then Escape
-    else if nat_lt b 0x20 then Control
+    else if nat_lt b 0x20 then PlainControl
     else if nat_lt b 0x30 then Intermediate
     else if nat_lt b 0x3a then Digit
     else if b == 0x3a then Colon
@@ -44,7 +44,7 @@ class_of b =
 
 -- 00..17, 19, 1C..1F
 abbrev pub is_plain_control : Class → Bool
-is_plain_control Control = true
+is_plain_control PlainControl = true
 is_plain_control _ = false
 
 -- CAN and SUB
@@ -53,10 +53,10 @@ is_cancel Cancel = true
 is_cancel _ = false
 
 -- CAN, SUB and ESC
-abbrev pub ends_body : Class → Bool
-ends_body Cancel = true
-ends_body Escape = true
-ends_body _ = false
+abbrev pub ends_sequence : Class → Bool
+ends_sequence Cancel = true
+ends_sequence Escape = true
+ends_sequence _ = false
 
 -- 20..2F
 abbrev pub is_intermediate : Class → Bool
@@ -64,11 +64,11 @@ is_intermediate Intermediate = true
 is_intermediate _ = false
 
 -- 30..3B
-abbrev pub is_parameter_text : Class → Bool
-is_parameter_text Digit = true
-is_parameter_text Colon = true
-is_parameter_text Semicolon = true
-is_parameter_text _ = false
+abbrev pub is_parameter_byte : Class → Bool
+is_parameter_byte Digit = true
+is_parameter_byte Colon = true
+is_parameter_byte Semicolon = true
+is_parameter_byte _ = false
 
 -- 3C..3F
 abbrev pub is_marker : Class → Bool
@@ -113,7 +113,7 @@ ends_head _ = false
 
 -- Plain controls and 20..7E: the data of a device control string
 abbrev pub is_device_data : Class → Bool
-is_device_data Control = true
+is_device_data PlainControl = true
 is_device_data Final = true
 is_device_data k = is_head_byte k
 

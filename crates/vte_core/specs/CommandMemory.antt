@@ -15,4 +15,4 @@ pub record LacksMemoryAt (held : Stored) (bytes : List ℕ) (from : ℕ) : Type 
   pub to : ℕ
   pub within : to ≤ length bytes
   pub are_data : (k : ℕ) → from ≤ k → k < to → IsCommandData (slice_index bytes k)
-  pub lacks : held.capacity < length held.bytes + (to - from)
+  pub lacks_memory : held.capacity < length held.bytes + (to - from)

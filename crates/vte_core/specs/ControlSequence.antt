@@ -25,4 +25,4 @@ control_sequence_rest head (end ∷ text) = report (control_sequence_end head en
 unfoldable pub control_sequence_outcome : List ℕ → Outcome
 control_sequence_outcome bytes =
     let cut = cut_before (λ b. ends_head (class_of b)) bytes in
-    report (executed_events cut.inside) (control_sequence_rest (head_bytes cut.inside) cut.rest)
+    report (executed_events cut.before) (control_sequence_rest (head_bytes cut.before) cut.rest)

@@ -13,9 +13,9 @@ from_first passes (b ∷ bytes) = if passes b then b ∷ bytes else from_first p
 
 -- Both parts.
 pub record CutInTwo : Type 0 where
-  pub inside : List ℕ
+  pub before : List ℕ
   pub rest : List ℕ
 
 abbrev pub cut_before : (ℕ → Bool) → List ℕ → CutInTwo
 cut_before passes bytes =
-    record { inside = before_first passes bytes; rest = from_first passes bytes }
+    record { before = before_first passes bytes; rest = from_first passes bytes }

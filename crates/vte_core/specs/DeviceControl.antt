@@ -31,7 +31,7 @@ device_data_rest (end ∷ text) = report (device_data_end end) (text_outcome tex
 unfoldable pub device_data_outcome : List ℕ → Outcome
 device_data_outcome bytes =
     let cut = cut_before ends_device_data bytes in
-    report (map Put (filter (λ b. is_device_data (class_of b)) cut.inside))
+    report (map Put (filter (λ b. is_device_data (class_of b)) cut.before))
     (device_data_rest cut.rest)
 
 -- CAN and SUB are executed. A final byte hooks if the head is well shaped; otherwise the string is
@@ -52,4 +52,4 @@ device_control_rest head (end ∷ bytes) = device_control_after_head head end by
 unfoldable pub device_control_outcome : List ℕ → Outcome
 device_control_outcome bytes =
     let cut = cut_before (λ b. ends_head (class_of b)) bytes in
-    device_control_rest (head_bytes cut.inside) cut.rest
+    device_control_rest (head_bytes cut.before) cut.rest

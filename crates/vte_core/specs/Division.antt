@@ -9,11 +9,11 @@ IsSegment segment =
     (is_well_formed segment ≡ true) ⊎ ((is_truncated segment ≡ true) ⊎ (length segment ≡ 1))
 
 -- The segments join to the text.
-abbrev pub IsAllDivided : List ℕ → Type 0
-IsAllDivided text = concat (segments text) ≡ text
+abbrev pub SegmentsJoin : List ℕ → Type 0
+SegmentsJoin text = concat (segments text) ≡ text
 
 -- The segment is the right one if `later` follows it.
-pub record IsRightSegment (segment later : List ℕ) : Type 0 where
+pub record IsCorrectSegment (segment later : List ℕ) : Type 0 where
   pub is_segment : IsSegment segment
   -- If a well-formed sequence starts there, it is the segment.
   pub whole : (prefix rest : List ℕ) → prefix ++ rest ≡ segment ++ later
@@ -23,7 +23,7 @@ pub record IsRightSegment (segment later : List ℕ) : Type 0 where
       → is_truncated prefix ≡ true → length prefix ≤ length segment
 
 -- Each segment is the right one if the others follow it.
-abbrev pub AreRightSegments : List (List ℕ) → Type 0
-AreRightSegments [] = ⊤
-AreRightSegments (segment ∷ more) =
-    IsRightSegment segment (concat more) × AreRightSegments more
+abbrev pub AreCorrectSegments : List (List ℕ) → Type 0
+AreCorrectSegments [] = ⊤
+AreCorrectSegments (segment ∷ more) =
+    IsCorrectSegment segment (concat more) × AreCorrectSegments more

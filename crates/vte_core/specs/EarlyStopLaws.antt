@@ -1,6 +1,6 @@
 -- Laws of early stops, which functions of `laws` state as contracts.
 use Rattle.std.specs.Prelude.{drop, length, List, Option, ℕ, [], ◌++◌, ◌<◌, ◌≡◌, ◌≤◌, ◌⊎◌}
-use Rattle.vte_core.specs.EventBounds.{AreFromOneByte}
+use Rattle.vte_core.specs.EventBounds.{AreBrief}
 use Rattle.vte_core.specs.EarlyStop.{IsStart, reported_before, resumed_stream}
 use Rattle.vte_core.specs.Event.{Event}
 use Rattle.vte_core.specs.Stream.{added}
@@ -27,7 +27,7 @@ pub record ReportsUnit (limit : Option ℕ) (stream bytes : List ℕ) (i : ℕ) 
   pub before : List Event
   pub unit : List Event
   pub parts : reported_before limit stream bytes i ≡ before ++ unit
-  pub brief : AreFromOneByte limit unit
+  pub brief : AreBrief limit unit
   pub begun : (before ≡ []) ⊎ AreReportedAtStart limit stream bytes i before
 
 -- `ReportsUnit` for each position: a performer that is asked at each start is asked after each

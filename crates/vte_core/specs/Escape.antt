@@ -25,5 +25,5 @@ escape_rest intermediates (end ∷ text) =
 unfoldable pub escape_outcome : List ℕ → Outcome
 escape_outcome bytes =
     let cut = cut_before (λ b. ends_escape (class_of b)) bytes in
-    report (executed_events cut.inside)
-    (escape_rest (filter (λ b. is_intermediate (class_of b)) cut.inside) cut.rest)
+    report (executed_events cut.before)
+    (escape_rest (filter (λ b. is_intermediate (class_of b)) cut.before) cut.rest)

@@ -11,9 +11,9 @@ use Rattle.vte_core.specs.SystemCommand.{max_pieces}
 use Rattle.vte_core.specs.Text.{is_control_character}
 
 -- The pieces fit into a buffer of this size.
-abbrev pub FitsStore : Option ℕ → List (List ℕ) → Type 0
-FitsStore None pieces = ⊤
-FitsStore (Some limit) pieces = length (concat pieces) ≤ limit
+abbrev pub FitsLimit : Option ℕ → List (List ℕ) → Type 0
+FitsLimit None pieces = ⊤
+FitsLimit (Some limit) pieces = length (concat pieces) ≤ limit
 
 -- A character that is printed: a scalar value of Unicode, and no control.
 abbrev pub IsPrintable : ℕ → Type 0
@@ -37,8 +37,8 @@ IsBounded limit (Hook groups intermediates ignore final) = HasBoundedFields grou
     final
 IsBounded limit (Put byte) = IsDeviceData byte
 IsBounded limit Unhook = ⊤
-IsBounded limit (OscDispatch pieces bell) =
-    (length pieces ≤ max_pieces) × FitsStore limit pieces × (0 < length pieces)
+IsBounded limit (OscDispatch pieces bell_terminated) =
+    (length pieces ≤ max_pieces) × FitsLimit limit pieces × (0 < length pieces)
 IsBounded limit (CsiDispatch groups intermediates ignore final) =
     HasBoundedFields groups intermediates final
 IsBounded limit (EscDispatch intermediates ignore final) =
@@ -50,8 +50,8 @@ IsShort (Print c) = IsPrintable c
 IsShort (Execute byte) = IsExecuted byte
 IsShort _ = ⊥
 
-abbrev pub AreFromOneByte : Option ℕ → List Event → Type 0
-AreFromOneByte limit [] = ⊤
-AreFromOneByte limit (event ∷ []) = IsBounded limit event
-AreFromOneByte limit (event ∷ last ∷ []) = IsBounded limit event × IsShort last
-AreFromOneByte limit _ = ⊥
+abbrev pub AreBrief : Option ℕ → List Event → Type 0
+AreBrief limit [] = ⊤
+AreBrief limit (event ∷ []) = IsBounded limit event
+AreBrief limit (event ∷ last ∷ []) = IsBounded limit event × IsShort last
+AreBrief limit _ = ⊥

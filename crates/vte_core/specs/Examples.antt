@@ -21,8 +21,8 @@ abbrev pub gives : List ℕ → List Event → Example
 gives stream reported = record { stream = stream; reported = reported }
 
 -- Each example has exactly its events, with a buffer of this size.
-abbrev pub AreRight : Option ℕ → List Example → Type 0
-AreRight limit examples =
+abbrev pub HaveEvents : Option ℕ → List Example → Type 0
+HaveEvents limit examples =
     map (λ example. events limit example.stream) examples
     ≡ map (λ example. example.reported) examples
 
@@ -140,8 +140,8 @@ abbrev pub letters : ℕ → List ℕ
 letters n = replicate n 0x61
 
 -- With a buffer of 1,024 bytes: commands around its size.
-abbrev pub full_store_examples : List Example
-full_store_examples =
+abbrev pub full_buffer_examples : List Example
+full_buffer_examples =
     gives (codes "\u{1b}]" ++ letters 1024 ++ codes "\u{7}")
     (OscDispatch (letters 1024 ∷ []) true ∷ [])
     ∷ gives (codes "\u{1b}]" ++ letters 1025 ++ codes "\u{7}")
@@ -160,42 +160,42 @@ full_store_examples =
     ∷ []
 
 -- With a buffer of 5 bytes.
-abbrev pub store_of_five_examples : List Example
-store_of_five_examples =
+abbrev pub buffer_of_five_examples : List Example
+buffer_of_five_examples =
     gives (codes "\u{1b}]2;s" ++ 0xe6 ∷ 0x9c ∷ 0xab ∷ codes "\u{1b}\\")
     (OscDispatch (codes "2" ∷ (codes "s" ++ 0xe6 ∷ 0x9c ∷ 0xab ∷ []) ∷ []) false
     ∷ EscDispatch [] false 0x5c ∷ [])
     ∷ []
 
 -- With a buffer of 2 bytes: `;` takes no room, but is dropped once the buffer is full.
-abbrev pub store_of_two_examples : List Example
-store_of_two_examples =
+abbrev pub buffer_of_two_examples : List Example
+buffer_of_two_examples =
     gives (codes "\u{1b}]ab;c\u{7}") (OscDispatch (codes "ab" ∷ []) true ∷ [])
     ∷ gives (codes "\u{1b}]a;bc;d\u{7}") (OscDispatch (codes "a" ∷ codes "b" ∷ []) true ∷ [])
     ∷ []
 
-pub record OpenExample : Type 0 where
+pub record CommandExample : Type 0 where
   pub stream : List ℕ
   pub left : ToClose
 
-abbrev pub keeps : List ℕ → List (List ℕ) → OpenExample
+abbrev pub keeps : List ℕ → List (List ℕ) → CommandExample
 keeps items pieces = record {
   stream = codes "\u{1b}]"
       ++ items;
   left = CommandToClose pieces false;
 }
 
-abbrev pub loses : List ℕ → List (List ℕ) → OpenExample
+abbrev pub loses : List ℕ → List (List ℕ) → CommandExample
 loses items pieces = record { stream = codes "\u{1b}]" ++ items; left = CommandToClose pieces true }
 
-abbrev pub AreLeft : Option ℕ → List OpenExample → Type 0
-AreLeft limit examples =
+abbrev pub LeaveCommands : Option ℕ → List CommandExample → Type 0
+LeaveCommands limit examples =
     map (λ example. (outcome limit example.stream).left) examples
     ≡ map (λ example. example.left) examples
 
 -- With a buffer of 2 bytes: open commands, and whether they lost data. A `;` that is dropped isn't
 -- data.
-abbrev pub open_command_examples : List OpenExample
+abbrev pub open_command_examples : List CommandExample
 open_command_examples =
     keeps [] ([] ∷ [])
     ∷ keeps (codes "ab;;") (codes "ab" ∷ [])
@@ -208,8 +208,8 @@ open_command_examples =
     ∷ []
 
 -- With a buffer of 0 bytes.
-abbrev pub empty_store_examples : List Example
-empty_store_examples =
+abbrev pub empty_buffer_examples : List Example
+empty_buffer_examples =
     gives (codes "\u{1b}]52;" ++ repeat 132 (codes "a") ++ codes "\u{7}")
     (OscDispatch ([] ∷ []) true ∷ [])
     ∷ gives (codes "\u{1b}];;a;b\u{7}") (OscDispatch ([] ∷ []) true ∷ [])
@@ -275,18 +275,18 @@ stop_examples =
     ∷ []
 
 -- A stream, and what is open at its end.
-pub record EndExample : Type 0 where
+pub record OpenExample : Type 0 where
   pub stream : List ℕ
   pub kind : Open
 
-abbrev pub ends_in : Open → List ℕ → EndExample
+abbrev pub ends_in : Open → List ℕ → OpenExample
 ends_in kind stream = record { stream = stream; kind = kind }
 
-abbrev pub AreOpen : List EndExample → Type 0
-AreOpen examples =
+abbrev pub LeaveOpen : List OpenExample → Type 0
+LeaveOpen examples =
     map (λ example. open_at_end example.stream) examples ≡ map (λ example. example.kind) examples
 
-abbrev pub text_end_examples : List EndExample
+abbrev pub text_end_examples : List OpenExample
 text_end_examples =
     ends_in Nothing []
     ∷ ends_in Nothing (codes "a\n")
@@ -302,7 +302,7 @@ text_end_examples =
     ∷ ends_in Nothing (0xc0 ∷ [])
     ∷ []
 
-abbrev pub sequence_end_examples : List EndExample
+abbrev pub sequence_end_examples : List OpenExample
 sequence_end_examples =
     -- which kind it is isn't known before the key
     ends_in EscapeSequence (0xe4 ∷ codes "\u{1b}")
@@ -323,7 +323,7 @@ sequence_end_examples =
     ∷ ends_in EscapeSequence (codes "\u{1b}[1\u{1b}")
     ∷ []
 
-abbrev pub string_end_examples : List EndExample
+abbrev pub string_end_examples : List OpenExample
 string_end_examples =
     -- 9C ends no head
     ends_in DeviceControl (codes "\u{1b}P")

@@ -2,7 +2,7 @@
 -- 5.4).
 use Rattle.std.specs.Prelude.{Bool, if◌then◌else◌, List, not, ℕ, [], ◌++◌, ◌||◌, ◌∷◌}
 use Rattle.std.specs.List.{filter, list_all}
-use Rattle.vte_core.specs.Class.{class_of, is_head_byte, is_intermediate, is_marker, is_parameter_text}
+use Rattle.vte_core.specs.Class.{class_of, is_head_byte, is_intermediate, is_marker, is_parameter_byte}
 use Rattle.vte_core.specs.Intermediates.{are_too_many, first_two}
 use Rattle.vte_core.specs.Event.{Event}
 use Rattle.vte_core.specs.Parameters.{groups_of, has_too_many_numbers}
@@ -18,8 +18,8 @@ pub record Head : Type 0 where
 -- The head after its marker.
 abbrev pub head_after : List ℕ → List ℕ → Head
 head_after marker bytes =
-    let cut = cut_before (λ b. not (is_parameter_text (class_of b))) bytes in
-    record { marker = marker; parameter_text = cut.inside; tail = cut.rest }
+    let cut = cut_before (λ b. not (is_parameter_byte (class_of b))) bytes in
+    record { marker = marker; parameter_text = cut.before; tail = cut.rest }
 
 unfoldable pub head_of : List ℕ → Head
 head_of [] = head_after [] []

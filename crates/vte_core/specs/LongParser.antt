@@ -4,7 +4,7 @@ use Rattle.std.specs.List.{concat}
 use Rattle.vte_core.specs.declared.parser.long.LongParser.{LongParser}
 use Rattle.vte_core.specs.declared.parser.refused.Refused.{Refused}
 use Rattle.vte_core.specs.CommandMemory.{LacksMemoryAt}
-use Rattle.vte_core.specs.Looks.{counted}
+use Rattle.vte_core.specs.Looks.{total_looks}
 use Rattle.vte_core.specs.private.ParserFields.{HasReadWithLimit}
 use Rattle.vte_core.specs.Outcome.{CommandToClose, ToClose}
 use Rattle.vte_core.specs.Parser.{Reading, reading}
@@ -20,7 +20,7 @@ abbrev pub lost_data_long : {A : Type 0} → LongParser A → Bool
 lost_data_long parser = parser.machine.command.lost
 
 abbrev pub reading_of_long : {A : Type 0} → LongParser A → Reading
-reading_of_long parser = reading None parser.machine (counted parser.looks)
+reading_of_long parser = reading None parser.machine (total_looks parser.looks)
 
 -- How many data bytes fit into the memory that a parser has allocated.
 abbrev pub memory_of : {A : Type 0} → LongParser A → ℕ
@@ -56,7 +56,7 @@ StoresPieces parser stream =
 
 -- The stream ends in an open operating system command with fewer than 16 `;`, and the byte is data
 -- of its last piece.
-pub record MeetsData (stream : List ℕ) (byte : ℕ) : Type 0 where
+pub record IsDataOfOpenCommand (stream : List ℕ) (byte : ℕ) : Type 0 where
   pub pieces : List (List ℕ)
   pub last : List ℕ
   pub lost : Bool

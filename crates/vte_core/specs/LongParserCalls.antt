@@ -5,8 +5,8 @@ use Rattle.vte_core.specs.declared.parser.long.LongParser.{LongParser}
 use Rattle.vte_core.specs.declared.parser.refused.Refused.{Refused}
 use Rattle.vte_core.specs.EarlyStop.{HasPassedBytes}
 use Rattle.vte_core.specs.Event.{Event}
-use Rattle.vte_core.specs.LongParser.{HasReadLong, LacksMemory, MeetsData, memory_of, open_command_size, reading_of_long, StoresPieces}
-use Rattle.vte_core.specs.Looks.{counted}
+use Rattle.vte_core.specs.LongParser.{HasReadLong, IsDataOfOpenCommand, LacksMemory, memory_of, open_command_size, reading_of_long, StoresPieces}
+use Rattle.vte_core.specs.Looks.{total_looks}
 use Rattle.vte_core.specs.Parser.{Reading}
 
 -- Memory was refused to a call after n of its bytes.
@@ -23,15 +23,15 @@ pub record IsRefusedMemory {V A : Type 0} (rate : ℕ) (step : V → Event → V
       → HasReadLong next (stream ++ take n bytes)
   -- The next byte is data of an open operating system command with fewer than 16 `;`.
   pub meets : (stream : List ℕ) → HasReadLong next stream
-      → MeetsData stream (slice_index bytes n)
+      → IsDataOfOpenCommand stream (slice_index bytes n)
   -- The memory doesn't suffice for the data bytes that begin there.
-  pub lacks : LacksMemory next bytes n
+  pub lacks_memory : LacksMemory next bytes n
   -- There wasn't enough for all bytes.
   pub lacks_all : (stream : List ℕ) → HasReadLong parser stream
       → memory_of parser < open_command_size stream + length bytes
   -- At most `rate` looks per byte of the call and 8 more, and at least one per byte read.
-  pub count : counted next.looks ≤ counted parser.looks + rate * length bytes + 8
-  pub at_least : counted parser.looks + n ≤ counted next.looks
+  pub looks_at_most : total_looks next.looks ≤ total_looks parser.looks + rate * length bytes + 8
+  pub looks_at_least : total_looks parser.looks + n ≤ total_looks next.looks
 
 -- A call that may be refused memory. If it isn't, it does what `Reads` says of a parser.
 pub record ReadsLong {V A Answer : Type 0} (rate : ℕ) (step : V → Event → V)

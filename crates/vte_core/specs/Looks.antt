@@ -11,6 +11,10 @@ use Rattle.vte_core.specs.declared.reader.looks.Tally.{Tally}
 use Rattle.vte_core.specs.declared.reader.looks.Tally.TheOpen.{Tally-F}
 use Rattle.vte_core.specs.declared.reader.looks.Tally.TheFolds.{fold-Tally}
 
+-- A number of looks that a function may take for each byte, where a bound is named.
+abbrev pub per_byte : ℕ → ℕ
+per_byte looks = looks
+
 -- The count of the last step, added to the counts before it.
 abbrev pub count_step : Tally-F ℕ → ℕ
 count_step Tally-F.Start = 0
@@ -21,9 +25,9 @@ abbrev pub look_count : Tally → ℕ
 look_count = fold-Tally ℕ count_step
 
 -- The count of a call up to here.
-abbrev pub looked : Reader → ℕ
-looked reader = look_count reader.tally.value
+abbrev pub looks_of : Reader → ℕ
+looks_of reader = look_count reader.tally.value
 
 -- The count of a parser since it was created.
-abbrev pub counted : Looks → ℕ
-counted all = look_count all.tally.value
+abbrev pub total_looks : Looks → ℕ
+total_looks looks = look_count looks.tally.value

@@ -22,7 +22,7 @@ open_at_end stream = kind_to_close (outcome None stream).left
 
 -- `open` of a parser that has read these streams
 pub record SaysOpen (limit : Option ℕ) (HasRead : List ℕ → Type 0) (result : Open) : Type 0 where
-  pub which : (stream : List ℕ) → HasRead stream → result ≡ open_at_end stream
+  pub kind : (stream : List ℕ) → HasRead stream → result ≡ open_at_end stream
   -- If nothing is, it goes on as a new parser, and more bytes give what they give on their own.
   pub closed : result ≡ Nothing → (stream : List ℕ) → HasRead stream
       → HasRead [] × IsFinished limit stream

@@ -18,8 +18,8 @@ pub record Number : Type 0 where
 abbrev pub max_numbers : ℕ
 max_numbers = 32
 
-abbrev pub greatest_number : ℕ
-greatest_number = 0xffff
+abbrev pub max_value : ℕ
+max_value = 0xffff
 
 abbrev pub is_colon : ℕ → Bool
 is_colon b = b == colon
@@ -29,7 +29,7 @@ is_separator b = b == colon || b == semicolon
 
 -- The decimal value, at most 65,535. An empty text is 0.
 abbrev pub number_of : List ℕ → ℕ
-number_of digits = min greatest_number (digits_value 10 digits)
+number_of digits = min max_value (digits_value 10 digits)
 
 -- The numbers with these values, each joined or not.
 abbrev pub numbers_of : List Bool → List ℕ → List Number
@@ -58,20 +58,20 @@ abbrev pub count_of : List (List ℕ) → ℕ
 count_of groups = sum_by length groups
 
 abbrev pub IsSmallNumber : ℕ → Type 0
-IsSmallNumber number = number ≤ greatest_number
+IsSmallNumber number = number ≤ max_value
 
 abbrev pub AreSmall : List ℕ → Type 0
 AreSmall group = All IsSmallNumber group
 
 -- A group has a number.
-abbrev pub IsFilled : List ℕ → Type 0
-IsFilled group = 0 < length group
+abbrev pub IsNonEmpty : List ℕ → Type 0
+IsNonEmpty group = 0 < length group
 
 -- At most 32 numbers, each up to 65,535, in groups that aren't empty.
 pub record AreGroups (groups : List (List ℕ)) : Type 0 where
   pub at_most : count_of groups ≤ max_numbers
   pub small : All AreSmall groups
-  pub filled : All IsFilled groups
+  pub filled : All IsNonEmpty groups
 
 -- The groups of a parameter text. Only its first 32 numbers count.
 unfoldable pub groups_of : List ℕ → List (List ℕ)

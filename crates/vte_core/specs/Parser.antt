@@ -2,7 +2,7 @@
 use Rattle.std.specs.Prelude.{Bool, List, Option, Some, ℕ, ◌≡◌}
 use Rattle.vte_core.specs.declared.parser.machine.Machine.{Machine}
 use Rattle.vte_core.specs.declared.parser.Parser.{Parser}
-use Rattle.vte_core.specs.Looks.{counted}
+use Rattle.vte_core.specs.Looks.{total_looks}
 use Rattle.vte_core.specs.private.ParserFields.{HasReadWithLimit}
 
 -- The parser continues as one that has read the stream: more bytes give the events that they add to
@@ -32,9 +32,9 @@ reading limit machine looks = record {
 }
 
 abbrev pub reading_of : {N : ℕ} → Parser N → Reading
-reading_of {N} parser = reading (Some N) parser.machine (counted parser.looks)
+reading_of {N} parser = reading (Some N) parser.machine (total_looks parser.looks)
 
 -- The copy continues as the parser does: it has read the same, and lost data of the same command.
-pub record IsCopyOfParser (parser copy : Reading) : Type 0 where
-  pub reads : (stream : List ℕ) → parser.has_read stream → copy.has_read stream
-  pub lost : copy.lost ≡ parser.lost
+pub record IsCloneOfParser (parser clone : Reading) : Type 0 where
+  pub reads : (stream : List ℕ) → parser.has_read stream → clone.has_read stream
+  pub lost : clone.lost ≡ parser.lost

@@ -28,8 +28,8 @@ with_bodies limit part (body ∷ bodies) =
     report (events_before_escape part) (with_bodies limit (body_outcome limit body) bodies)
 
 -- The limit of `Parser::new`.
-abbrev pub usual_limit : Option ℕ
-usual_limit = Some 1024
+abbrev pub default_limit : Option ℕ
+default_limit = Some 1024
 
 -- `limit` is how many data bytes of an operating system command are kept.
 unfoldable pub outcome : Option ℕ → List ℕ → Outcome

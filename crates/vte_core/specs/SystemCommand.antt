@@ -14,8 +14,8 @@ bell = 0x07
 abbrev pub max_pieces : ℕ
 max_pieces = 16
 
-abbrev pub ends_command : ℕ → Bool
-ends_command b = is_cancel (class_of b) || b == bell
+abbrev pub ends_system_command : ℕ → Bool
+ends_system_command b = is_cancel (class_of b) || b == bell
 
 -- Whether an item is data, not a separator.
 abbrev pub is_data_item : ℕ → Bool
@@ -57,19 +57,20 @@ loses_data limit items =
     nat_lt (length (concat (pieces_of limit items))) (length (filter is_data_item items))
 
 -- BEL dispatches the command. CAN and SUB dispatch it and are executed.
-abbrev pub command_end : List (List ℕ) → ℕ → List Event
-command_end pieces end =
+abbrev pub system_command_end : List (List ℕ) → ℕ → List Event
+system_command_end pieces end =
     if end == bell then OscDispatch pieces true ∷ []
     else OscDispatch pieces false ∷ Execute end ∷ []
 
 -- The end, and the text that follows it. Without an end the command stays open.
 abbrev pub system_command_rest : List (List ℕ) → Bool → List ℕ → Outcome
 system_command_rest pieces lost [] = leaves (CommandToClose pieces lost)
-system_command_rest pieces lost (end ∷ text) = report (command_end pieces end) (text_outcome text)
+system_command_rest pieces lost (end ∷ text) =
+    report (system_command_end pieces end) (text_outcome text)
 
 -- The end is the first of BEL, CAN and SUB.
 unfoldable pub system_command_outcome : Option ℕ → List ℕ → Outcome
 system_command_outcome limit bytes =
-    let cut = cut_before ends_command bytes in
-    let items = items_of cut.inside in
+    let cut = cut_before ends_system_command bytes in
+    let items = items_of cut.before in
     system_command_rest (pieces_of limit items) (loses_data limit items) cut.rest

@@ -1,6 +1,6 @@
 //! The buffer for the data bytes of an operating system command.
 ghost use Rattle.std.specs.Prelude.{drop, false, length, List, None, not, Option, option_map, Some, take, true, unwrap_or, vec_capacity, ℕ, [], ◌++◌, ◌+◌, ◌-◌, ◌<◌, ◌≡◌, ◌≤◌};
-ghost use Rattle.vte_core.specs.private.Prelude.{fitting, has_room, HasCapacity, IsRange, LooksAtMost, ReservesCapacity};
+ghost use Rattle.vte_core.specs.private.Prelude.{ArePositions, fitting, has_room, HasCapacity, LooksAtMost, ReservesCapacity};
 
 use crate::reader::{Input, Reader};
 use arrayvec::ArrayVec;
@@ -25,7 +25,7 @@ pub(crate) trait Buffer {
 
     /// Drops the held bytes. Their memory stays.
     fn clear(&mut self)
-        ensures empty { held self.new ≡ [] }
+        ensures holds_nothing { held self.new ≡ [] }
         ensures memory { capacity self.new ≡ capacity self.old };
 
     /// Returns whether the limit is reached.
@@ -35,13 +35,13 @@ pub(crate) trait Buffer {
     /// Takes memory for this many more bytes, and returns whether it is there. With a limit, it
     /// always is.
     fn reserve(&mut self, more: usize) -> bool
-        ensures same { held self.new ≡ held self.old }
+        ensures same_bytes { held self.new ≡ held self.old }
         ensures reserves { ReservesCapacity limit (length (held self.new)) more (capacity self.old)
             (capacity self.new) result };
 
     /// Adds the bytes of an input from one position to another, up to the limit.
     fn append(&mut self, reader: &mut Reader, input: Input<'_>, from: usize, to: usize)
-        requires range { IsRange input.bytes.now from to }
+        requires range { ArePositions input.bytes.now from to }
         requires memory { HasCapacity limit (capacity self.old) (length (held self.old))
             (to - from) }
         ensures appended { held self.new
@@ -49,11 +49,11 @@ pub(crate) trait Buffer {
             ++ fitting limit (length (held self.old))
             (take (to - from) (drop from input.entry.bytes.now)) }
         ensures memory { capacity self.old ≤ capacity self.new }
-        ensures at_most { LooksAtMost (to - from) reader.old reader.new };
+        ensures looks_at_most { LooksAtMost (to - from) reader.old reader.new };
 }
 
-/// An array, once there are bytes: to clear it takes time, and a parser that C makes for one call
-/// seldom needs it.
+/// An array that is made when the first byte comes: clearing one takes time, and a parser that C
+/// makes for one call seldom needs it.
 impl<const N: usize> Buffer for Option<ArrayVec<u8, N>> {
     ghost limit = { Some N };
 

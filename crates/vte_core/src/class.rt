@@ -2,7 +2,7 @@
 #![tactic(auto, unfolding(crate::specs::Class::class_of))]
 
 ghost use Rattle.std.specs.Prelude.{false, MatchOption, true, ◌-◌, ◌<◌, ◌≡◌, ◌≤◌};
-ghost use Rattle.vte_core.specs.private.Prelude.{begins_ignored_string, class_of, dispatches_escape, ends_body, is_device_data, is_final, is_head_byte, is_intermediate, is_layout, is_parameter_text, is_plain_control, is_separator, IsCommandData};
+ghost use Rattle.vte_core.specs.private.Prelude.{begins_ignored_string, class_of, dispatches_escape, ends_sequence, is_device_data, is_final, is_head_byte, is_intermediate, is_layout, is_parameter_byte, is_plain_control, is_separator, IsCommandData};
 
 /// CAN: ends whatever is open.
 const CANCEL: u8 = 0x18;
@@ -29,29 +29,28 @@ pub(crate) fn is_layout(byte: u8) -> bool
 }
 
 /// Returns whether a byte is CAN, SUB or ESC, which end whatever is open.
-pub(crate) fn ends_body(byte: u8) -> bool
-    ensures { result ≡ ends_body (class_of byte) }
+pub(crate) fn ends_sequence(byte: u8) -> bool
+    ensures { result ≡ ends_sequence (class_of byte) }
 {
     byte == CANCEL || byte == SUBSTITUTE || byte == ESCAPE
 }
 
-/// Returns whether a byte is surely none of CAN, SUB and ESC, because it isn't one of 18..1B, which
-/// compilers test by one comparison.
+/// Returns whether a byte is outside 18..1B, and so none of CAN, SUB and ESC. Compilers test this
+/// by one comparison.
 pub(crate) fn cannot_end(byte: u8) -> bool
-    ensures { result ≡ true → ends_body (class_of byte) ≡ false }
+    ensures { result ≡ true → ends_sequence (class_of byte) ≡ false }
 {
     byte < CANCEL || byte > ESCAPE
 }
 
-/// Returns whether a byte is one of the data of a device control string: plain controls and
-/// 20..7E.
+/// Returns whether a byte is data of a device control string: a plain control or 20..7E.
 pub(crate) fn is_device_data(byte: u8) -> bool
     ensures { result ≡ is_device_data (class_of byte) }
 {
     (byte >= 0x20 && byte < 0x7f) || is_plain_control(byte)
 }
 
-/// Returns whether a byte is data of an operating system command, and no `;`.
+/// Returns whether a byte is data of an operating system command, other than `;`.
 #[inline(always)]
 pub(crate) fn is_command_data(byte: u8) -> bool
     ensures data { result ≡ true → IsCommandData byte }
@@ -71,22 +70,22 @@ pub(crate) fn is_intermediate(byte: u8) -> bool
 /// Returns the value of a digit `0`..`9`.
 pub(crate) fn digit_of(byte: u8) -> Option<u32>
     ensures { MatchOption result
-        (is_separator byte ≡ false → is_parameter_text (class_of byte) ≡ false)
+        (is_separator byte ≡ false → is_parameter_byte (class_of byte) ≡ false)
         (λ digit. (48 ≤ byte) × (byte < 58) × (digit ≡ byte - 48)
-        × (is_parameter_text (class_of byte) ≡ true)) }
+        × (is_parameter_byte (class_of byte) ≡ true)) }
 {
     let digit = u32::from(byte).wrapping_sub(u32::from(b'0'));
     if digit < 10 { Some(digit) } else { None }
 }
 
 /// Returns whether a byte is a digit or a separator `0`..`;`.
-pub(crate) fn is_parameter_text(byte: u8) -> bool
-    ensures { result ≡ is_parameter_text (class_of byte) }
+pub(crate) fn is_parameter_byte(byte: u8) -> bool
+    ensures { result ≡ is_parameter_byte (class_of byte) }
 {
     byte >= b'0' && byte <= b';'
 }
 
-/// Returns whether a byte is part of a head: 20..3F.
+/// Returns whether a byte belongs to a head: 20..3F.
 pub(crate) fn is_head_byte(byte: u8) -> bool
     ensures { result ≡ is_head_byte (class_of byte) }
 {
@@ -108,8 +107,7 @@ pub(crate) fn dispatches_escape(byte: u8) -> bool
     byte >= 0x30 && byte < 0x7f
 }
 
-/// Returns whether a byte begins a string that means nothing after ESC: `X`, `^` and `_` for SOS,
-/// PM and APC.
+/// Returns whether a byte after ESC begins an ignored string: `X` (SOS), `^` (PM) or `_` (APC).
 pub(crate) fn begins_ignored_string(byte: u8) -> bool
     ensures { result ≡ begins_ignored_string byte }
 {

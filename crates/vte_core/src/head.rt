@@ -1,10 +1,10 @@
 //! What is collected of an escape sequence, and of the head of a control sequence or a device
 //! control string.
 ghost use Rattle.std.specs.Prelude.{false, IfSome, IsTrue, length, List, min, true, ℕ, [], ◌++◌, ◌+◌, ◌↔◌, ◌∷◌, ◌≡◌, ◌≤◌, ◌⊎◌};
-ghost use Rattle.vte_core.specs.private.Prelude.{class_of, CountsNumbers, HasReadHead, HoldsHead, HoldsIntermediates, HoldsNumbers, is_head_byte, is_parameter_text, IsReady, ReadsHeadUpTo, SameIntermediates, SameNumbers};
-ghost use Rattle.vte_core.specs.private.Prelude.{looked, with_open_number};
+ghost use Rattle.vte_core.specs.private.Prelude.{class_of, CountsNumbers, HasReadHead, HoldsHead, HoldsIntermediates, HoldsNumbers, HoldsWholeHead, is_head_byte, is_parameter_byte, ReadsHeadUpTo, SameIntermediates, SameNumbers};
+ghost use Rattle.vte_core.specs.private.Prelude.{looks_of, with_open_number};
 
-use crate::class::{digit_of, is_head_byte, is_intermediate, is_parameter_text};
+use crate::class::{digit_of, is_head_byte, is_intermediate, is_parameter_byte};
 use crate::params::Params;
 use crate::reader::{Input, Reader};
 use arrayvec::ArrayVec;
@@ -34,12 +34,13 @@ impl HeadProgress {
     }
 }
 
-/// How far a head has been read, and up to which position. The byte there was looked at.
+/// How far a head has been read, and up to which position. `next_byte` is the byte there, if there
+/// is one.
 #[derive(Clone, Copy)]
 pub(crate) struct HeadEnd {
     pub(crate) progress: HeadProgress,
     pub(crate) position: usize,
-    pub(crate) next: Option<u8>,
+    pub(crate) next_byte: Option<u8>,
 }
 
 /// What is collected of a sequence: intermediates and parameters.
@@ -71,8 +72,8 @@ impl Collected {
         }
     }
 
-    /// Forgets the intermediates.
-    pub(crate) fn begin_escape(&mut self)
+    /// Removes the intermediates.
+    pub(crate) fn clear_intermediates(&mut self)
         ensures { HoldsIntermediates self.new [] }
     {
         // proof: a new vector costs less there, as in `Params`.
@@ -81,8 +82,8 @@ impl Collected {
         self.too_many_intermediates = false;
     }
 
-    /// Forgets the numbers, before a head. The ESC before it has forgotten the intermediates.
-    pub(crate) fn begin_head(&mut self)
+    /// Removes the numbers before a head. The ESC before it has removed the intermediates.
+    pub(crate) fn clear_numbers(&mut self)
         ensures head { HoldsIntermediates self.old [] → HoldsHead self.new HeadProgress.Entry [] }
         ensures joined { self.new.joined ≡ false }
     {
@@ -102,14 +103,14 @@ impl Collected {
         }
     }
 
-    /// Moves a number that was read into the parameters, or returns true if there are 32 already.
-    /// `joined` is the field: a caller that knows its value passes a constant, and needn't load it.
+    /// Adds a number to the parameters, or returns true if there are 32 already. `joined` is the
+    /// value of the field: a caller that knows it passes a constant, and needn't load it.
     #[inline(always)]
-    fn settle_number(&mut self, joined: bool, number: u16) -> bool
+    fn store_number(&mut self, joined: bool, number: u16) -> bool
         requires { self.old.joined ≡ joined }
-        ensures settles { (text : List ℕ) → CountsNumbers (with_open_number self.old number) text
+        ensures holds { (text : List ℕ) → CountsNumbers (with_open_number self.old number) text
             → HoldsNumbers self.new result text }
-        ensures same { SameIntermediates self.old self.new }
+        ensures same_intermediates { SameIntermediates self.old self.new }
         ensures joined { self.new.joined ≡ self.old.joined }
     {
         if self.params.is_full() {
@@ -125,40 +126,39 @@ impl Collected {
         requires { self.old.joined ≡ false }
         ensures counts { (text : List ℕ) → CountsNumbers self.old text
             → CountsNumbers self.new (text ++ 0x3b ∷ []) }
-        ensures same { SameIntermediates self.old self.new }
+        ensures same_intermediates { SameIntermediates self.old self.new }
     {
-        let _ = self.settle_number(false, self.number);
+        let _ = self.store_number(false, self.number);
         self.number = 0;
     }
 
     /// Collects a digit or a separator.
     #[inline(always)]
     fn collect_parameter_byte(&mut self, byte: u8)
-        requires { is_parameter_text (class_of byte) ≡ true }
+        requires { is_parameter_byte (class_of byte) ≡ true }
         ensures counts { (text : List ℕ) → CountsNumbers self.old text
             → CountsNumbers self.new (text ++ byte ∷ []) }
-        ensures same { SameIntermediates self.old self.new }
+        ensures same_intermediates { SameIntermediates self.old self.new }
     {
         if let Some(digit) = digit_of(byte) {
             // 65,535 stands for all greater numbers.
             let number = (u32::from(self.number) * 10 + digit).min(u32::from(u16::MAX));
             self.number = number as u16;
         } else {
-            let _ = self.settle_number(self.joined, self.number);
+            let _ = self.store_number(self.joined, self.number);
             self.joined = byte == b':';
             self.number = 0;
         }
     }
 
-    /// Collects a byte of a head, or finds the head ill-shaped. Returns how far the head has been
-    /// read then.
+    /// Collects a byte of a head, or finds the head ill-shaped. Returns the new progress.
     #[inline(always)]
     fn collect_head_byte(&mut self, progress: HeadProgress, byte: u8) -> HeadProgress
         requires { is_head_byte (class_of byte) ≡ true }
         ensures { (head : List ℕ) → HasReadHead self.old progress head
             → HasReadHead self.new result (head ++ byte ∷ []) }
     {
-        if is_parameter_text(byte) && progress.may_have_parameters() {
+        if is_parameter_byte(byte) && progress.may_have_parameters() {
             self.collect_parameter_byte(byte);
             return HeadProgress::Parameters;
         }
@@ -177,42 +177,42 @@ impl Collected {
         HeadProgress::IllShaped
     }
 
-    /// Reads the digits at a position of a head, if any, and `;` too if there may be `several`
-    /// numbers. Most heads have nothing else.
+    /// Reads the digits at a position in a head, if any, and also `;` if `reads_separators`. Most
+    /// heads have nothing else.
     #[inline(always)]
     pub(crate) fn read_numbers(
         &mut self,
         reader: &mut Reader,
         reached: HeadProgress,
-        several: bool,
+        reads_separators: bool,
         input: Input<'_>,
         from: usize,
     ) -> HeadEnd
         requires in_order { from ≤ length input.bytes.now }
         requires may_have_parameters { reached ≡ HeadProgress.Entry
             ⊎ reached ≡ HeadProgress.Parameters }
-        requires alone { several ≡ true → self.old.joined ≡ false }
+        requires separators_only_if_not_joined { reads_separators ≡ true → self.old.joined ≡ false }
         ensures reads { ReadsHeadUpTo input.entry.bytes.now from reached result self.old self.new }
         ensures may_have_parameters { result.progress ≡ HeadProgress.Entry
             ⊎ result.progress ≡ HeadProgress.Parameters }
         ensures joined { self.new.joined ≡ self.old.joined }
-        ensures count { looked reader.new + from
-            ≡ looked reader.old + min (result.position + 1) (length input.entry.bytes.now) }
+        ensures looks { looks_of reader.new + from
+            ≡ looks_of reader.old + min (result.position + 1) (length input.entry.bytes.now) }
     {
         // A local, because the field would be cut to 16 bits and stored at each digit.
         let mut number = u32::from(self.number);
         let mut position = from;
-        let mut next = None;
+        let mut next_byte = None;
         while position < input.len() {
             let byte = reader.byte_at(input, position);
             if let Some(digit) = digit_of(byte) {
                 // 65,535 stands for all greater numbers.
                 number = (number * 10 + digit).min(u32::from(u16::MAX));
-            } else if several && byte == b';' {
-                let _ = self.settle_number(false, number as u16);
+            } else if reads_separators && byte == b';' {
+                let _ = self.store_number(false, number as u16);
                 number = 0;
             } else {
-                next = Some(byte);
+                next_byte = Some(byte);
                 break;
             }
             position += 1;
@@ -226,12 +226,12 @@ impl Collected {
         HeadEnd {
             progress,
             position,
-            next,
+            next_byte,
         }
     }
 
-    /// Reads the rest of a head that has come to `reached`, up to the first byte that isn't part
-    /// of it.
+    /// Reads the rest of a head, which has been read as far as `reached`, up to the first byte that
+    /// doesn't belong to it.
     #[inline(always)]
     pub(crate) fn read_head(
         &mut self,
@@ -242,17 +242,18 @@ impl Collected {
     ) -> HeadEnd
         requires { from ≤ length input.bytes.now }
         ensures reads { ReadsHeadUpTo input.entry.bytes.now from reached result self.old self.new }
-        ensures other { IfSome result.next (λ byte. is_head_byte (class_of byte) ≡ false) }
-        ensures count { looked reader.new + from
-            ≡ looked reader.old + min (result.position + 1) (length input.entry.bytes.now) }
+        ensures next_not_in_head { IfSome result.next_byte (λ byte. is_head_byte (class_of byte)
+            ≡ false) }
+        ensures looks { looks_of reader.new + from
+            ≡ looks_of reader.old + min (result.position + 1) (length input.entry.bytes.now) }
     {
         let mut progress = reached;
         let mut position = from;
-        let mut next = None;
+        let mut next_byte = None;
         while position < input.len() {
             let byte = reader.byte_at(input, position);
             if !is_head_byte(byte) {
-                next = Some(byte);
+                next_byte = Some(byte);
                 break;
             }
             progress = self.collect_head_byte(progress, byte);
@@ -261,19 +262,19 @@ impl Collected {
         HeadEnd {
             progress,
             position,
-            next,
+            next_byte,
         }
     }
 
-    /// Moves the last number into the parameters, and returns whether there were too many numbers
-    /// or intermediates. `joined` is the field, as in `settle_number`.
+    /// Adds the last number to the parameters, and returns whether there were too many numbers or
+    /// intermediates. `joined` is the value of the field, as in `store_number`.
     #[inline(always)]
     pub(crate) fn end_head(&mut self, joined: bool) -> bool
         requires { self.old.joined ≡ joined }
         ensures { (progress : HeadProgress) (head : List ℕ) → HoldsHead self.old progress head
-            → IsReady self.new result head }
+            → HoldsWholeHead self.new result head }
     {
-        let too_many_numbers = self.settle_number(joined, self.number);
+        let too_many_numbers = self.store_number(joined, self.number);
         self.too_many_intermediates || too_many_numbers
     }
 }

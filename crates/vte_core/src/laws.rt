@@ -3,17 +3,17 @@
 ghost use Rattle.std.specs.Prelude.{All, chars, IsUtf8, List, map, None, Option, Some, true, ℕ, [], ◌+◌, ◌^◌, ◌∷◌, ◌≡◌, ◌≤◌};
 ghost use Rattle.std.specs.Char.{encode_utf8, IsScalar};
 ghost use Rattle.std.specs.List.{concat, flat_map};
-ghost use Rattle.vte_core.specs.EventBounds.{AreFromOneByte, IsBounded};
-ghost use Rattle.vte_core.specs.Division.{AreRightSegments, IsAllDivided};
-ghost use Rattle.vte_core.specs.Examples.{AreRight, control_sequence_examples, device_control_examples, escape_examples, full_store_examples, system_command_examples, text_examples};
-ghost use Rattle.vte_core.specs.Examples.{empty_store_examples, ignored_string_examples, store_of_five_examples, store_of_two_examples};
-ghost use Rattle.vte_core.specs.Examples.{AreDivided, AreLeft, AreStops, LeavesTextToRun, open_command_examples, parts_examples, stop_examples};
-ghost use Rattle.vte_core.specs.Examples.{AreOpen, sequence_end_examples, string_end_examples, text_end_examples};
+ghost use Rattle.vte_core.specs.EventBounds.{AreBrief, IsBounded};
+ghost use Rattle.vte_core.specs.Division.{AreCorrectSegments, SegmentsJoin};
+ghost use Rattle.vte_core.specs.Examples.{control_sequence_examples, device_control_examples, escape_examples, full_buffer_examples, HaveEvents, system_command_examples, text_examples};
+ghost use Rattle.vte_core.specs.Examples.{buffer_of_five_examples, buffer_of_two_examples, empty_buffer_examples, ignored_string_examples};
+ghost use Rattle.vte_core.specs.Examples.{AreDivided, AreStops, LeaveCommands, LeavesTextToRun, open_command_examples, parts_examples, stop_examples};
+ghost use Rattle.vte_core.specs.Examples.{LeaveOpen, sequence_end_examples, string_end_examples, text_end_examples};
 ghost use Rattle.vte_core.specs.Laws.{AreParameters, AreWellFormed, CountsData, DispatchesShown, GivesCharacters, Grows, IsDecoded, IsEncoding, OpensLate, OpensSilently, Resyncs};
 ghost use Rattle.vte_core.specs.Event.{after};
 ghost use Rattle.vte_core.specs.EarlyStopLaws.{GoesOnFromPositions, ReportsUnits};
 ghost use Rattle.vte_core.specs.Parts.{AreCuts, EndsWithEscape, GiveEvents, parts_at};
-ghost use Rattle.vte_core.specs.Stream.{added, events, usual_limit};
+ghost use Rattle.vte_core.specs.Stream.{added, default_limit, events};
 ghost use Rattle.vte_core.specs.Utf8.{is_well_formed, segments};
 
 use crate::parser::Parser;
@@ -71,7 +71,7 @@ pub fn commands_are_counted()
 #[tactic(auto, using(crate::proofs::lemmas::streams::StreamSteps::bytes_are_brief))]
 pub fn bytes_are_brief()
     ensures { (limit : Option ℕ) (stream : List ℕ) (byte : ℕ)
-        → AreFromOneByte limit (added limit stream (byte ∷ [])) }
+        → AreBrief limit (added limit stream (byte ∷ [])) }
 {}
 
 /// A byte after which a character is open reports nothing, or U+FFFD if it broke another one.
@@ -115,9 +115,9 @@ pub fn events_of_parts()
 /// there, else the longest truncated one, else one byte. No other division has this property.
 #[tactic(auto, using(crate::proofs::lemmas::dividing::Division::all_divided, crate::proofs::lemmas::dividing::Division::are_right_segments, crate::proofs::lemmas::dividing::Division::only_division))]
 pub fn maximal_subparts()
-    ensures all { (text : List ℕ) → IsAllDivided text }
-    ensures right { (text : List ℕ) → AreRightSegments (segments text) }
-    ensures only { (division : List (List ℕ)) → AreRightSegments division
+    ensures all { (text : List ℕ) → SegmentsJoin text }
+    ensures segments_are_correct { (text : List ℕ) → AreCorrectSegments (segments text) }
+    ensures unique_division { (division : List (List ℕ)) → AreCorrectSegments division
         → segments (concat division) ≡ division }
 {}
 
@@ -140,22 +140,22 @@ pub fn text_by_characters()
 
 /// The definitions give what was worked out by hand for streams of every shape.
 pub fn worked_examples()
-    ensures text { (limit : Option ℕ) → AreRight limit text_examples }
-    ensures escape { (limit : Option ℕ) → AreRight limit escape_examples }
-    ensures control_sequence { (limit : Option ℕ) → AreRight limit control_sequence_examples }
-    ensures device_control { (limit : Option ℕ) → AreRight limit device_control_examples }
-    ensures system_command { AreRight usual_limit system_command_examples }
-    ensures no_limit { AreRight None system_command_examples }
-    ensures full_store { AreRight usual_limit full_store_examples }
-    ensures store_of_five { AreRight (Some 5) store_of_five_examples }
-    ensures store_of_two { AreRight (Some 2) store_of_two_examples }
-    ensures open_commands { AreLeft (Some 2) open_command_examples }
-    ensures empty_store { AreRight (Some 0) empty_store_examples }
-    ensures ignored_string { (limit : Option ℕ) → AreRight limit ignored_string_examples }
+    ensures text { (limit : Option ℕ) → HaveEvents limit text_examples }
+    ensures escape { (limit : Option ℕ) → HaveEvents limit escape_examples }
+    ensures control_sequence { (limit : Option ℕ) → HaveEvents limit control_sequence_examples }
+    ensures device_control { (limit : Option ℕ) → HaveEvents limit device_control_examples }
+    ensures system_command { HaveEvents default_limit system_command_examples }
+    ensures no_limit { HaveEvents None system_command_examples }
+    ensures full_buffer { HaveEvents default_limit full_buffer_examples }
+    ensures buffer_of_five { HaveEvents (Some 5) buffer_of_five_examples }
+    ensures buffer_of_two { HaveEvents (Some 2) buffer_of_two_examples }
+    ensures open_commands { LeaveCommands (Some 2) open_command_examples }
+    ensures empty_buffer { HaveEvents (Some 0) empty_buffer_examples }
+    ensures ignored_string { (limit : Option ℕ) → HaveEvents limit ignored_string_examples }
     ensures stops { (limit : Option ℕ) → AreStops limit stop_examples }
     ensures outside_runs { (limit : Option ℕ) → LeavesTextToRun limit }
-    ensures text_ends { AreOpen text_end_examples }
-    ensures sequence_ends { AreOpen sequence_end_examples }
-    ensures string_ends { AreOpen string_end_examples }
-    ensures parts { AreDivided usual_limit parts_examples }
+    ensures text_ends { LeaveOpen text_end_examples }
+    ensures sequence_ends { LeaveOpen sequence_end_examples }
+    ensures string_ends { LeaveOpen string_end_examples }
+    ensures parts { AreDivided default_limit parts_examples }
 {}

@@ -4,7 +4,7 @@ ghost use Rattle.std.specs.Fmt.{decimal, WritesOnOk};
 ghost use Rattle.std.specs.Iterator.{at_most, item_count, UpTo, YieldsFirstRef};
 ghost use Rattle.std.specs.Iterator.SizeHint.{IsWithinCount};
 ghost use Rattle.std.specs.List.{join_with_byte};
-ghost use Rattle.vte_core.specs.private.Store.{AreFlatGroups, AreParts, IsTakenOff};
+ghost use Rattle.vte_core.specs.private.Store.{AreFlatGroups, AreRawParts, IsLastPopped};
 ghost use Rattle.vte_core.specs.Parameters.{AreGroups, colon, count_of, max_numbers, shown, with_number};
 
 use arrayvec::ArrayVec;
@@ -91,29 +91,30 @@ impl Params {
         requires { count_of self.old < max_numbers }
         ensures { self.new ≡ with_number self.old (record { joined = joined; value = value }) }
     {
-        let length = take_joined(&mut self.lengths, joined);
+        let length = pop_if_joined(&mut self.lengths, joined);
         self.numbers.push(value);
         self.lengths.push(length.unwrap_or(0) + 1);
     }
 
-    /// How many numbers are in each group, and all numbers in a row.
+    /// Returns how many numbers are in each group, and all numbers in a row.
     // cargo: #[cfg(feature = "__own")]
-    pub(crate) fn parts(&self) -> (&[u8], &[u16])
-        ensures { AreParts result.0.now result.1.now self.now }
+    pub(crate) fn raw_parts(&self) -> (&[u8], &[u16])
+        ensures { AreRawParts result.0.now result.1.now self.now }
     {
         (self.lengths.as_slice(), self.numbers.as_slice())
     }
 
-    /// Returns the parameters with these parts, or none if the lengths don't cover all numbers.
+    /// Returns the parameters with these numbers in groups of these lengths, or none if the lengths
+    /// don't cover all numbers.
     // cargo: #[cfg(feature = "__own")]
-    pub(crate) fn from_parts(
+    pub(crate) fn from_raw_parts(
         lengths: ArrayVec<u8, MAX_NUMBERS>,
         numbers: ArrayVec<u16, MAX_NUMBERS>,
     ) -> Self
-        ensures { (groups : List (List ℕ)) → AreParts lengths.items numbers.items groups
+        ensures { (groups : List (List ℕ)) → AreRawParts lengths.items numbers.items groups
             → result ≡ groups }
     {
-        if are_lengths(lengths.as_slice(), numbers.as_slice()) {
+        if are_flat_groups(lengths.as_slice(), numbers.as_slice()) {
             Params { numbers, lengths }
         } else {
             Params::new()
@@ -148,10 +149,10 @@ impl Params {
     }
 }
 
-/// Removes the length of the last group if the next number joins it.
+/// Removes and returns the length of the last group, if the next number joins it.
 // cargo: #[inline]
-fn take_joined(lengths: &mut ArrayVec<u8, MAX_NUMBERS>, joined: bool) -> Option<u8>
-    ensures { IsTakenOff joined lengths.old.items lengths.new.items result }
+fn pop_if_joined(lengths: &mut ArrayVec<u8, MAX_NUMBERS>, joined: bool) -> Option<u8>
+    ensures { IsLastPopped joined lengths.old.items lengths.new.items result }
 {
     if joined { lengths.pop() } else { None }
 }
@@ -159,7 +160,7 @@ fn take_joined(lengths: &mut ArrayVec<u8, MAX_NUMBERS>, joined: bool) -> Option<
 /// Returns whether these are the lengths of groups with these numbers.
 #[tactic(auto, using(std::proofs::lemmas::Grind::elements, crate::proofs::lemmas::fields::Numbers::sum_take_more, crate::proofs::lemmas::fields::Numbers::sum_take_below, crate::proofs::lemmas::fields::Numbers::filled_take_more))]
 // cargo: #[cfg(feature = "__own")]
-fn are_lengths(lengths: &[u8], numbers: &[u16]) -> bool
+fn are_flat_groups(lengths: &[u8], numbers: &[u16]) -> bool
     ensures { IsTrue result ↔ AreFlatGroups lengths.now numbers.now }
 {
     let mut left = numbers.len();
@@ -211,7 +212,7 @@ impl<'a> Iterator for ParamsIter<'a> {
     }
 
     fn size_hint(&self) -> (usize, Option<usize>)
-        ensures exact { result ≡ (length self.now, Some (length self.now)) }
+        ensures value { result ≡ (length self.now, Some (length self.now)) }
         ensures lower { IsWithinCount result.0 (at_most (length self.now)) }
         ensures upper { IfSome result.1 (UpTo (at_most (length self.now))) }
     {

@@ -4,7 +4,7 @@ ghost use Rattle.vte_core.specs.Advance.{ReadsBytes, ReadsUntilTerminated};
 ghost use Rattle.vte_core.specs.EarlyStop.{NoCharacterStops};
 ghost use Rattle.vte_core.specs.Open.{SaysOpen, SaysWhetherOpen};
 ghost use Rattle.vte_core.specs.Outcome.{SaysLoss};
-ghost use Rattle.vte_core.specs.Parser.{HasRead, IsCopyOfParser, lost_data, reading_of};
+ghost use Rattle.vte_core.specs.Parser.{HasRead, IsCloneOfParser, lost_data, reading_of};
 ghost use Rattle.vte_core.specs.Stream.{outcome};
 
 mod character;
@@ -113,7 +113,7 @@ impl<const OSC_RAW_BUF_SIZE: usize> Default for Parser<OSC_RAW_BUF_SIZE> {
 
 /// A clone goes on as the parser would.
 impl<const OSC_RAW_BUF_SIZE: usize> Clone for Parser<OSC_RAW_BUF_SIZE> {
-    ghost is_clone = { λ parser clone. IsCopyOfParser (reading_of parser) (reading_of clone) };
+    ghost is_clone = { λ parser clone. IsCloneOfParser (reading_of parser) (reading_of clone) };
 
     // A clone doesn't allocate.
     ghost is_infallible = { λ _. ⊤ };
@@ -122,7 +122,7 @@ impl<const OSC_RAW_BUF_SIZE: usize> Clone for Parser<OSC_RAW_BUF_SIZE> {
         let mut clone = Self::new_with_size();
         clone.machine.state = self.machine.state;
         clone.machine.collected = self.machine.collected.clone()?;
-        let (bytes, ends, lost) = self.machine.command.parts();
+        let (bytes, ends, lost) = self.machine.command.raw_parts();
         clone.machine.command.restore(bytes, ends, lost);
         Ok(clone)
     }
@@ -157,8 +157,8 @@ impl<const OSC_RAW_BUF_SIZE: usize> Parser<OSC_RAW_BUF_SIZE> {
         self.machine.is_open()
     }
 
-    /// Returns whether the operating system command that is open lost data bytes, or if none is
-    /// open, the last one: those that don't fit into the buffer, and those after the 16th piece.
+    /// Returns whether the open operating system command has lost data bytes, or the last one if
+    /// none is open. It loses those that don't fit into the buffer, and those after the 16th piece.
     pub fn command_lost_data(&self) -> bool
         ensures lost { result ≡ lost_data self.now }
         ensures open { (stream : List ℕ) → HasRead self.now stream

@@ -49,10 +49,10 @@ pub trait Perform {
     fn unhook(&mut self)
         ensures { value_of self.new ≡ step (value_of self.old) Unhook };
 
-    /// Called when an operating system command ends, with its pieces, which are 1 to 16, and
-    /// whether BEL ended it.
+    /// Called when an operating system command ends, with its 1 to 16 pieces, and whether BEL ended
+    /// it.
     ///
-    /// A command that CAN, SUB or ESC cancelled comes as one that `ESC \` ended. The next event
+    /// A command that CAN, SUB or ESC cancelled comes like one that `ESC \` ended. The next event
     /// tells: [`execute`](Self::execute) of CAN (18) or SUB (1A) if one of these cancelled it, and
     /// [`esc_dispatch`](Self::esc_dispatch) with the byte `\` if it ended. What follows the 16th
     /// piece, and what is over the parser's limit, is dropped without an event: a link (OSC 8) is
@@ -104,8 +104,8 @@ pub trait PerformText: Perform {
     /// Called for characters to print, at least one, in order. None is a control, except HT, LF and
     /// CR if the performer [keeps](Self::keeps_layout) these.
     fn print_text(&mut self, text: &str)
-        requires some { 0 < length text.now }
-        requires plain { IsRunText layout text.now }
+        requires not_empty { 0 < length text.now }
+        requires is_run_text { IsRunText layout text.now }
         ensures { Self.value_of self.new
             ≡ after Self.step (Self.value_of self.old) (map (run_event layout) (chars text.now)) };
 
@@ -129,7 +129,7 @@ pub trait PerformText: Perform {
     /// # assert_eq!(image.data, b"#0~~");
     /// ```
     fn put_slice(&mut self, bytes: &[u8])
-        requires some { 0 < length bytes.now }
+        requires not_empty { 0 < length bytes.now }
         ensures { Self.value_of self.new
             ≡ after Self.step (Self.value_of self.old) (map Put bytes.now) }
     {
@@ -139,7 +139,7 @@ pub trait PerformText: Perform {
     }
 }
 
-/// A performer that no character of a run terminates, so that it needn't be asked there.
+/// A performer that isn't terminated by any character of a run, so it needn't be asked inside one.
 // cargo lacks: only proofs use it
 pub trait PerformThroughText: PerformText {
     ghost no_stop: { NoCharacterStops Self.layout Self.step Self.is_terminated };

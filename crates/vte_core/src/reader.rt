@@ -1,11 +1,15 @@
 //! The only module that has the bytes of a call, and the only way to report events.
-// proof: It counts both, for contracts alone. Each form of `advance` makes a [`Chunk`] of its
-// bytes, and passes nothing else on. The one [`Reader`] of a chunk is the only way to the bytes of
-// its [`Input`], and a [`CountedPerform`] takes events with a reader alone. No other module can
-// make one of these. Bytes leave this module one by one, in blocks, as a copy in a buffer, or as
-// text or data: for a performer, or in a [`Run`] for the caller.
+//!
+//! A function of the parser that takes a byte and its position doesn't read that byte again: its
+//! caller has read it.
+// proof: The module counts the bytes that it loads and the events that it reports, for contracts
+// alone. Each form of `advance` makes a [`Chunk`] of its bytes, and passes nothing else on. The one
+// [`Reader`] of a chunk is the only way to the bytes of its [`Input`], and a [`CountedPerform`]
+// takes events with a reader alone. No other module can make one of these. Bytes leave this module
+// one by one, in blocks, as a copy in a buffer, or as text or data: for a performer, or in a
+// [`Run`] for the caller.
 ghost use Rattle.std.specs.Prelude.{drop, false, IsUtf8, length, map, MatchOption, slice_index, take, true, vec_capacity, ℕ, [], ◌++◌, ◌+◌, ◌-◌, ◌<◌, ◌∷◌, ◌≡◌, ◌≤◌};
-ghost use Rattle.vte_core.specs.private.Prelude.{after, AreOfKind, ArePut, character_event, from_to, is_in, IsRange, IsRun, IsTaken, IsWindow, looked, malformed_event, PrintsRun, Put, Reports};
+ghost use Rattle.vte_core.specs.private.Prelude.{after, AreOfKind, ArePositions, ArePut, character_event, from_to, is_in, IsRun, IsTaken, IsWindow, looks_of, malformed_event, PrintsRun, Put, Reports};
 
 mod advance;
 // cargo: #[cfg(any(feature = "std", feature = "ansi"))]
@@ -47,9 +51,9 @@ impl<'a> Chunk<'a> {
         Chunk { bytes }
     }
 
-    /// Returns the call's reader, which has taken no looks, and what it reads.
+    /// Returns the reader of the call, which has taken no looks, and its input.
     pub(crate) fn into_reader(self) -> (Reader, Input<'a>)
-        ensures looks { looked result.0 ≡ 0 }
+        ensures looks { looks_of result.0 ≡ 0 }
         ensures bytes { result.1.bytes.now ≡ self.entry.bytes.now }
     {
         let Chunk { bytes } = self;
@@ -60,8 +64,8 @@ impl<'a> Chunk<'a> {
     }
 }
 
-/// Reads the bytes of a call and reports events. It has no bytes: only Rattle's contracts need
-/// its count.
+/// Reads the bytes of a call and reports events. It takes no space at run time: only Rattle's
+/// contracts need its count.
 // proof: it can't be dropped: its looks are added to those of the parser.
 // cargo: #[derive(Clone, Copy)]
 pub(crate) struct Reader {
@@ -104,7 +108,7 @@ impl<'a> Input<'a> {
     pub(crate) fn up_to(self, to: usize) -> Self
         requires { to ≤ length self.bytes.now }
         ensures length { length result.bytes.now ≡ to }
-        ensures same { (k : ℕ) → k < to
+        ensures same_bytes { (k : ℕ) → k < to
             → slice_index result.bytes.now k ≡ slice_index self.entry.bytes.now k }
     {
         Input {
@@ -117,16 +121,17 @@ impl<'a> Input<'a> {
 ///
 /// # Safety
 ///
-/// The bytes between them must be whole characters. They are if a search for the end of a run,
-/// begun at `from` or after whole characters that are there, ended at `to`: it passes one
-/// whole character at a time, a byte of ASCII, or a lead byte with all its continuation bytes,
-/// the first of which `may_begin_three` and `may_begin_four` test. Blocks whose bytes all fit, as
-/// `may_follow` tests, may end inside a character: the search then goes back to where it began.
+/// The bytes between the positions must be whole characters. They are if a search for the end of a
+/// run ended at `to`, and started at `from` or after whole characters that begin at `from`. Such a
+/// search passes whole characters: a byte of ASCII, or a lead byte with all its continuation bytes,
+/// the first of which `may_begin_three` and `may_begin_four` test. It also passes blocks whose
+/// bytes all fit, as `may_follow` tests. If a block ends inside a character, the search goes back
+/// to the start of that character.
 #[inline(always)]
 #[allow(unsafe_code)]
 // cargo instead: pub(crate) unsafe fn text_between(bytes: &[u8], from: usize, to: usize) -> &str
 fn text_between(bytes: &[u8], from: usize, to: usize) -> &str
-    requires range { IsRange bytes.now from to }
+    requires range { ArePositions bytes.now from to }
     requires utf8 { IsUtf8 (take (to - from) (drop from bytes.now)) }
     ensures { result.now ≡ take (to - from) (drop from bytes.now) }
 {
@@ -139,13 +144,13 @@ fn text_between(bytes: &[u8], from: usize, to: usize) -> &str
 /// Returns the data from one position to another.
 #[inline(always)]
 fn data_between(bytes: &[u8], from: usize, to: usize) -> &[u8]
-    requires range { IsRange bytes.now from to }
+    requires range { ArePositions bytes.now from to }
     ensures { result.now ≡ take (to - from) (drop from bytes.now) }
 {
     &bytes[from..to]
 }
 
-/// Returns the run that is at a position, whose bytes were looked at.
+/// Returns the run in a range of the bytes.
 ///
 /// # Safety
 ///
@@ -153,7 +158,7 @@ fn data_between(bytes: &[u8], from: usize, to: usize) -> &[u8]
 // cargo: #[allow(unsafe_code)]
 // cargo instead: unsafe fn take_run(bytes: &[u8], range: RunRange) -> Run<'_>
 fn take_run(bytes: &[u8], range: RunRange) -> Run<'_>
-    requires range { IsRange bytes.now range.start range.end }
+    requires range { ArePositions bytes.now range.start range.end }
     requires kind { AreOfKind range.kind
         (take (range.end - range.start) (drop range.start bytes.now)) }
     ensures start { result.start ≡ range.start }
@@ -165,7 +170,7 @@ fn take_run(bytes: &[u8], range: RunRange) -> Run<'_>
         // cargo: // SAFETY: this is what the caller promises.
         RunKind::Text => Taken::Text(text_between(bytes, range.start, range.end)),
         RunKind::Data => Taken::Data(data_between(bytes, range.start, range.end)),
-        RunKind::Nothing => Taken::Nothing,
+        RunKind::NoRun => Taken::Nothing,
     };
     Run {
         start: range.start,
@@ -177,7 +182,7 @@ fn take_run(bytes: &[u8], range: RunRange) -> Run<'_>
 impl Reader {
     /// Adds to the count, which only contracts read.
     fn count_looks(&mut self, count: usize)
-        ensures { looked self.new ≡ looked self.old + count }
+        ensures { looks_of self.new ≡ looks_of self.old + count }
     {
         // cargo instead: let _ = count;
         let before = mem::replace(&mut self.tally, Snapshot::of(&Tally::Start));
@@ -189,7 +194,7 @@ impl Reader {
     pub(crate) fn byte_at(&mut self, input: Input<'_>, index: usize) -> u8
         requires { index < length input.bytes.now }
         ensures value { result ≡ slice_index input.entry.bytes.now index }
-        ensures count { looked self.new ≡ looked self.old + 1 }
+        ensures looks { looks_of self.new ≡ looks_of self.old + 1 }
     {
         self.count_looks(1);
         input.bytes[index]
@@ -199,10 +204,11 @@ impl Reader {
     #[inline(always)]
     pub(crate) fn get_byte(&mut self, input: Input<'_>, index: usize) -> Option<u8>
         ensures { MatchOption result
-            ((length input.entry.bytes.now ≤ index) × (looked self.new ≡ looked self.old)) (λ byte.
+            ((length input.entry.bytes.now ≤ index)
+            × (looks_of self.new ≡ looks_of self.old)) (λ byte.
             (index < length input.entry.bytes.now)
             × (byte ≡ slice_index input.entry.bytes.now index)
-            × (looked self.new ≡ looked self.old + 1)) }
+            × (looks_of self.new ≡ looks_of self.old + 1)) }
     {
         let byte = *input.bytes.get(index)?;
         self.count_looks(1);
@@ -217,24 +223,25 @@ impl Reader {
         from: usize,
     ) -> Option<[u8; N]>
         requires { from ≤ length input.bytes.now }
-        ensures { MatchOption result (looked self.new ≡ looked self.old)
+        ensures { MatchOption result (looks_of self.new ≡ looks_of self.old)
             (λ block. (from + N ≤ length input.entry.bytes.now)
             × (block ≡ take N (drop from input.entry.bytes.now))
-            × (looked self.new ≡ looked self.old + N)) }
+            × (looks_of self.new ≡ looks_of self.old + N)) }
     {
         let block = *input.bytes[from..].first_chunk::<N>()?;
         self.count_looks(N);
         Some(block)
     }
 
-    /// Returns the 19 bytes from a position on, or `None` if there are fewer. No copy is read at
-    /// two offsets, because loads across two stores wait for both.
+    /// Returns the 19 bytes from a position on, or `None` if there are fewer. Each array is loaded
+    /// from the input, because loads from a copy would span two stores and wait for both
+    /// (DECISIONS).
     #[inline(always)]
     pub(crate) fn get_window(&mut self, input: Input<'_>, from: usize) -> Option<Window>
         requires { from ≤ length input.bytes.now }
-        ensures { MatchOption result (looked self.new ≡ looked self.old)
+        ensures { MatchOption result (looks_of self.new ≡ looks_of self.old)
             (λ window. IsWindow input.entry.bytes.now from window
-            × (looked self.new ≡ looked self.old + 19)) }
+            × (looks_of self.new ≡ looks_of self.old + 19)) }
     {
         let bytes = input.bytes[from..].first_chunk::<19>()?;
         let window = Window {
@@ -264,8 +271,8 @@ impl Reader {
         }
     }
 
-    /// Reports a byte that is neither printed nor a lead byte: a control, or a malformed sequence
-    /// alone.
+    /// Reports a byte that is neither printed nor a lead byte: it is a control, or malformed by
+    /// itself.
     #[inline(always)]
     #[tactic(auto, unfolding(crate::specs::Text::character_event, crate::specs::Text::malformed_event))]
     pub(crate) fn report_lone_byte<P: CountedPerform<G>, G: Granularity>(
@@ -279,7 +286,7 @@ impl Reader {
         ensures malformed { 0x80 ≤ byte
             → P.value_of performer.new
             ≡ P.step (P.value_of performer.old) (malformed_event (byte ∷ [])) }
-        ensures count { looked self.new ≡ looked self.old + 1 }
+        ensures looks { looks_of self.new ≡ looks_of self.old + 1 }
     {
         match byte {
             0x00..=0x1f | 0x80..=0x9f => performer.execute_control(self, byte),
@@ -288,7 +295,7 @@ impl Reader {
     }
 
     // cargo lacks: the crate calls `print_text`
-    /// Reports the run of text from one position to another, which counts its bytes.
+    /// Reports the run of text from one position to another, and counts its bytes.
     #[inline(always)]
     pub(crate) fn report_text<P: CountedPerform<G>, G: Granularity>(
         &mut self,
@@ -298,12 +305,12 @@ impl Reader {
         to: usize,
     )
         requires in_runs { G.IN_RUNS ≡ true }
-        requires some { from < to }
+        requires not_empty { from < to }
         requires within { to ≤ length input.bytes.now }
         requires run { IsRun P.layout input.bytes.now from to }
         ensures printed { PrintsRun P.layout P.step (P.value_of performer.old)
             (P.value_of performer.new) input.entry.bytes.now from to }
-        ensures count { looked self.new + from ≡ looked self.old + to }
+        ensures looks { looks_of self.new + from ≡ looks_of self.old + to }
     {
         performer.print_text(self, text_between(input.bytes, from, to));
     }
@@ -318,13 +325,13 @@ impl Reader {
         to: usize,
     )
         requires in_runs { G.IN_RUNS ≡ true }
-        requires some { from < to }
+        requires not_empty { from < to }
         requires within { to ≤ length input.bytes.now }
         requires put { ArePut input.bytes.now from to }
         ensures put { P.value_of performer.new
             ≡ after P.step (P.value_of performer.old)
             (map Put (take (to - from) (drop from input.entry.bytes.now))) }
-        ensures count { looked self.new + from ≡ looked self.old + to }
+        ensures looks { looks_of self.new + from ≡ looks_of self.old + to }
     {
         performer.put_slice(self, data_between(input.bytes, from, to));
     }
@@ -337,11 +344,11 @@ impl Reader {
         to: usize,
         array: &mut ArrayVec<u8, N>,
     ) -> Result<(), CapacityError>
-        requires range { IsRange input.bytes.now from to }
-        requires room { length array.old.items + (to - from) ≤ N }
+        requires range { ArePositions input.bytes.now from to }
+        requires has_room { length array.old.items + (to - from) ≤ N }
         ensures appended { array.new.items
             ≡ array.old.items ++ take (to - from) (drop from input.entry.bytes.now) }
-        ensures count { looked self.new + from ≡ looked self.old + to }
+        ensures looks { looks_of self.new + from ≡ looks_of self.old + to }
     {
         self.count_looks(to - from);
         array.try_extend_from_slice(&input.bytes[from..to])
@@ -358,12 +365,12 @@ impl Reader {
         to: usize,
         vec: &mut Vec<u8, A>,
     ) -> Result<(), AllocError>
-        requires range { IsRange input.bytes.now from to }
-        requires room { length vec.old.items + (to - from) ≤ vec_capacity vec.old }
+        requires range { ArePositions input.bytes.now from to }
+        requires has_room { length vec.old.items + (to - from) ≤ vec_capacity vec.old }
         ensures appended { vec.new.items
             ≡ vec.old.items ++ take (to - from) (drop from input.entry.bytes.now) }
         ensures memory { vec_capacity vec.old ≤ vec_capacity vec.new }
-        ensures count { looked self.new + from ≡ looked self.old + to }
+        ensures looks { looks_of self.new + from ≡ looks_of self.old + to }
     {
         self.count_looks(to - from);
         vec.extend_from_slice(&input.bytes[from..to])

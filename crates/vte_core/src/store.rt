@@ -1,7 +1,7 @@
 //! The store of an operating system command.
 ghost use Rattle.std.specs.Prelude.{All, drop, false, IsTrue, length, List, take, ℕ, [], ◌++◌, ◌+◌, ◌-◌, ◌<◌, ◌↔◌, ◌∷◌, ◌≡◌, ◌≢◌, ◌≤◌};
 ghost use Rattle.std.specs.List.Sorted.{IsNonDecreasing};
-ghost use Rattle.vte_core.specs.private.Prelude.{ArePieceEnds, cut_pieces, HasCapacity, HoldsItems, IsRange, LooksAtMost, max_pieces, OscDispatch, Reports, ReservesCapacity, SameItems, Stored};
+ghost use Rattle.vte_core.specs.private.Prelude.{ArePieceEnds, ArePositions, cut_pieces, HasCapacity, HoldsItems, LooksAtMost, max_pieces, OscDispatch, Reports, ReservesCapacity, SameItems, Stored};
 
 use crate::buffer::Buffer;
 use crate::reader::{CountedPerform, Granularity, Input, Reader};
@@ -11,7 +11,7 @@ use arrayvec::ArrayVec;
 use std::alloc::{AllocError, Allocator};
 use std::marker::Model;
 
-/// The most pieces of a command.
+/// How many pieces of a command are kept.
 const MAX_PIECES: usize = 16;
 
 /// The items of a command, as far as they are kept.
@@ -72,7 +72,7 @@ impl<B: Buffer> Store<B> {
     /// Removes the items of a command that has ended, but not whether it lost data.
     // cargo: #[cfg(any(feature = "std", feature = "ansi"))]
     pub(crate) fn remove_items(&mut self)
-        ensures none { self.new.bytes ≡ [] }
+        ensures no_bytes { self.new.bytes ≡ [] }
         ensures lost { self.new.lost ≡ self.old.lost }
         ensures memory { self.new.capacity ≡ self.old.capacity }
     {
@@ -90,7 +90,7 @@ impl<B: Buffer> Store<B> {
 
     /// Takes memory for this many more data bytes, and returns whether it is there.
     pub(crate) fn reserve(&mut self, more: usize) -> bool
-        ensures same { SameItems self.old self.new }
+        ensures same_items { SameItems self.old self.new }
         ensures reserves { ReservesCapacity B.limit
             (length self.new.bytes) more self.old.capacity self.new.capacity result }
     {
@@ -99,8 +99,8 @@ impl<B: Buffer> Store<B> {
 
     /// Takes memory for this many more data bytes, unless they are dropped because 16 pieces have
     /// ended. Returns whether it is there.
-    pub(crate) fn take_memory(&mut self, more: usize) -> bool
-        ensures same { SameItems self.old self.new }
+    pub(crate) fn reserve_if_kept(&mut self, more: usize) -> bool
+        ensures same_items { SameItems self.old self.new }
         ensures memory { self.old.capacity ≤ self.new.capacity }
         ensures at_most { result ≡ false → length self.new.ends < max_pieces }
         ensures reserves { length self.new.ends < max_pieces
@@ -121,8 +121,8 @@ impl<B: Buffer> Store<B> {
         }
     }
 
-    /// Adds the data bytes of an input from one position to another, as many as there is room for;
-    /// none after 16 pieces.
+    /// Adds the data bytes of an input from one position to another, as many as there is room for.
+    /// Adds none after 16 pieces.
     pub(crate) fn push_data(
         &mut self,
         reader: &mut Reader,
@@ -130,14 +130,14 @@ impl<B: Buffer> Store<B> {
         from: usize,
         to: usize,
     )
-        requires range { IsRange input.bytes.now from to }
+        requires range { ArePositions input.bytes.now from to }
         requires data { All (λ b. b ≢ 0x3b) (take (to - from) (drop from input.bytes.now)) }
         requires memory { length self.old.ends < max_pieces
             → HasCapacity B.limit self.old.capacity (length self.old.bytes) (to - from) }
         ensures holds { (items : List ℕ) → HoldsItems B.limit self.old items → HoldsItems B.limit
             self.new (items ++ take (to - from) (drop from input.entry.bytes.now)) }
         ensures memory { self.old.capacity ≤ self.new.capacity }
-        ensures at_most { LooksAtMost (to - from) reader.old reader.new }
+        ensures looks_at_most { LooksAtMost (to - from) reader.old reader.new }
     {
         let before = self.bytes.bytes().len();
         if !self.ends.is_full() {
@@ -187,9 +187,9 @@ impl<B: Buffer> Store<B> {
 impl<const N: usize> Store<Option<ArrayVec<u8, N>>> {
     /// Returns the data bytes, the ends of the first 16 pieces in them, and whether data bytes were
     /// dropped.
-    pub(crate) fn parts(&self) -> (&[u8], &[usize], bool)
+    pub(crate) fn raw_parts(&self) -> (&[u8], &[usize], bool)
         ensures bytes { result.0.now ≡ self.now.bytes }
-        ensures fit { length result.0.now ≤ N }
+        ensures fits { length result.0.now ≤ N }
         ensures ends { result.1.now ≡ self.now.ends }
         ensures piece_ends { ArePieceEnds self.now.bytes self.now.ends }
         ensures lost { result.2 ≡ self.now.lost }
@@ -201,9 +201,9 @@ impl<const N: usize> Store<Option<ArrayVec<u8, N>>> {
         (bytes, self.ends.as_slice(), self.lost)
     }
 
-    /// Holds these parts instead, without the ends if they can't be ends of pieces.
+    /// Replaces what is held. The ends are left out if they can't be ends of pieces.
     pub(crate) fn restore(&mut self, bytes: &[u8], ends: &[usize], lost: bool)
-        requires fit { length bytes.now ≤ N }
+        requires fits { length bytes.now ≤ N }
         requires at_most { length ends.now ≤ max_pieces }
         ensures bytes { self.new.bytes ≡ bytes.now }
         ensures ends { ArePieceEnds bytes.now ends.now → self.new.ends ≡ ends.now }
@@ -225,7 +225,7 @@ impl<const N: usize> Store<Option<ArrayVec<u8, N>>> {
 
 // cargo: #[cfg(any(feature = "std", feature = "ansi"))]
 impl<A: Allocator> Store<Vec<u8, A>> {
-    /// Returns for how many data bytes there is memory.
+    /// Returns the number of data bytes for which there is memory.
     // cargo lacks: not used
     pub(crate) fn capacity(&self) -> usize
         ensures { result ≡ self.now.capacity }
@@ -241,11 +241,11 @@ impl<A: Allocator> Store<Vec<u8, A>> {
         self.bytes.len()
     }
 
-    /// Gives back the memory that its bytes don't need.
+    /// Frees the memory that the data bytes don't need.
     pub(crate) fn shrink_to_fit(&mut self)
-        ensures same { SameItems self.old self.new }
+        ensures same_items { SameItems self.old self.new }
         ensures frees { length self.old.bytes ≡ 0 → self.new.capacity ≡ 0 }
-        ensures less { self.new.capacity ≤ self.old.capacity }
+        ensures grows_no_memory { self.new.capacity ≤ self.old.capacity }
     {
         self.bytes.shrink_to_fit();
     }
@@ -256,7 +256,7 @@ impl<A: Allocator + Clone> Clone for Store<Vec<u8, A>> {
 
     fn clone(&self) -> Result<Self, AllocError> {
         let mut bytes = self.bytes.clone()?;
-        // as much memory
+        // a clone has as much memory
         bytes.reserve(self.bytes.capacity() - bytes.len())?;
         Ok(Store {
             bytes,
@@ -266,8 +266,8 @@ impl<A: Allocator + Clone> Clone for Store<Vec<u8, A>> {
     }
 }
 
-/// Returns whether pieces with this many bytes in all can end at these positions, of which there
-/// are at most 16.
+/// Returns whether pieces with this many bytes in all can end at these positions, which are at most
+/// 16.
 // cargo: #[cfg(feature = "__own")]
 fn are_piece_ends(ends: &[usize], count: usize) -> bool
     ensures { IsTrue result ↔ (IsNonDecreasing ends.now × All (λ end. end ≤ count) ends.now) }

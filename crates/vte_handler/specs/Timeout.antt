@@ -14,11 +14,11 @@ timeout_meaning set clear allows = record { set = set; clear = clear; allows = a
 
 -- The value allows only this answer.
 abbrev pub AllowsOnly : {W : Type 0} → TimeoutMeaning W → W → Bool → Type 0
-AllowsOnly m value pending =
-    m.allows value pending × ((other : Bool) → m.allows value other → other ≡ pending)
+AllowsOnly meaning value pending =
+    meaning.allows value pending × ((other : Bool) → meaning.allows value other → other ≡ pending)
 
 -- A steady timeout is pending from when it is set until it is cleared, no matter what a clock
 -- shows.
-pub record IsSteady {W : Type 0} (m : TimeoutMeaning W) : Type 0 where
-  pub set : (value : W) (nanos : ℕ) → AllowsOnly m (m.set value nanos) true
-  pub clear : (value : W) → AllowsOnly m (m.clear value) false
+pub record IsSteady {W : Type 0} (meaning : TimeoutMeaning W) : Type 0 where
+  pub set : (value : W) (nanos : ℕ) → AllowsOnly meaning (meaning.set value nanos) true
+  pub clear : (value : W) → AllowsOnly meaning (meaning.clear value) false

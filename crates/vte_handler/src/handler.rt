@@ -433,8 +433,8 @@ pub trait HandlerText: Handler {
     /// Characters to show, at least one, in order. None is a control: neither U+0000..U+001F nor
     /// U+0080..U+009F.
     fn input_text(&mut self, text: &str)
-        requires some { 0 < length text.now }
-        requires plain { AreShown text.now }
+        requires not_empty { 0 < length text.now }
+        requires shown { AreShown text.now }
         ensures { Self.value_of self.new
             ≡ after Self.step (Self.value_of self.old) (map call.Input (chars text.now)) };
 }

@@ -16,8 +16,8 @@ use std::ops::{Add, Sub};
 
 /// A colour of red, green and blue. The default is black.
 ///
-/// It is displayed as `#` and two lowercase hex digits per part, and parsed from `#` or `0x` and
-/// six hex digits of either case.
+/// It is displayed as `#` and two lowercase hex digits per component, and parsed from `#` or `0x`
+/// and six hex digits of either case.
 ///
 /// ```
 /// # use vte::ansi::Rgb;
@@ -35,7 +35,7 @@ pub struct Rgb {
     pub b: u8,
 }
 
-/// Adds each part. A sum above 255 is 255.
+/// Adds each component. A sum above 255 is 255.
 impl Add<Rgb> for Rgb {
     type Output = Rgb;
 
@@ -50,7 +50,7 @@ impl Add<Rgb> for Rgb {
     }
 }
 
-/// Subtracts each part. A difference below 0 is 0.
+/// Subtracts each component. A difference below 0 is 0.
 impl Sub<Rgb> for Rgb {
     type Output = Rgb;
 

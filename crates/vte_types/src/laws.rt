@@ -43,13 +43,13 @@ pub fn modes_keep_their_numbers()
 /// Stripping a word from a text that begins with it gives the rest, and any other text nothing.
 pub fn words_are_prefixes()
     ensures front { (word rest : List ℕ) → after_word word (word ++ rest) ≡ Some rest }
-    ensures other { (word text : List ℕ) → ((rest : List ℕ) → text ≢ word ++ rest)
+    ensures no_prefix { (word text : List ℕ) → ((rest : List ℕ) → text ≢ word ++ rest)
         → after_word word text ≡ None }
 {}
 
-/// No text but the word itself is a word, and so none that is shorter or longer.
+/// A text other than a word doesn't equal it, and so neither does a shorter or longer one.
 pub fn words_differ_from_other_texts()
-    ensures other { (text word : List ℕ) → text ≢ word → bytes_eq text word ≡ false }
+    ensures unequal { (text word : List ℕ) → text ≢ word → bytes_eq text word ≡ false }
     ensures shorter { (text word : List ℕ) → length text < length word
         → bytes_eq text word ≡ false }
     ensures longer { (text word : List ℕ) → length word < length text → bytes_eq text word ≡ false }

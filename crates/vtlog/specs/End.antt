@@ -14,10 +14,10 @@ status_of (Ok _) = 0
 status_of (Err _) = 1
 
 -- The first line on standard error, which is empty if there is none.
-abbrev pub words_of : Result (Unit {0}) Fault → List ℕ
-words_of (Ok _) = []
-words_of (Err Read) = codes "vtlog: read failed"
-words_of (Err Write) = codes "vtlog: write failed"
+abbrev pub message_of : Result (Unit {0}) Fault → List ℕ
+message_of (Ok _) = []
+message_of (Err Read) = codes "vtlog: read failed"
+message_of (Err Write) = codes "vtlog: write failed"
 
 -- What is written for a stream.
 abbrev pub output_of : Mode → (List ℕ → List ℕ)
@@ -29,16 +29,16 @@ output_of Text = stripped_text
 pub record Streams : Type 0 where
   pub input : Option (List ℕ)
   pub held : Option (List ℕ)
-  pub to_come : Option (List ℕ)
-  pub taken : Option (List ℕ)
+  pub remaining : Option (List ℕ)
+  pub contents : Option (List ℕ)
   pub reader_failed : Bool
   pub writer_failed : Bool
 
 -- Nothing was read. The page was written, unless the writer has failed.
 pub record Prints (page : List ℕ) (streams : Streams)
     (outcome : Result (Unit {0}) Fault) : Type 0 where
-  pub unread : streams.to_come ≡ streams.input
-  pub written : OnOk outcome (Appends streams.held streams.taken page)
+  pub unread : streams.remaining ≡ streams.input
+  pub written : OnOk outcome (Appends streams.held streams.contents page)
   pub fails : is_err outcome ≡ streams.writer_failed
   pub fault : OnErr outcome (outcome ≡ Err Write)
 
@@ -46,31 +46,31 @@ pub record Prints (page : List ℕ) (streams : Streams)
 pub record Runs (mode : Mode) (streams : Streams) (outcome : Result (Unit {0}) Fault) : Type 0 where
   pub written : (input held : List ℕ) → streams.input ≡ Some input → streams.held ≡ Some held
       → WritesExactly
-      (output_of mode) outcome input held streams.to_come streams.taken streams.reader_failed
+      (output_of mode) outcome input held streams.remaining streams.contents streams.reader_failed
   pub read_to_the_end : OnOk outcome (streams.reader_failed ≡ false)
   pub write_failed : outcome ≡ Err Write → streams.writer_failed ≡ true
 
 -- The argument is unexpected, and nothing was read or written.
-pub record RefusesArguments (streams : Streams) (status : ℕ) (words : List ℕ) : Type 0 where
+pub record RefusesArguments (streams : Streams) (status : ℕ) (message : List ℕ) : Type 0 where
   pub status_is : status ≡ 2
-  pub words_are : words ≡ codes "vtlog: unexpected argument"
-  pub unread : streams.to_come ≡ streams.input
-  pub unwritten : streams.taken ≡ streams.held
+  pub message_is : message ≡ codes "vtlog: unexpected argument"
+  pub unread : streams.remaining ≡ streams.input
+  pub unwritten : streams.contents ≡ streams.held
 
--- The status and the words are those of an outcome that this is true of.
+-- The status and the message are those of an outcome that this is true of.
 pub record EndsBy (IsOutcome : Result (Unit {0}) Fault → Type 0) (status : ℕ)
-    (words : List ℕ) : Type 0 where
+    (message : List ℕ) : Type 0 where
   pub outcome : Result (Unit {0}) Fault
   pub status_is : status ≡ status_of outcome
-  pub words_are : words ≡ words_of outcome
+  pub message_is : message ≡ message_of outcome
   pub is_outcome : IsOutcome outcome
 
 -- How the program ends if the arguments ask for a page, or for a mode, or for nothing known.
 abbrev pub EndsFor : Option (List ℕ) → Option Mode → Streams → ℕ → List ℕ → Type 0
-EndsFor (Some page) mode streams status words = EndsBy (Prints page streams) status words
-EndsFor None (Some mode) streams status words = EndsBy (Runs mode streams) status words
-EndsFor None None streams status words = RefusesArguments streams status words
+EndsFor (Some page) mode streams status message = EndsBy (Prints page streams) status message
+EndsFor None (Some mode) streams status message = EndsBy (Runs mode streams) status message
+EndsFor None None streams status message = RefusesArguments streams status message
 
 -- How the program ends with these arguments.
 abbrev pub Ends : List (List ℕ) → Streams → ℕ → List ℕ → Type 0
-Ends args streams status words = EndsFor (page_of args) (chosen_mode args) streams status words
+Ends args streams status message = EndsFor (page_of args) (chosen_mode args) streams status message

@@ -5,7 +5,7 @@
 ghost use Rattle.std.specs.Prelude.{is_err, map, OnErr, OnOk, option_map, ◌≡◌};
 ghost use Rattle.std.specs.Io.KnownBytes.{Appends};
 ghost use Rattle.vtlog.specs.Arguments.{chosen_mode, page_of};
-ghost use Rattle.vtlog.specs.End.{Ends, status_of, words_of};
+ghost use Rattle.vtlog.specs.End.{Ends, message_of, status_of};
 
 use event_log::{Device, Fault, Sink, Source, run, run_text};
 use std::env;
@@ -76,14 +76,14 @@ fn log_streams(rt: &HostRuntime) -> io::Result<u8> {
     if let Some(error) = output.error() {
         let _ = eprintln!(rt; "vtlog: standard output: {error}");
     }
-    if let (2, Some(word)) = (status, unexpected(&args)) {
+    if let (2, Some(word)) = (status, find_unexpected(&args)) {
         let _ = eprintln!(rt; "vtlog: {word:?}: {HINT}");
     }
     Ok(status)
 }
 
 /// Returns the first argument that can't be where it is.
-fn unexpected<'a>(args: &[&'a str]) -> Option<&'a str> {
+fn find_unexpected<'a>(args: &[&'a str]) -> Option<&'a str> {
     match args {
         [] => None,
         [word] => Some(*word),
@@ -101,11 +101,11 @@ fn is_known(word: &str) -> bool {
 /// which is empty if there is none.
 fn log<R: Source, W: Sink>(args: &[&str], reader: &mut R, writer: &mut W) -> (u8, &'static str)
     ensures { Ends (map (λ arg. arg.now) args.now) (record {
-      input = R.to_come reader.old;
-      to_come = R.to_come reader.new;
+      input = R.remaining reader.old;
+      remaining = R.remaining reader.new;
       reader_failed = R.has_failed reader.new;
-      held = W.taken writer.old;
-      taken = W.taken writer.new;
+      held = W.contents writer.old;
+      contents = W.contents writer.new;
       writer_failed = W.has_failed writer.new;
     }) result.0 result.1.now }
 {
@@ -145,7 +145,8 @@ fn choose(args: &[&str]) -> Option<Mode>
 fn print<W: Sink>(text: &str, writer: &mut W) -> Result<(), Fault>
     ensures fails { is_err result ≡ W.has_failed writer.new }
     ensures fault { OnErr result (result ≡ Err Fault.Write) }
-    ensures appends { OnOk result (Appends (W.taken writer.old) (W.taken writer.new) text.now) }
+    ensures appends { OnOk result (Appends (W.contents writer.old)
+        (W.contents writer.new) text.now) }
 {
     if writer.write_all(text.as_bytes()).is_err() || writer.flush().is_err() {
         return Err(Fault::Write);
@@ -156,7 +157,7 @@ fn print<W: Sink>(text: &str, writer: &mut W) -> Result<(), Fault>
 /// Returns the exit status and the message for standard error, which is empty if there is none.
 fn end(outcome: &Result<(), Fault>) -> (u8, &'static str)
     ensures status { result.0 ≡ status_of outcome.now }
-    ensures words { result.1.now ≡ words_of outcome.now }
+    ensures message { result.1.now ≡ message_of outcome.now }
 {
     match outcome {
         Ok(()) => (0, ""),

@@ -79,8 +79,8 @@ Event = Union[Text, Execute, Hook, Put, Data, Unhook, Osc, Csi, Esc]
 # what functions take
 Buffer = Union[bytes, bytearray, memoryview, "array.array[int]", mmap.mmap]
 # one type of event, which a type checker then knows in what they return, or any of them
-Own = TypeVar("Own", Text, Execute, Hook, Put, Data, Unhook, Osc, Csi, Esc)
-Kind = Union[type[Own], Iterable[type[Own]]]
+EventT = TypeVar("EventT", Text, Execute, Hook, Put, Data, Unhook, Osc, Csi, Esc)
+Kind = Union[type[EventT], Iterable[type[EventT]]]
 Kinds = Union[type[Event], Iterable[type[Event]]]
 Errors = Union[Literal["replace"], Literal["surrogateescape"]]
 

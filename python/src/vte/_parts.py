@@ -10,7 +10,7 @@ from ._events import Buffer
 
 ESCAPE = b"\x1b"
 # how many bytes are read at a time to find an ESC: four times as many as before, up to the most
-LEAST, MOST = 4096, 4 << 20
+MIN_READ, MAX_READ = 4096, 4 << 20
 
 
 class SeekableFile(Protocol):
@@ -96,12 +96,12 @@ def _ranges(read: Read, length: int, size: int) -> Iterator[tuple[int, int]]:
 
 def _find_escape(read: Read, at: int, length: int) -> int:
     """The position of the first ESC from a position on, or the length."""
-    count = LEAST
+    count = MIN_READ
     while at < length:
         data = read(at, min(count, length - at))
         found = data.find(ESCAPE)
         if found >= 0:
             return at + found
         at += len(data)
-        count = min(4 * count, MOST)
+        count = min(4 * count, MAX_READ)
     return length

@@ -8,7 +8,7 @@ from collections.abc import Iterable, Iterator
 from functools import partial
 from typing import IO, Any, Optional, TypeVar, Union, overload
 
-from ._events import Buffer, Errors, Event, Kind, Kinds, Own, Refused
+from ._events import Buffer, Errors, Event, Kind, Kinds, EventT, Refused
 from ._vte import Parser, strip
 
 Source = Union[str, "os.PathLike[str]", int, IO[bytes]]
@@ -106,7 +106,7 @@ class Reader(Iterator[Item]):
 
 
 @overload
-def open(source: Source, size: int = ..., *, kinds: Kind[Own]) -> Reader[Own]: ...
+def open(source: Source, size: int = ..., *, kinds: Kind[EventT]) -> Reader[EventT]: ...
 
 
 @overload

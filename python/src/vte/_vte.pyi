@@ -1,7 +1,7 @@
 from typing import Literal, overload
 
 from . import calls
-from ._events import Buffer, Errors, Event, Kind, Kinds, Own
+from ._events import Buffer, Errors, Event, Kind, Kinds, EventT
 
 __version__: str
 
@@ -12,13 +12,13 @@ class Parser:
     @property
     def open(self) -> Literal["character", "esc", "csi", "dcs", "osc", "ignored"] | None: ...
     @overload
-    def feed(self, data: Buffer, kinds: Kind[Own]) -> list[Own]: ...  # type: ignore[misc]
+    def feed(self, data: Buffer, kinds: Kind[EventT]) -> list[EventT]: ...  # type: ignore[misc]
     @overload
     def feed(self, data: Buffer, kinds: Kinds | None = None) -> list[Event]: ...
     @overload
     def feed_until(  # type: ignore[misc]
-        self, data: Buffer, stops: Kinds, kinds: Kind[Own]
-    ) -> tuple[list[Own], int]: ...
+        self, data: Buffer, stops: Kinds, kinds: Kind[EventT]
+    ) -> tuple[list[EventT], int]: ...
     @overload
     def feed_until(
         self, data: Buffer, stops: Kinds, kinds: Kinds | None = None

@@ -8,7 +8,7 @@
 
 extern crate alloc;
 
-mod border;
+mod ffi;
 mod long;
 mod memory;
 mod processor;

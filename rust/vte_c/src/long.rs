@@ -1,12 +1,12 @@
 //! A parser for C without a limit on operating system commands. Written by hand over the proved
 //! parser, which stops for memory; the records and the data area are written by proved code.
 //!
-//! The callers' rules of vte_long.h make it sound: they are those of border.rs, and a parser is one
+//! The callers' rules of vte_long.h make it sound: they are those of ffi.rs, and a parser is one
 //! that `vte_long_parser_new` returned and that isn't freed.
 #![allow(unsafe_code)]
 #![allow(clippy::missing_safety_doc, clippy::too_many_arguments)]
 
-use crate::border::{slice, slice_mut};
+use crate::ffi::{slice, slice_mut};
 use crate::memory;
 use crate::proved::vte_c::{event, EventWriter, VteCounts, VteEvent, MIN_EVENTS, NO_ROOM};
 use alloc::boxed::Box;
@@ -17,7 +17,7 @@ use vte::{skip_to_command, InternalCalls as _, LongParser, Refused};
 const REFUSED: usize = usize::MAX - 1;
 
 /// How many bytes a call reads at most. There is room for all their data.
-const STEP: usize = 1 << 16;
+const SLICE: usize = 1 << 16;
 
 /// The most data bytes for each byte of a step, and for what was open before it.
 const DATA_PER_BYTE: usize = 5;
@@ -70,7 +70,7 @@ fn read_all(
     writer: &mut EventWriter<'_>,
 ) -> (usize, bool) {
     let mut position = 0;
-    while position < bytes.len() && !writer.is_full() {
+    while position < bytes.len() && !writer.must_return() {
         match read_more(parser, bytes, position, kinds, writer) {
             Ok(0) => break,
             Ok(read) => position += read,
@@ -123,7 +123,7 @@ pub unsafe extern "C" fn vte_long_feed(
     let (VteLongParser { parser, data: area }, bytes, events, data, counts) = unsafe {
         (
             &mut *parser,
-            slice(bytes, length.min(STEP)),
+            slice(bytes, length.min(SLICE)),
             slice_mut(events, event_room),
             &mut *data,
             &mut *counts,

@@ -9,7 +9,7 @@
 
 mod values;
 
-use crate::border::slice;
+use crate::ffi::slice;
 use crate::memory;
 use alloc::boxed::Box;
 use core::ffi::c_void;

@@ -90,4 +90,4 @@ def erase(text, crate, name, plan):
     rename_paths(source, crate, plan)
     settle_imports(source, crate, plan, before)
     folder = name.removesuffix("/lib").removesuffix("/main")
-    return source.written(), {f"{folder}/{module}" for module in left}, source.used
+    return source.join_text(), {f"{folder}/{module}" for module in left}, source.used

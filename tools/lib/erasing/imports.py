@@ -13,11 +13,11 @@ OF_CORE = {"cmp", "fmt", "iter", "marker", "mem", "ops", "str", "time"}
 def words_of_code(source):
     """How often each word stands in a file outside its imports."""
     imports = {index for at, end in source.items()
-               if source.is_word(source.without_visibility(at), "use") for index in range(at, end)}
+               if source.is_word(source.skip_visibility(at), "use") for index in range(at, end)}
     return Counter(token.text for index, token in enumerate(source.tokens) if index not in imports)
 
 
-def renamed(source, at, path, crate, plan):
+def rename_root(source, at, path, crate, plan):
     """A path with its root in the Rust crate."""
     root, _, rest = path.partition("::")
     if root == "std":
@@ -36,9 +36,9 @@ def renamed(source, at, path, crate, plan):
 def rename_paths(source, crate, plan):
     """Renames the roots of paths outside of imports. Links in docs stay."""
     imports_str = any(path.endswith("std::str") for at, end in source.items()
-                      for _, path in imported(source, at, end))
+                      for _, path in find_imports(source, at, end))
     for at in reversed(range(len(source.tokens))):
-        before = source.before(at)
+        before = source.find_before(at)
         is_inner = source.is_sign(before, ":") and source.is_sign(before - 1, ":")
         if source.kind(at) != WORD or source.words(at, 3)[1:] != [":", ":"] or is_inner \
                 or source.is_word(before, "use"):
@@ -47,55 +47,55 @@ def rename_paths(source, crate, plan):
             # as a method of the type it is newer than our oldest Rust
             source.replace(at, at, "core::str")
         else:
-            source.replace(at, at, renamed(source, at, source.text(at), crate, plan))
+            source.replace(at, at, rename_root(source, at, source.text(at), crate, plan))
 
 
-def imported(source, at, end):
+def find_imports(source, at, end):
     """The names that an item imports, if it does: pairs of a visibility and a path."""
-    word = source.without_visibility(at)
+    word = source.skip_visibility(at)
     if not source.is_word(word, "use"):
         return []
     path = "".join(token.text for token in source.tokens[word + 1:end] if not token.is_blank)
     root, _, listed = path.rstrip("},").partition("{")
-    return [(source.between(at, word - 1), root + name) for name in listed.split(",")]
+    return [(source.text_between(at, word - 1), root + name) for name in listed.split(",")]
 
 
 def settle_imports(source, crate, plan, before):
     """Imports of names that aren't used any more go; what is used now is imported from its home."""
     used, known = words_of_code(source), set()
     for at, end in source.items():
-        if not (names := imported(source, at, end)):
+        if not (names := find_imports(source, at, end)):
             continue
         paths = []
         for visibility, path in names:
             name = path.rpartition("::")[2]
             source.used.add((path, plan.imports.get(path)))
             if visibility or used[name] or not before[name]:
-                paths.append(plan.imports.get(path) or renamed(source, at, path, crate, plan))
+                paths.append(plan.imports.get(path) or rename_root(source, at, path, crate, plan))
                 known.add(name)
         if paths:
             source.replace(at, end, _lines(names[0][0], paths))
         else:
-            source.cut(source.attached(at), end)
+            source.cut(source.find_attached(at), end)
     needed = [it for it in plan.names() if it[0] not in known and _uses(source, it[0])]
     source.used.update(needed)
     homes = _join(source, [f"{home}::{name}" for name, home in needed])
     if homes:
-        *_, first = None, *(at for at, end in source.items() if imported(source, at, end))
+        *_, first = None, *(at for at, end in source.items() if find_imports(source, at, end))
         if first is None:
             add_above(source, _lines("", homes))
         else:
-            source.insert(source.attached(first), _lines("", homes) + "\n")
+            source.insert(source.find_attached(first), _lines("", homes) + "\n")
 
 
 def _join(source, homes):
     """Adds paths to the imports of their modules. Returns those whose modules have none."""
     for at, end in source.items():
-        names = imported(source, at, end)
+        names = find_imports(source, at, end)
         modules = {path.rpartition("::")[0] for visibility, path in names if not visibility}
         joined = [home for home in homes if home.rpartition("::")[0] in modules]
         # one with an attribute has a condition
-        if joined and not source.is_sign(source.before(at), "]"):
+        if joined and not source.is_sign(source.find_before(at), "]"):
             source.replace(at, end, _lines("", [path for _, path in names] + joined))
             homes = [home for home in homes if home not in joined]
     return homes
@@ -104,10 +104,11 @@ def _join(source, homes):
 def _uses(source, name):
     """Whether a file uses a type or calls a function of another module."""
     indices = source.indices(name)
-    if any(source.is_word(source.before(at), "fn", "struct", "trait", "enum") for at in indices):
+    declaring = "fn", "struct", "trait", "enum"
+    if any(source.is_word(source.find_before(at), *declaring) for at in indices):
         return False
     for at in indices:
-        before, following = source.text(source.before(at)), source.text(source.after(at))
+        before, following = source.text(source.find_before(at)), source.text(source.find_after(at))
         is_generic = following == ":" and source.words(at, 4)[3] == "<"
         if before != "." and (name[0].isupper() or following in ("(", "!") or is_generic):
             return True

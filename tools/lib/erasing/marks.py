@@ -73,9 +73,9 @@ def _comment_end(source, at):
 
 def item_below(source, at):
     """The index of what follows a mark, after attributes."""
-    at = source.after(at)
+    at = source.find_after(at)
     while source.is_sign(at, "#"):
-        at = source.after(source.attribute_end(at))
+        at = source.find_after(source.attribute_end(at))
     return at
 
 
@@ -86,13 +86,13 @@ def drop_lacking(source):
               if _mark(source, at)[0] == "lacks"]
     modules = set()
     for at in sorted(indices + source.indices("mod laws"), reverse=True):
-        word = source.without_visibility(at)
+        word = source.skip_visibility(at)
         if source.is_word(word, "mod"):
-            modules.add(source.text(source.after(word)))
-        source.cut(source.attached(source.with_visibility(at)), _end(source, word))
+            modules.add(source.text(source.find_after(word)))
+        source.cut(source.find_attached(source.find_visibility(at)), _end(source, word))
     for at in (at for module in modules for at in source.indices(f"use {module}")):
-        start = source.with_visibility(at)
-        source.cut(source.attached(start), source.item_end(start))
+        start = source.find_visibility(at)
+        source.cut(source.find_attached(start), source.item_end(start))
     return modules
 
 
@@ -113,6 +113,6 @@ def give_defaults(source):
         start = item_below(source, at)
         for index in range(source.item_end(start), start - 1, -1):
             if source.is_word(index, "fn") and source.is_sign(end := source.item_end(index), ";"):
-                says_no = source.is_word(source.before(end), "bool")
+                says_no = source.is_word(source.find_before(end), "bool")
                 source.replace(end, end, " {\nfalse\n}" if says_no else " {}")
         source.cut(at, at)

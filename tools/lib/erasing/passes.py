@@ -14,11 +14,11 @@ def drop_ghosts(source):
     """
     for at in reversed(range(len(source.tokens))):
         if source.kind(at) == CLAUSE:
-            start = source.before(at) + 1
+            start = source.find_before(at) + 1
             source.replace(start, at + (source.kind(at + 1) == SPACE),
-                           "" if source.is_sign(source.after(at), ";") else " ")
+                           "" if source.is_sign(source.find_after(at), ";") else " ")
         elif source.kind(at) == GHOST:
-            source.cut(source.attached(source.with_visibility(at)), at)
+            source.cut(source.find_attached(source.find_visibility(at)), at)
 
 
 def sort_attributes(source):
@@ -29,9 +29,9 @@ def sort_attributes(source):
     """
     tests = set()
     for at in source.indices("#[cfg(test)]"):
-        item = source.without_visibility(source.after(source.attribute_end(at)))
+        item = source.skip_visibility(source.find_after(source.attribute_end(at)))
         if source.is_word(item, "mod"):
-            tests.add(source.text(source.after(item)))
+            tests.add(source.text(source.find_after(item)))
         source.cut(at, source.item_end(item))
     for at in source.indices("#"):
         if (end := source.attribute_end(at)) is None:
@@ -65,22 +65,22 @@ def derive_clones(source):
     and those that are vectors have as much memory."""
     for at in source.indices("Clone for"):
         first, end = next((first, end) for first, end in source.items() if first < at < end)
-        name = source.text(source.after(source.after(at)))
-        source.cut(source.attached(first), end)
+        name = source.text(source.find_after(source.find_after(at)))
+        source.cut(source.find_attached(first), end)
         for struct in source.indices(f"struct {name}"):
-            source.insert(source.with_visibility(struct), "#[derive(Clone)]\n")
+            source.insert(source.find_visibility(struct), "#[derive(Clone)]\n")
 
 
 def join_derives(source):
     """The derives of an item stand in one attribute."""
     for at in source.indices("#[derive"):
-        above = next((index for index in range(at - 1, source.attached(at) - 1, -1)
+        above = next((index for index in range(at - 1, source.find_attached(at) - 1, -1)
                       if source.words(index, 3) == ["#", "[", "derive"]), None)
         if above is not None:
             end = source.attribute_end(at)
-            names = source.between(at + 4, source.before(source.before(end)))
+            names = source.text_between(at + 4, source.find_before(source.find_before(end)))
             source.cut(at, end)
-            source.insert(source.before(source.attribute_end(above)), f", {names}")
+            source.insert(source.find_before(source.attribute_end(above)), f", {names}")
 
 
 def inline(source):
@@ -88,13 +88,13 @@ def inline(source):
     inlined into other crates."""
     for at in source.indices("impl<A: Allocator>"):
         for index in range(source.item_end(at), at, -1):
-            before = source.before(index)
-            start = source.with_visibility(before if source.is_word(before, "const") else index)
-            is_generic = source.is_sign(source.after(source.after(index)), "<")
-            above = source.attached(start)
-            is_said = "inline" in source.between(above, start)
+            before = source.find_before(index)
+            start = source.find_visibility(before if source.is_word(before, "const") else index)
+            is_generic = source.is_sign(source.find_after(source.find_after(index)), "<")
+            above = source.find_attached(start)
+            is_said = "inline" in source.text_between(above, start)
             if source.is_word(index, "fn") and not is_generic and not is_said:
-                source.insert(source.solid(above), f"{INLINE}\n")
+                source.insert(source.find_solid(above), f"{INLINE}\n")
 
 
 def complete_examples(source):
@@ -115,5 +115,5 @@ def complete_examples(source):
 def add_above(source, lines):
     """Puts lines above the first item."""
     at = [*source.items()][-1][0]
-    is_apart = not source.is_word(source.without_visibility(at), "use", "mod")
-    source.insert(source.attached(at), lines + "\n" * (1 + is_apart))
+    is_apart = not source.is_word(source.skip_visibility(at), "use", "mod")
+    source.insert(source.find_attached(at), lines + "\n" * (1 + is_apart))

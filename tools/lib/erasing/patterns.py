@@ -33,21 +33,21 @@ def find(source, at, pattern):
     kept = {index for first, last in indices.values() for index in range(first, last + 1)}
     if any(source.kind(index) == COMMENT and index not in kept for index in range(at, end)):
         return None
-    return end, {name: source.between(*ends).strip() for name, ends in indices.items()}
+    return end, {name: source.text_between(*ends).strip() for name, ends in indices.items()}
 
 
 def _fit(source, at, parts, indices):
     """The last index of parts that begin at an index, and the indices of names; or None."""
-    end = source.before(at)
+    end = source.find_before(at)
     for index, (count, name) in enumerate(parts):
         if count == 0:
             if source.text(at) != name:
                 return None
-            end, at = at, source.after(at)
+            end, at = at, source.find_after(at)
         elif count == 1:
             if (end := _element_end(source, at)) is None:
                 return None
-            indices, at = {**indices, name: (at, end)}, source.after(end)
+            indices, at = {**indices, name: (at, end)}, source.find_after(end)
         else:
             return _fit_run(source, at, parts[index:], indices)
     return end, indices
@@ -57,7 +57,7 @@ def _fit_run(source, at, parts, indices):
     """The same if the first part stands for any number of tokens."""
     (count, name), rest = parts[0], parts[1:]
     # the comments before it are its own
-    last = source.before(at)
+    last = source.find_before(at)
     first = last + 1
     while True:
         if found := _fit(source, at, rest, {**indices, name: (first, last)}):
@@ -65,7 +65,7 @@ def _fit_run(source, at, parts, indices):
         end = _element_end(source, at)
         if end is None or count == 2 and source.is_sign(at, ";"):
             return None
-        last, at = end, source.after(end)
+        last, at = end, source.find_after(end)
 
 
 def _element_end(source, at):
@@ -85,18 +85,18 @@ def rewrite(source, pattern, by, holds=lambda names: True):
     indices = [at for at, token in enumerate(source.tokens) if is_name or token.text == first]
     for at in indices[::-1]:
         if (found := find(source, at, pattern)) and holds(found[1]):
-            made = by(found[1]) if callable(by) else filled(by, found[1])
+            made = by(found[1]) if callable(by) else fill_names(by, found[1])
             if made:
                 source.replace(at, found[0], made)
             else:
-                source.cut(source.attached(at), found[0])
+                source.cut(source.find_attached(at), found[0])
             count += 1
     if count:
         source.used.add((pattern, by))
     return count
 
 
-def filled(by, names):
+def fill_names(by, names):
     """A text with the texts of names in the place of `$x`."""
     made, is_name = [], False
     for token in split(by):

@@ -20,7 +20,7 @@ class Source:
     def kind(self, at):
         return self.tokens[at].kind if 0 <= at < len(self.tokens) else None
 
-    def between(self, first, last):
+    def text_between(self, first, last):
         """The text between two indices, with both."""
         return "".join(token.text for token in self.tokens[first : last + 1])
 
@@ -36,24 +36,24 @@ class Source:
 
     # Finding
 
-    def solid(self, at, step=1):
+    def find_solid(self, at, step=1):
         """The first index from `at` on, by `step`, that is neither space nor comment."""
         while self.kind(at) in (SPACE, COMMENT):
             at += step
         return at
 
-    def after(self, at):
-        return self.solid(at + 1)
+    def find_after(self, at):
+        return self.find_solid(at + 1)
 
-    def before(self, at):
-        return self.solid(at - 1, -1)
+    def find_before(self, at):
+        return self.find_solid(at - 1, -1)
 
     def words(self, at, count):
         """The texts of the next `count` solid tokens."""
         texts = []
         for _ in range(count):
             texts.append(self.text(at))
-            at = self.after(at)
+            at = self.find_after(at)
         return texts
 
     def match(self, at):
@@ -67,8 +67,8 @@ class Source:
 
     def item_end(self, at):
         """The end of the item at an index: its `;`, or the brace that closes its block."""
-        start, word = at, self.without_visibility(at)
-        has_block = self.text(self.after(word)) == "fn" or not self.is_word(
+        start, word = at, self.skip_visibility(at)
+        has_block = self.text(self.find_after(word)) == "fn" or not self.is_word(
             word, "use", "static", "const", "type")
         while at < len(self.tokens):
             if has_block and self.is_sign(at, "{"):
@@ -78,34 +78,34 @@ class Source:
             at = (self.match(at) if self.is_sign(at, OPENING) else at) + 1
         return self.refuse("unclosed item", start)
 
-    def without_visibility(self, at):
+    def skip_visibility(self, at):
         if self.text(at) == "pub":
-            at = self.after(at)
+            at = self.find_after(at)
             if self.is_sign(at, "("):
-                at = self.after(self.match(at))
+                at = self.find_after(self.match(at))
         return at
 
-    def with_visibility(self, at):
-        before = self.before(at)
+    def find_visibility(self, at):
+        before = self.find_before(at)
         if self.is_sign(before, ")"):
-            return self.before(self.match(before))
+            return self.find_before(self.match(before))
         return before if self.text(before) == "pub" else at
 
     def attribute_end(self, at):
         """The `]` of the attribute at an index, or None if an item begins there."""
-        bracket = self.after(at)
+        bracket = self.find_after(at)
         if self.is_sign(bracket, "!"):
-            bracket = self.after(bracket)
+            bracket = self.find_after(bracket)
         return self.match(bracket) if self.is_sign(bracket, "[") else None
 
     def items(self):
         """The first and last indices of the items at the top of the file, the last one first."""
-        found, at = [], self.solid(0)
+        found, at = [], self.find_solid(0)
         while at < len(self.tokens):
             if (end := self.attribute_end(at)) is None:
                 end = self.item_end(at)
                 found.append((at, end))
-            at = self.after(end)
+            at = self.find_after(end)
         return reversed(found)
 
     def indices(self, front):
@@ -115,7 +115,7 @@ class Source:
                  and self.words(at, len(wanted)) == wanted]
         return found[::-1]
 
-    def attached(self, at):
+    def find_attached(self, at):
         """Where the comments and attributes begin that stand right above what is at an index."""
         start = at
         while True:
@@ -149,6 +149,6 @@ class Source:
     def insert(self, at, text):
         self.replace(at, at - 1, text)
 
-    def written(self):
+    def join_text(self):
         """The text of the file as it is now."""
-        return self.between(0, len(self.tokens)).strip("\n") + "\n"
+        return self.text_between(0, len(self.tokens)).strip("\n") + "\n"

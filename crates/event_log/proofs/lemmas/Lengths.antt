@@ -1,11 +1,11 @@
 -- How long the text of an event is, part by part, and how many events bytes add: at most two each. So the text of bytes
 -- is at most eight times as long as they are, and fits where it is collected.
-use Rattle.event_log.proofs.Common.{added, AddsUpTo, after, All, All-head, All-tail, ap, append_assoc, AreFromOneByte, AreGroups, AreSmall, arith, Bool, breaks_at, capacity, cases_Bool, chars, concat, count_of, CsiDispatch, decimal, drop, empty_record, encode_ascii, encodes-chars, EscDispatch, Event, Execute, false, flag_field, flat_map, GoesOnFromPositions, group_text, HasKept, HasRead, hex_byte, hex_character, hex_digit, hex_field, hex_length, Hook, if◌then◌else◌, inl, inr, is_layout, is_to_be_written, IsBounded, IsFilled, IsSmallNumber, IsUtf8, join_with_byte, len_utf8_bounds, length, length-append, length-decimal-le, length-encode, line_of, List, map, max, OscDispatch, Parser, pieces_fields, plain_text_of, Print, Record, record_with_event, record_with_text, refl, replacement, reported_before, ReportsUnits, resumed_stream, run_event, semicolon, sequence_fields, shown, six_hex_digits, StopsExactly, suc, sym, true, usual_limit, zero, ℕ, [], ◌*◌, ◌++◌, ◌+◌, ◌-◌, ◌<◌, ◌∙◌, ◌∷◌, ◌≡◌, ◌≤◌}
+use Rattle.event_log.proofs.Common.{added, AddsUpTo, after, All, All-head, All-tail, ap, append_assoc, AreBrief, AreGroups, AreSmall, arith, Bool, breaks_at, capacity, cases_Bool, chars, concat, count_of, CsiDispatch, decimal, default_limit, drop, empty_text, encode_ascii, encodes-chars, EscDispatch, Event, Execute, false, flag_field, flat_map, GoesOnFromPositions, group_text, HasKept, HasRead, held_with_event, held_with_text, HeldText, hex_byte, hex_character, hex_digit, hex_field, hex_length, Hook, if◌then◌else◌, inl, inr, is_layout, is_to_be_written, IsBounded, IsNonEmpty, IsSmallNumber, IsUtf8, join_with_byte, len_utf8_bounds, length, length-append, length-decimal-le, length-encode, line_of, List, map, max, OscDispatch, Parser, pieces_fields, plain_text_of, Print, refl, replacement, reported_before, ReportsUnits, resumed_stream, run_event, semicolon, sequence_fields, shown, six_hex_digits, StopsExactly, suc, sym, true, zero, ℕ, [], ◌*◌, ◌++◌, ◌+◌, ◌-◌, ◌<◌, ◌∙◌, ◌∷◌, ◌≡◌, ◌≤◌}
 use Rattle.std.proofs.Common.{length-drop}
 use Rattle.std.proofs.lemmas.List.Sums.{sum_by-cons}
 use Rattle.vte_core.proofs.lemmas.EarlyStops.{added-append}
 use Rattle.vte_core.proofs.lemmas.streams.After.{added-nothing}
-use Rattle.event_log.proofs.lemmas.Records.{IsSmall, kept-by_call, max_of_character_line, max_of_line, record_of, reported-taken, room-for_unit, text-taken_as_events, texts-taken}
+use Rattle.event_log.proofs.lemmas.HeldTexts.{held_text_of, IsSmall, kept-by_call, max_of_character_line, max_of_line, reported-taken, room-for_unit, text-taken_as_events, texts-taken}
 use Rattle.std.proofs.Math.Utf8.{encodes}
 use Rattle.std.specs.Char.{encode_utf8}
 use Rattle.vte_core.proofs.lemmas.bytes.Runs.{layout-is_ascii}
@@ -52,17 +52,17 @@ length-shown : (groups : List (List ℕ)) → AreGroups groups → length (shown
 unfolding shown
 length-shown groups groups_are = omega (arith, joined groups groups_are.filled groups_are.small, groups_are.at_most)
   where
-    joined : (groups : List (List ℕ)) → All IsFilled groups → All AreSmall groups
+    joined : (groups : List (List ℕ)) → All IsNonEmpty groups → All AreSmall groups
         → length (join_with_byte semicolon (map group_text groups)) ≤ 7 * count_of groups
     joined [] filled small = omega arith
     joined (x ∷ []) filled small =
         omega (arith, length-numbers x (All-head AreSmall x [] small), sum_by-cons length x [])
     joined (x ∷ y ∷ groups) filled small =
-        let not_empty : 0 < length x = All-head IsFilled x (y ∷ groups) filled in
+        let not_empty : 0 < length x = All-head IsNonEmpty x (y ∷ groups) filled in
         simp length-append (omega (
           arith,
           length-numbers x (All-head AreSmall x (y ∷ groups) small),
-          joined (y ∷ groups) (All-tail IsFilled x (y ∷ groups) filled)
+          joined (y ∷ groups) (All-tail IsNonEmpty x (y ∷ groups) filled)
               (All-tail AreSmall x (y ∷ groups) small),
           sum_by-cons length x (y ∷ groups),
         ))
@@ -88,7 +88,7 @@ length-sequence_fields groups intermediates ignore final groups_are =
       length-hex_character 2 final,
     ))
 
-length-line : (event : Event) → IsBounded usual_limit event → length (line_of event) ≤ max_of_line
+length-line : (event : Event) → IsBounded default_limit event → length (line_of event) ≤ max_of_line
 unfolding line_of hex_byte pieces_fields
 length-line (Print c) bounded = omega (arith, length-line_of_character c)
 length-line (Hook groups intermediates ignore final) bounded =
@@ -132,30 +132,31 @@ length-texts (event ∷ events) = simp length-append (omega (arith, length-text 
 
 -- ---- what bytes add
 
-abbrev AreBrief : Type 0
-AreBrief = (stream : List ℕ) (byte : ℕ) → AreFromOneByte usual_limit (added usual_limit stream (byte ∷ []))
+abbrev BytesAreBrief : Type 0
+BytesAreBrief = (stream : List ℕ) (byte : ℕ) → AreBrief default_limit (added default_limit stream (byte ∷ []))
 
-events-at_most_two : (events : List Event) → AreFromOneByte usual_limit events → length events ≤ 2
+events-at_most_two : (events : List Event) → AreBrief default_limit events → length events ≤ 2
 events-at_most_two [] brief = omega arith
 events-at_most_two (event ∷ []) brief = omega arith
 events-at_most_two (event ∷ last ∷ []) brief = omega arith
 events-at_most_two (event ∷ last ∷ third ∷ events) brief = absurd brief
 
-events_grow_slowly : AreBrief → (stream bytes : List ℕ) → length (added usual_limit stream bytes) ≤ 2 * length bytes
+events_grow_slowly : BytesAreBrief → (stream bytes : List ℕ)
+    → length (added default_limit stream bytes) ≤ 2 * length bytes
 events_grow_slowly brief stream [] = rw added-nothing (omega arith)
 events_grow_slowly brief stream (b ∷ bytes) =
-    rw (added-append usual_limit stream (b ∷ []) bytes) (simp length-append
+    rw (added-append default_limit stream (b ∷ []) bytes) (simp length-append
     (omega (
       arith,
-      events-at_most_two (added usual_limit stream (b ∷ [])) (brief stream b),
+      events-at_most_two (added default_limit stream (b ∷ [])) (brief stream b),
       events_grow_slowly brief (stream ++ b ∷ []) bytes,
     )))
 
 -- The text of what bytes add has at most eight bytes for each of them.
-pub text_grows_slowly : AreBrief → (stream bytes : List ℕ)
-    → length (flat_map plain_text_of (added usual_limit stream bytes)) ≤ 8 * length bytes
+pub text_grows_slowly : BytesAreBrief → (stream bytes : List ℕ)
+    → length (flat_map plain_text_of (added default_limit stream bytes)) ≤ 8 * length bytes
 text_grows_slowly brief stream bytes =
-    omega (arith, length-texts (added usual_limit stream bytes), events_grow_slowly brief stream bytes)
+    omega (arith, length-texts (added default_limit stream bytes), events_grow_slowly brief stream bytes)
 
 -- ---- a recorder that is asked at each start loses no line
 
@@ -163,13 +164,13 @@ text_grows_slowly brief stream bytes =
 -- rest.
 
 -- The line of a replacement character is short.
-replacement-not_to_be_written : is_to_be_written (record_with_event line_of empty_record (Print replacement)) ≡ false
-unfolding line_of hex_character hex_length six_hex_digits hex_byte hex_digit record_with_text
+replacement-not_to_be_written : is_to_be_written (held_with_event line_of empty_text (Print replacement)) ≡ false
+unfolding line_of hex_character hex_length six_hex_digits hex_byte hex_digit held_with_text
 replacement-not_to_be_written = refl
 
 -- A call reads a byte: neither an empty recorder nor the line of a replacement character stops it at once.
-pub call-reads_some : {old new : Record} {stream bytes : List ℕ} {n : ℕ} → old ≡ empty_record
-    → StopsExactly (record_with_event line_of) is_to_be_written old usual_limit stream bytes new n → 0 < length bytes
+pub call-reads_some : {old new : HeldText} {stream bytes : List ℕ} {n : ℕ} → old ≡ empty_text
+    → StopsExactly (held_with_event line_of) is_to_be_written old default_limit stream bytes new n → 0 < length bytes
     → 0 < n
 unfolding reported_before
 call-reads_some {stream} {bytes} {n = zero} empty stops_exactly not_empty =
@@ -185,27 +186,32 @@ call-reads_some {stream} {bytes} {n = zero} empty stops_exactly not_empty =
 call-reads_some {n = suc n} empty stops_exactly not_empty = omega arith
 
 -- At a start where the recorder isn't terminated, at most half of the capacity is in use.
-pub lines-kept : {whole_text : List ℕ → List ℕ} {n : ℕ} {parser next_parser : Parser 1024} {old new : Record}
+pub lines-kept : {whole_text : List ℕ → List ℕ} {n : ℕ} {parser next_parser : Parser 1024} {old new : HeldText}
     (unread : List ℕ)
-    → GoesOnFromPositions usual_limit → ReportsUnits usual_limit → old ≡ empty_record
+    → GoesOnFromPositions default_limit → ReportsUnits default_limit → old ≡ empty_text
     → (before : AddsUpTo line_of whole_text [] parser unread)
-    → StopsExactly (record_with_event line_of) is_to_be_written old usual_limit before.since unread new n
-    → HasRead next_parser (resumed_stream before.since unread n)
+    → StopsExactly (held_with_event line_of) is_to_be_written old default_limit before.already_read unread new n
+    → HasRead next_parser (resumed_stream before.already_read unread n)
     → HasKept line_of whole_text new next_parser (drop n unread)
 lines-kept {whole_text} {n} {parser} {old} unread goes_on units empty before stops_exactly parsed =
-    let since = before.since in
+    let already_read = before.already_read in
     let has_kept : HasKept line_of whole_text old parser unread = record {
-      adds_up = record { since = since; parsed = before.parsed; goes_on = λ more. rw empty (before.goes_on more) };
-      kept = ap (λ (held : Record). held.lost) empty;
+      adds_up = record {
+        already_read = already_read;
+        parsed = before.parsed;
+        goes_on =
+            λ more. rw empty (before.goes_on more);
+      };
+      kept = ap (λ (held : HeldText). held.lost) empty;
     } in
-    kept-by_call (reported_before usual_limit since unread n) (resumed_stream since unread n) has_kept
-    (λ more. goes_on since unread more n)
+    kept-by_call (reported_before default_limit already_read unread n) (resumed_stream already_read unread n) has_kept
+    (λ more. goes_on already_read unread more n)
     parsed
     (stops_exactly.comes.performed
-    ∙ reported-taken line_of lines_are_small units since unread old has_kept.kept
+    ∙ reported-taken line_of lines_are_small units already_read unread old has_kept.kept
     (room-for_unit old (ap is_to_be_written empty)) n stops_exactly.comes.within
     (λ j earlier start.
-    room-for_unit (after (record_with_event line_of) old (reported_before usual_limit since unread j))
+    room-for_unit (after (held_with_event line_of) old (reported_before default_limit already_read unread j))
     (stops_exactly.comes.earlier j earlier start)))
 
 -- ---- the text of a run is its bytes
@@ -235,27 +241,27 @@ after-more step event_of (first ∷ cs) c old new performed =
     after-more step event_of cs c (step old (event_of first)) new performed
 
 -- If a run has room, it is taken as its characters are, one after another.
-pub run-taken : (held : Record) (text : List ℕ) → IsUtf8 text → length held.bytes + length text ≤ capacity
-    → record_with_text held text ≡ after (record_with_event plain_text_of) held (map (run_event true) (chars text))
+pub run-taken : (held : HeldText) (text : List ℕ) → IsUtf8 text → length held.bytes + length text ≤ capacity
+    → held_with_text held text ≡ after (held_with_event plain_text_of) held (map (run_event true) (chars text))
 run-taken held text utf8 fits =
     text-taken_as_events plain_text_of held text (map (run_event true) (chars text))
     (sym (text_of-run (chars text) ∙ encodes-chars text utf8)) fits
 
 -- If all bytes of a chunk were read, its text is taken.
 pub text-kept : {whole_text : List ℕ → List ℕ} {unread : List ℕ} {parser next_parser : Parser 1024}
-    {held next_held : Record} (chunk rest : List ℕ)
-    → AreBrief → (has_kept : HasKept plain_text_of whole_text held parser unread) → chunk ++ rest ≡ unread
+    {held next_held : HeldText} (chunk rest : List ℕ)
+    → BytesAreBrief → (has_kept : HasKept plain_text_of whole_text held parser unread) → chunk ++ rest ≡ unread
     → length held.bytes + 8 * length chunk ≤ capacity
-    → next_held ≡ after (record_with_event plain_text_of) held (added usual_limit has_kept.adds_up.since chunk)
-    → HasRead next_parser (has_kept.adds_up.since ++ chunk)
+    → next_held ≡ after (held_with_event plain_text_of) held (added default_limit has_kept.adds_up.already_read chunk)
+    → HasRead next_parser (has_kept.adds_up.already_read ++ chunk)
     → HasKept plain_text_of whole_text next_held next_parser rest
 text-kept {held} chunk rest brief has_kept parts fits performed parsed =
-    let since = has_kept.adds_up.since in
-    let reported = added usual_limit since chunk in
+    let already_read = has_kept.adds_up.already_read in
+    let reported = added default_limit already_read chunk in
     let taken =
     texts-taken plain_text_of held.bytes held.lost reported
-    (omega (arith, fits, text_grows_slowly brief since chunk)) in
-    kept-by_call reported (since ++ chunk) has_kept
-    (λ more. rw (← parts, append_assoc chunk rest more) (added-append usual_limit since chunk (rest ++ more)))
+    (omega (arith, fits, text_grows_slowly brief already_read chunk)) in
+    kept-by_call reported (already_read ++ chunk) has_kept
+    (λ more. rw (← parts, append_assoc chunk rest more) (added-append default_limit already_read chunk (rest ++ more)))
     parsed
-    (performed ∙ taken ∙ ap (record_of (held.bytes ++ flat_map plain_text_of reported)) has_kept.kept)
+    (performed ∙ taken ∙ ap (held_text_of (held.bytes ++ flat_map plain_text_of reported)) has_kept.kept)

@@ -1,11 +1,11 @@
 -- From what a collector holds to what a run has written: what was collected is appended, and each read that gives
 -- something takes a chunk off the input (`HasReadPart`), until one fails or gives nothing.
-use Rattle.event_log.proofs.Common.{AddsUpTo, ap, append-nil, append_assoc, arith, Bool, Event, events, flat_map, HasRead, HasWritten, IfSome, inl, inr, length, length-append, List, None, Option, Parser, refl, Some, sym, true, usual_limit, ℕ, [], ◌++◌, ◌+◌, ◌<◌, ◌∙◌, ◌≡◌, ◌≤◌, ◌⊎◌}
+use Rattle.event_log.proofs.Common.{AddsUpTo, ap, append-nil, append_assoc, arith, Bool, default_limit, Event, events, flat_map, HasRead, HasWritten, IfSome, inl, inr, length, length-append, List, None, Option, Parser, refl, Some, sym, true, ℕ, [], ◌++◌, ◌+◌, ◌<◌, ◌∙◌, ◌≡◌, ◌≤◌, ◌⊎◌}
 use Rattle.std.specs.Io.KnownBytes.{Appends, Consumes, IsAtEnd, Keeps}
 use Rattle.event_log.specs.Device.{KeepsWhereKnown}
 use Rattle.event_log.specs.Run.{max_reads, WritesAll, WritesPrefix}
 use Rattle.vte_core.proofs.lemmas.streams.After.{added-nothing}
-use Rattle.event_log.proofs.lemmas.Records.{adds_up-at_first}
+use Rattle.event_log.proofs.lemmas.HeldTexts.{adds_up-at_first}
 
 -- ---- devices whose bytes are known
 
@@ -39,18 +39,23 @@ known-kept_where_known (Some bytes_after) known keeps = keeps
 -- What was collected is written, and the run goes on with the unread bytes.
 pub written-more : {text_of : Event → List ℕ} {whole_text : List ℕ → List ℕ} {unread next_unread collected : List ℕ}
     {parser next_parser : Parser 1024}
-    {taken next_taken : Option (List ℕ)} → HasWritten text_of whole_text taken parser unread
+    {contents next_contents : Option (List ℕ)} → HasWritten text_of whole_text contents parser unread
     → ((part : List ℕ → List ℕ) → AddsUpTo text_of part [] parser unread
     → AddsUpTo text_of part collected next_parser next_unread)
-    → Appends taken next_taken collected → HasWritten text_of whole_text next_taken next_parser next_unread
-written-more {unread} {collected} {next_taken} has_written collects appends =
+    → Appends contents next_contents collected → HasWritten text_of whole_text next_contents next_parser next_unread
+written-more {unread} {collected} {next_contents} has_written collects appends =
     let before = has_written.adds_up in
-    let now = collects _ (adds_up-at_first (record { since = before.since; parsed = before.parsed }) unread) in
+    let now = collects _ (adds_up-at_first (record {
+      already_read = before.already_read;
+      parsed =
+          before.parsed;
+    }) unread) in
     record {
       written = has_written.written ++ collected;
-      taken_is = known-appended next_taken has_written.written collected (rw has_written.taken_is at appends);
+      contents_are = known-appended next_contents has_written.written collected
+          (rw has_written.contents_are at appends);
       adds_up = record {
-        since = now.since;
+        already_read = now.already_read;
         parsed = now.parsed;
         goes_on = λ more.
             append_assoc has_written.written collected _
@@ -61,50 +66,51 @@ written-more {unread} {collected} {next_taken} has_written collects appends =
 
 -- A chunk is still to be given to the parser.
 pub written-before_chunk : {text_of : Event → List ℕ} {whole_text : List ℕ → List ℕ} {parser : Parser 1024}
-    {taken : Option (List ℕ)}
-    (chunk : List ℕ) → HasWritten text_of whole_text taken parser []
-    → HasWritten text_of (λ more. whole_text (chunk ++ more)) taken parser chunk
+    {contents : Option (List ℕ)}
+    (chunk : List ℕ) → HasWritten text_of whole_text contents parser []
+    → HasWritten text_of (λ more. whole_text (chunk ++ more)) contents parser chunk
 written-before_chunk chunk has_written = record {
   written = has_written.written;
-  taken_is = has_written.taken_is;
+  contents_are = has_written.contents_are;
   adds_up = record {
-    since = has_written.adds_up.since;
+    already_read = has_written.adds_up.already_read;
     parsed = has_written.adds_up.parsed;
     goes_on = λ more. has_written.adds_up.goes_on (chunk ++ more);
   };
 }
 
 pub written-kept : {text_of : Event → List ℕ} {whole_text : List ℕ → List ℕ} {parser : Parser 1024}
-    {taken next_taken : Option (List ℕ)} {unread : List ℕ}
-    → HasWritten text_of whole_text taken parser unread → Keeps taken next_taken
-    → HasWritten text_of whole_text next_taken parser unread
-written-kept {next_taken} has_written keeps =
+    {contents next_contents : Option (List ℕ)} {unread : List ℕ}
+    → HasWritten text_of whole_text contents parser unread → Keeps contents next_contents
+    → HasWritten text_of whole_text next_contents parser unread
+written-kept {next_contents} has_written keeps =
     record {
       written = has_written.written;
-      taken_is = known-kept next_taken has_written.written (rw has_written.taken_is at keeps);
+      contents_are = known-kept next_contents has_written.written (rw has_written.contents_are at keeps);
       adds_up = has_written.adds_up;
     }
 
 -- ---- a run
 
 abbrev means : (Event → List ℕ) → List ℕ → List ℕ
-means text_of stream = flat_map text_of (events usual_limit stream)
+means text_of stream = flat_map text_of (events default_limit stream)
 
 -- A run has made this many reads, and each gave something.
 pub record HasReadPart (text_of : Event → List ℕ) (input held : List ℕ) (reads : ℕ) (parser : Parser 1024)
-    (to_come taken : Option (List ℕ)) : Type 0 where
+    (remaining contents : Option (List ℕ)) : Type 0 where
   pub stream : List ℕ
   pub rest : List ℕ
   pub parts : input ≡ stream ++ rest
-  pub left : to_come ≡ Some rest
+  pub left : remaining ≡ Some rest
   pub whole_text : List ℕ → List ℕ
   pub meaning : (more : List ℕ) → whole_text more ≡ held ++ means text_of (stream ++ more)
-  pub written : HasWritten text_of whole_text taken parser []
+  pub written : HasWritten text_of whole_text contents parser []
   pub each_gave : reads ≤ length stream
 
-module _ {text_of : Event → List ℕ} {input held : List ℕ} {parser : Parser 1024} {to_come taken : Option (List ℕ)} where
-  pub run-begins : events usual_limit [] ≡ [] → to_come ≡ Some input → taken ≡ Some held → HasRead parser []
-      → HasReadPart text_of input held 0 parser to_come taken
+module _ {text_of : Event
+    → List ℕ} {input held : List ℕ} {parser : Parser 1024} {remaining contents : Option (List ℕ)} where
+  pub run-begins : events default_limit [] ≡ [] → remaining ≡ Some input → contents ≡ Some held → HasRead parser []
+      → HasReadPart text_of input held 0 parser remaining contents
   run-begins no_events input_known held_known parsed = record {
     stream = [];
     rest = input;
@@ -114,21 +120,21 @@ module _ {text_of : Event → List ℕ} {input held : List ℕ} {parser : Parser
     meaning = λ more. refl;
     written = record {
       written = held;
-      taken_is = held_known;
-      adds_up = record { since = []; parsed = parsed; goes_on = λ more. rw no_events refl };
+      contents_are = held_known;
+      adds_up = record { already_read = []; parsed = parsed; goes_on = λ more. rw no_events refl };
     };
     each_gave = omega arith;
   }
 
-  pub run-reads_more : {reads : ℕ} {next_parser : Parser 1024} {next_to_come next_taken : Option (List ℕ)}
+  pub run-reads_more : {reads : ℕ} {next_parser : Parser 1024} {next_remaining next_contents : Option (List ℕ)}
       (chunk : List ℕ)
-      → HasReadPart text_of input held reads parser to_come taken → Consumes to_come next_to_come chunk
+      → HasReadPart text_of input held reads parser remaining contents → Consumes remaining next_remaining chunk
       → 0 < length chunk
-      → ((whole_text : List ℕ → List ℕ) → HasWritten text_of whole_text taken parser []
-      → HasWritten text_of (λ more. whole_text (chunk ++ more)) next_taken next_parser [])
-      → HasReadPart text_of input held (reads + 1) next_parser next_to_come next_taken
-  run-reads_more {next_to_come} chunk has_read consumes not_empty writes =
-      let has_rest = known-consumed next_to_come has_read.rest chunk (rw has_read.left at consumes) in
+      → ((whole_text : List ℕ → List ℕ) → HasWritten text_of whole_text contents parser []
+      → HasWritten text_of (λ more. whole_text (chunk ++ more)) next_contents next_parser [])
+      → HasReadPart text_of input held (reads + 1) next_parser next_remaining next_contents
+  run-reads_more {next_remaining} chunk has_read consumes not_empty writes =
+      let has_rest = known-consumed next_remaining has_read.rest chunk (rw has_read.left at consumes) in
       record {
         stream = has_read.stream ++ chunk;
         rest = has_rest.rest;
@@ -141,26 +147,26 @@ module _ {text_of : Event → List ℕ} {input held : List ℕ} {parser : Parser
       }
 
   -- All that was read is written.
-  run-has_written : {reads : ℕ} → (has_read : HasReadPart text_of input held reads parser to_come taken)
-      → taken ≡ Some (held ++ means text_of has_read.stream)
+  run-has_written : {reads : ℕ} → (has_read : HasReadPart text_of input held reads parser remaining contents)
+      → contents ≡ Some (held ++ means text_of has_read.stream)
   run-has_written has_read =
       let has_written = has_read.written in
-      has_written.taken_is
+      has_written.contents_are
       ∙ ap Some
-      (sym (rw (added-nothing usual_limit has_written.adds_up.since) (append-nil has_written.written))
+      (sym (rw (added-nothing default_limit has_written.adds_up.already_read) (append-nil has_written.written))
       ∙ has_written.adds_up.goes_on [] ∙ has_read.meaning []
       ∙ rw append-nil refl)
 
   -- A read that fails ends a run, and so do as many reads as there may be.
-  pub run_ends-at_prefix : {reads : ℕ} {next_to_come : Option (List ℕ)} {failed : Bool}
-      → HasReadPart text_of input held reads parser to_come taken
-      → KeepsWhereKnown to_come next_to_come → (failed ≡ true) ⊎ (max_reads ≤ reads)
-      → WritesPrefix (means text_of) input held next_to_come taken failed
-  run_ends-at_prefix {next_to_come} has_read keeps cause = record {
+  pub run_ends-at_prefix : {reads : ℕ} {next_remaining : Option (List ℕ)} {failed : Bool}
+      → HasReadPart text_of input held reads parser remaining contents
+      → KeepsWhereKnown remaining next_remaining → (failed ≡ true) ⊎ (max_reads ≤ reads)
+      → WritesPrefix (means text_of) input held next_remaining contents failed
+  run_ends-at_prefix {next_remaining} has_read keeps cause = record {
     stream = has_read.stream;
     rest = has_read.rest;
     parts = has_read.parts;
-    left = known-kept_where_known next_to_come has_read.rest (rw has_read.left at keeps);
+    left = known-kept_where_known next_remaining has_read.rest (rw has_read.left at keeps);
     written = run-has_written has_read;
     cause = elim cause [
       | inl fails ↦ inl fails
@@ -169,12 +175,12 @@ module _ {text_of : Event → List ℕ} {input held : List ℕ} {parser : Parser
   }
 
   -- A read that gives nothing ends a run.
-  pub run_ends-with_all : {reads : ℕ} {next_to_come : Option (List ℕ)}
-      → HasReadPart text_of input held reads parser to_come taken
-      → Consumes to_come next_to_come [] → IsAtEnd next_to_come
-      → WritesAll (means text_of) input held next_to_come taken
-  run_ends-with_all {next_to_come} has_read consumes end =
-      let has_rest = known-consumed next_to_come has_read.rest [] (rw has_read.left at consumes) in
+  pub run_ends-with_all : {reads : ℕ} {next_remaining : Option (List ℕ)}
+      → HasReadPart text_of input held reads parser remaining contents
+      → Consumes remaining next_remaining [] → IsAtEnd next_remaining
+      → WritesAll (means text_of) input held next_remaining contents
+  run_ends-with_all {next_remaining} has_read consumes end =
+      let has_rest = known-consumed next_remaining has_read.rest [] (rw has_read.left at consumes) in
       let none_left : has_rest.rest ≡ [] = rw has_rest.rest_is at end in
       record {
         at_end = has_rest.rest_is ∙ ap Some none_left;

@@ -3,26 +3,27 @@ use Rattle.std.specs.Prelude.{false, List, Option, Some, ℕ, ◌++◌, ◌≡�
 use Rattle.std.specs.List.{flat_map}
 use Rattle.vte_core.specs.Event.{Event}
 use Rattle.vte_core.specs.Parser.{HasRead}
-use Rattle.vte_core.specs.Stream.{added, usual_limit}
+use Rattle.vte_core.specs.Stream.{added, default_limit}
 use Rattle.vte_core.specs.declared.parser.Parser.{Parser}
-use Rattle.event_log.specs.Record.{Record}
+use Rattle.event_log.specs.HeldText.{HeldText}
 
 pub record HasReadSome (parser : Parser 1024) : Type 0 where
-  pub since : List ℕ
-  pub parsed : HasRead parser since
+  pub already_read : List ℕ
+  pub parsed : HasRead parser already_read
 
 -- A text, followed by the text of what the unread bytes and any more add, is the whole text, which
 -- depends on the bytes to come.
 pub record AddsUpTo (text_of : Event → List ℕ) (whole_text : List ℕ → List ℕ) (text : List ℕ)
     (parser : Parser 1024) (unread : List ℕ)
     : Type 0 where
-  pub since : List ℕ
-  pub parsed : HasRead parser since
+  pub already_read : List ℕ
+  pub parsed : HasRead parser already_read
   pub goes_on : (more : List ℕ)
-      → text ++ flat_map text_of (added usual_limit since (unread ++ more)) ≡ whole_text more
+      → text ++ flat_map text_of (added default_limit already_read (unread ++ more))
+      ≡ whole_text more
 
 -- The text is what a record holds, and nothing was lost.
-pub record HasKept (text_of : Event → List ℕ) (whole_text : List ℕ → List ℕ) (held : Record)
+pub record HasKept (text_of : Event → List ℕ) (whole_text : List ℕ → List ℕ) (held : HeldText)
     (parser : Parser 1024) (unread : List ℕ)
     : Type 0 where
   pub adds_up : AddsUpTo text_of whole_text held.bytes parser unread
@@ -30,8 +31,8 @@ pub record HasKept (text_of : Event → List ℕ) (whole_text : List ℕ → Lis
 
 -- The text is all that a writer has taken.
 pub record HasWritten (text_of : Event → List ℕ) (whole_text : List ℕ → List ℕ)
-    (taken : Option (List ℕ)) (parser : Parser 1024) (unread : List ℕ)
+    (contents : Option (List ℕ)) (parser : Parser 1024) (unread : List ℕ)
     : Type 0 where
   pub written : List ℕ
-  pub taken_is : taken ≡ Some written
+  pub contents_are : contents ≡ Some written
   pub adds_up : AddsUpTo text_of whole_text written parser unread

@@ -1,7 +1,7 @@
 //! Lines of characters and single bytes, and hex digits.
 ghost use Rattle.std.specs.Prelude.{◌≡◌, ◌≤◌};
 ghost use Rattle.vte_core.specs.Event.{Execute, Print, Put};
-ghost use Rattle.event_log.specs.Record.{record_in, record_with_text};
+ghost use Rattle.event_log.specs.HeldText.{held_text_in, held_with_text};
 ghost use Rattle.event_log.specs.Lines.{hex_byte, hex_length as hex_length_of, line_of, six_hex_digits as six_hex_digits_of};
 
 use super::Lines;
@@ -22,7 +22,8 @@ impl Lines {
     /// is a constant.
     #[inline(always)]
     pub(crate) fn append_print(&mut self, c: char)
-        ensures { record_in self.new ≡ record_with_text (record_in self.old) (line_of (Print c)) }
+        ensures { held_text_in self.new
+            ≡ held_with_text (held_text_in self.old) (line_of (Print c)) }
     {
         let number = c as u32;
         match number {
@@ -42,8 +43,8 @@ impl Lines {
     #[inline(never)]
     fn append_long_print(&mut self, number: u32)
         requires { 0x10000 ≤ number }
-        ensures { record_in self.new
-            ≡ record_with_text (record_in self.old) (line_of (Print number)) }
+        ensures { held_text_in self.new
+            ≡ held_with_text (held_text_in self.old) (line_of (Print number)) }
     {
         let [first, second, third, fourth, fifth, sixth] = six_hex_digits(number);
         match number {
@@ -100,7 +101,7 @@ pub(super) fn hex_pair(byte: u8) -> [u8; 2]
 #[tactic(auto, unfolding(crate::specs::Lines::hex_length))]
 pub(super) fn hex_length(number: u32) -> usize
     ensures value { result ≡ hex_length_of number }
-    ensures most { result ≤ 6 }
+    ensures at_most_six { result ≤ 6 }
 {
     match number {
         0..0x10 => 1,

@@ -26,7 +26,7 @@ impl Flushes {
 impl Sink for Flushes {
     ghost use Rattle.std.specs.Prelude.{None};
 
-    ghost taken = { λ writer. None };
+    ghost contents = { λ writer. None };
 
     ghost has_failed = { λ writer. writer.failed };
 
@@ -61,7 +61,7 @@ struct Sizes {
 impl Source for Sizes {
     ghost use Rattle.std.specs.Prelude.{None};
 
-    ghost to_come = { λ reader. None };
+    ghost remaining = { λ reader. None };
 
     ghost has_failed = { λ reader. reader.failed };
 

@@ -28,7 +28,7 @@ impl<'a> Chunks<'a> {
 impl Source for Chunks<'_> {
     ghost use Rattle.std.specs.Prelude.{None};
 
-    ghost to_come = { λ chunks. None };
+    ghost remaining = { λ chunks. None };
 
     ghost has_failed = { λ chunks. chunks.failed };
 
@@ -80,7 +80,7 @@ impl Written {
 impl Sink for Written {
     ghost use Rattle.std.specs.Prelude.{None};
 
-    ghost taken = { λ written. None };
+    ghost contents = { λ written. None };
 
     ghost has_failed = { λ written. written.failed };
 

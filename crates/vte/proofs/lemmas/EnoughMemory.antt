@@ -7,6 +7,7 @@ use Rattle.vte_core.specs.LongParser.{memory_of, open_command_size, read_count}
 use Rattle.vte_core.specs.Parser.{reading_of}
 use Rattle.vte_core.specs.declared.parser.Parser.{Parser}
 use Rattle.vte_core.specs.Advance.{ReadsBytes, ReadsUntilTerminated}
+use Rattle.vte_core.specs.Looks.{per_byte}
 
 -- ---- a text of the size of the data and 16 separators holds what is joined of a command
 
@@ -50,7 +51,7 @@ module _ {N : ℕ} {V W : Type 0} {step : PerformerValue V W → Event → Perfo
     stops =
         λ stream spare has_read memory. record {
           stops = reads.stops stream has_read;
-          fits = short_fits N old.text_size stream bytes memory;
+          fits = short_fits N old.text_capacity stream bytes memory;
           reads = reads.reads stream has_read;
         };
     keeps_memory = λ size stream count had. had;
@@ -82,7 +83,7 @@ module _ {A V W : Type 0} {step : PerformerValue V W → Event → PerformerValu
     {bytes : List ℕ}
     {parser next : LongParser A} where
   pub long_parses : (result : Result (Unit {0}) Refused)
-      → ReadsLong 5 step (λ _. false) old new bytes parser next result (λ (_ : Unit {0}). ReadsBytes step)
+      → ReadsLong (per_byte 5) step (λ _. false) old new bytes parser next result (λ (_ : Unit {0}). ReadsBytes step)
       → AdvancesAll long_parser_view None step parser next old new bytes
   long_parses (Ok _) reads_long = record {
     parses = λ stream spare has_read memory. record {
@@ -102,7 +103,7 @@ module _ {A V W : Type 0} {step : PerformerValue V W → Event → PerformerValu
   }
 
   pub long_stops : (result : Result ℕ Refused)
-      → ReadsLong 5 step (λ performer. performer.terminated) old new bytes parser next result
+      → ReadsLong (per_byte 5) step (λ performer. performer.terminated) old new bytes parser next result
       (ReadsUntilTerminated step (λ performer. performer.terminated))
       → AdvancesUntilStop long_parser_view None step parser next old new bytes (read_count result)
   long_stops (Ok read) reads_long = record {

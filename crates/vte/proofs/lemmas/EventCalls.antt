@@ -1,6 +1,6 @@
 -- From events to calls: what a performer makes of a handler and a timeout. All events together make the calls of their
 -- rows, and set the timeout once per begin of an update; a run of text makes those of its characters.
-use Rattle.vte.proofs.Common.{add-zero, added, added-append, added-nothing, added_calls, after, ap, append-nil, append_assoc, arith, Bool, Call, calls, calls_after, calls_from, chars, drop-append_seam, Event, events, events_grow, first_number, get_or, get_or-append-add, Input, IsCharBoundary, IsUtf8, last_printed, last_printed_after, last_printed_from, length, length-append, List, map, nat_lt, nat_tests, None, Option, option_or, or-false, performer_with_event, PerformerValue, Print, refl, rules, set_times, Some, suc, suc-add, sym, take-append_seam, TimeoutMeaning, update_nanos, with_private_mode, with_private_modes, zero, zero-add, ℕ, [], ◌++◌, ◌+◌, ◌||◌, ◌∙◌, ◌∷◌, ◌≡◌, ◌≤◌}
+use Rattle.vte.proofs.Common.{add-zero, added, added-append, added-nothing, added_calls, after, ap, append-nil, append_assoc, arith, Bool, Call, calls, calls_after, calls_from, chars, drop-append_seam, Event, events, events_grow, first_number, get_or, get_or-append-add, Input, IsCharBoundary, IsUtf8, last_printed, last_printed_after, last_printed_from, length, length-append, List, map, nat_lt, nat_tests, None, Option, option_or, or-false, performer_with_event, PerformerValue, Print, refl, rules, Some, suc, suc-add, sym, take-append_seam, timeout_set_times, TimeoutMeaning, update_nanos, with_private_mode, with_private_modes, zero, zero-add, ℕ, [], ◌++◌, ◌+◌, ◌||◌, ◌∙◌, ◌∷◌, ◌≡◌, ◌≤◌}
 use Rattle.std.specs.Bool.{if◌then◌else◌}
 use Rattle.std.proofs.Math.Utf8.{encode}
 use Rattle.std.proofs.lemmas.Str.{chars-append, chars-nil, chars_past_char, IsUtf8-drop, IsUtf8-take}
@@ -57,10 +57,11 @@ calls_whole limit stream bytes =
     ∙ rw (added_calls-events limit stream bytes) (calls-append None (events limit stream) (added limit stream bytes))
 
 -- To set a timeout n + k times is to set it n times, then k times.
-pub set_times-add : {W : Type 0} (m : TimeoutMeaning W) (value : W) (n k : ℕ)
-    → set_times m (n + k) value ≡ set_times m k (set_times m n value)
-set_times-add m value zero k = rw zero-add
-set_times-add m value (suc n) k = rw suc-add (set_times-add m (m.set value update_nanos) n k)
+pub timeout_set_times-add : {W : Type 0} (meaning : TimeoutMeaning W) (value : W) (n k : ℕ)
+    → timeout_set_times meaning (n + k) value ≡ timeout_set_times meaning k (timeout_set_times meaning n value)
+timeout_set_times-add meaning value zero k = rw zero-add
+timeout_set_times-add meaning value (suc n) k =
+    rw suc-add (timeout_set_times-add meaning (meaning.set value update_nanos) n k)
 
 terminated-more : (terminated begins : Bool) (n : ℕ)
     → ((terminated || begins) || nat_lt 0 n) ≡ (terminated || nat_lt 0 ((if begins then 1 else 0) + n))
@@ -71,7 +72,7 @@ pub modes-more : {V W : Type 0} (step : V → Call → V) (timeout : TimeoutMean
     (group : List ℕ) (groups : List (List ℕ))
     → with_private_modes step timeout (with_private_mode step timeout performer (first_number group)) groups
     ≡ with_private_modes step timeout performer (group ∷ groups)
-modes-more step timeout performer group groups = search (rules, arith, terminated-more, set_times-add)
+modes-more step timeout performer group groups = search (rules, arith, terminated-more, timeout_set_times-add)
 
 -- ---- a run of text
 

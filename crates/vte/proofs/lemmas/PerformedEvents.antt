@@ -1,10 +1,10 @@
 -- A performer's value after the events of bytes. The handler and the state that it was lent come back as they are
 -- after the bytes, and an early stop reads the prefix up to the begin of an update.
-use Rattle.vte.proofs.Common.{added, after, All, All-head, All-tail, ap, ArePartsAt, ArePartsAtKeepingMemory, arith, begin_count, begins_in_event, Bool, calls_from, calls_of, cases_lt, engine_view, Event, events, events_grow, false, false≢true, FitsText, inl, inr, KeepsMemory, last_printed, last_printed_after, last_printed_from, length, List, Meaning, nat_lt, nat_tests, or-false, parse, ParserView, performer_value, performer_with_event, PerformerValue, prefix_to_begin, ProcessorState, refl, reported-settled, reported_before, resumed_stream, resumed_stream-settled, set_times, starts-settled, State, StopsExactly, sym, take, ℕ, [], ◌++◌, ◌+◌, ◌<◌, ◌||◌, ◌∙◌, ◌∷◌, ◌≡◌}
+use Rattle.vte.proofs.Common.{added, after, All, All-head, All-tail, ap, arith, begin_count, begin_count_in_event, Bool, calls_from, calls_of, cases_lt, engine_view, Event, events, events_grow, false, false≢true, FitsText, inl, inr, KeepsMemory, last_printed, last_printed_after, last_printed_from, length, List, Meaning, nat_lt, nat_tests, or-false, parse, ParserView, PartsAreAt, PartsAreAtKeepingMemory, performer_value, performer_with_event, PerformerValue, prefix_to_begin, ProcessorState, refl, reported-settled, reported_before, resumed_stream, resumed_stream-settled, starts-settled, State, StopsExactly, sym, take, timeout_set_times, ℕ, [], ◌++◌, ◌+◌, ◌<◌, ◌||◌, ◌∙◌, ◌∷◌, ◌≡◌}
 use Rattle.vte_core.specs.Event.{after as performed}
 use Rattle.vte.specs.declared.ansi.calls.performer.Performer.{Performer}
 use Rattle.vte.proofs.lemmas.updates.Prefixes.{begin_count-reported, breaks_at-prefix, IsPrefix, open_character-prefix, prefix-is}
-use Rattle.vte.proofs.lemmas.EventCalls.{added_calls-events, after_calls-append, last_printed-append, set_times-add}
+use Rattle.vte.proofs.lemmas.EventCalls.{added_calls-events, after_calls-append, last_printed-append, timeout_set_times-add}
 
 -- ---- the value after events
 
@@ -17,41 +17,41 @@ any-sum b m n = grind (arith, nat_tests)
 abbrev with_events : {V W : Type 0} → Meaning V W → PerformerValue V W → List Event → PerformerValue V W
 with_events m performer events = record {
   handler = after m.step performer.handler (calls_from performer.last events);
-  timeout = set_times m.timeout (begin_count events) performer.timeout;
+  timeout = timeout_set_times m.timeout (begin_count events) performer.timeout;
   last = last_printed_from performer.last events;
-  text_size = performer.text_size;
+  text_capacity = performer.text_capacity;
   terminated = performer.terminated || nat_lt 0 (begin_count events);
   state_name = performer.state_name;
   handler_name = performer.handler_name;
 }
 
 performed-events : {V W : Type 0} (m : Meaning V W) (performer : PerformerValue V W) (events : List Event)
-    → All (FitsText performer.text_size) events
+    → All (FitsText performer.text_capacity) events
     → performed (performer_with_event m.step m.timeout) performer events ≡ with_events m performer events
 performed-events m performer [] fits = rw or-false
 performed-events m performer (event ∷ events) fits =
     performed-events m (performer_with_event m.step m.timeout performer event) events
-    (All-tail (FitsText performer.text_size) event events fits)
+    (All-tail (FitsText performer.text_capacity) event events fits)
     ∙ rw (
-      All-head (FitsText performer.text_size) event events fits performer.last,
+      All-head (FitsText performer.text_capacity) event events fits performer.last,
       ← after_calls-append m.step performer.handler (calls_of performer.last event)
           (calls_from (last_printed_after performer.last event) events),
-      ← set_times-add m.timeout performer.timeout (begins_in_event event) (begin_count events),
-      any-sum performer.terminated (begins_in_event event) (begin_count events),
+      ← timeout_set_times-add m.timeout performer.timeout (begin_count_in_event event) (begin_count events),
+      any-sum performer.terminated (begin_count_in_event event) (begin_count events),
     ) refl
 
 -- ---- the performer gives back what it was lent
 
 -- What comes back has the value of `with_events`, so the parts are at the state after `parse`.
 
-module _ {H T B G V W : Type 0} (handler_of : H → V) (timeout_of : T → W) (text_size_of : B → ℕ) (m : Meaning V W)
+module _ {H T B G V W : Type 0} (handler_of : H → V) (timeout_of : T → W) (text_capacity_of : B → ℕ) (m : Meaning V W)
     (start : State V W) (bytes : List ℕ)
     (old : PerformerValue V W) (new : Performer H T B G) {state : ProcessorState T B}
-    (fits : All (FitsText old.text_size) (added m.limit start.parsed bytes))
-    (performs : performer_value handler_of timeout_of text_size_of new
+    (fits : All (FitsText old.text_capacity) (added m.limit start.parsed bytes))
+    (performs : performer_value handler_of timeout_of text_capacity_of new
     ≡ performed (performer_with_event m.step m.timeout) old (added m.limit start.parsed bytes))
     (back_state : old.state_name ≡ new.state.ghost_name → state ≡ new.state.now) where
-  value_is : performer_value handler_of timeout_of text_size_of new
+  value_is : performer_value handler_of timeout_of text_capacity_of new
       ≡ with_events m old (added m.limit start.parsed bytes)
   value_is = performs ∙ performed-events m old (added m.limit start.parsed bytes) fits
 
@@ -59,20 +59,21 @@ module _ {H T B G V W : Type 0} (handler_of : H → V) (timeout_of : T → W) (t
   state-is = back_state (sym (ap (λ performer. performer.state_name) value_is))
 
   -- The text has the same size as before.
-  pub text_size_back : text_size_of state.text ≡ old.text_size
-  text_size_back = rw state-is (ap (λ performer. performer.text_size) value_is)
+  pub text_capacity_back : text_capacity_of state.text ≡ old.text_capacity
+  text_capacity_back = rw state-is (ap (λ performer. performer.text_capacity) value_is)
 
   pub performer-given_back : {P : Type 0} {view : ParserView P} {parser next : P} {lent : ProcessorState T B}
-      {value : V} {handler : H} → ArePartsAt (engine_view m.limit view text_size_of timeout_of) parser lent value start
+      {value : V} {handler : H}
+      → PartsAreAt (engine_view m.limit view text_capacity_of timeout_of) parser lent value start
       → old.last ≡ lent.preceding_char → old.timeout ≡ timeout_of lent.timeout → old.handler ≡ value
-      → old.text_size ≡ text_size_of lent.text
+      → old.text_capacity ≡ text_capacity_of lent.text
       → view.has_read next (start.parsed ++ bytes)
       → (old.handler_name ≡ new.handler.ghost_name → handler ≡ new.handler.now)
       → ((size : ℕ) → KeepsMemory (view.has_memory parser size) (view.has_memory next size))
-      → ArePartsAtKeepingMemory (engine_view m.limit view text_size_of timeout_of) parser lent next state
+      → PartsAreAtKeepingMemory (engine_view m.limit view text_capacity_of timeout_of) parser lent next state
       (handler_of handler)
       (parse m start bytes)
-  performer-given_back {lent} parts_at lent_last lent_timeout lent_handler lent_text_size has_read back_handler
+  performer-given_back {lent} parts_at lent_last lent_timeout lent_handler lent_text_capacity has_read back_handler
       keeps_memory =
       -- The handler that comes back is the one that was lent.
       let handler_back = back_handler (sym (ap (λ performer. performer.handler_name) value_is)) in
@@ -92,7 +93,7 @@ module _ {H T B G V W : Type 0} (handler_of : H → V) (timeout_of : T → W) (t
               rw (handler_back, added_calls-events m.limit start.parsed bytes, ← last_is, ← handler_is)
               (ap (λ performer. performer.handler) value_is);
         };
-        keeps_memory = rw (text_size_back, lent_text_size) (keeps_memory (text_size_of lent.text));
+        keeps_memory = rw (text_capacity_back, lent_text_capacity) (keeps_memory (text_capacity_of lent.text));
       }
 
 -- ---- an early stop reads the prefix
@@ -105,7 +106,7 @@ terminated_by : {V W : Type 0} (m : Meaning V W) (performer : PerformerValue V W
 terminated_by m performer [] = sym (or-false performer.terminated)
 terminated_by m performer (event ∷ events) =
     terminated_by m (performer_with_event m.step m.timeout performer event) events
-    ∙ any-sum performer.terminated (begins_in_event event) (begin_count events)
+    ∙ any-sum performer.terminated (begin_count_in_event event) (begin_count events)
 
 module _ {V W : Type 0} (m : Meaning V W) {old new : PerformerValue V W} (goes_on : old.terminated ≡ false)
     {stream bytes : List ℕ} {read : ℕ}

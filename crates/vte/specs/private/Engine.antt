@@ -15,50 +15,51 @@ use Rattle.vte.specs.declared.ansi.updates.engine.Engine.{Engine}
 -- ---- what is true between the parts of a turn
 
 -- The parser, the state lent to it and the handler's value are as the state says, whatever is held.
-pub record ArePartsAt {P B T V W : Type 0} (view : EngineView P B T W) (parser : P)
+pub record PartsAreAt {P B T V W : Type 0} (view : EngineView P B T W) (parser : P)
     (lent : ProcessorState T B) (value : V) (state : State V W) : Type 0 where
   pub has_read : view.parser.has_read parser state.parsed
   pub last : lent.preceding_char ≡ last_printed (events view.limit state.parsed)
   pub timeout_is : view.timeout_of lent.timeout ≡ state.timeout
   pub handler_is : value ≡ state.handler
 
--- `ArePartsAt`, and there is memory for `count` bytes.
-pub record ArePartsAtWithMemory {P B T V W : Type 0} (view : EngineView P B T W) (parser : P)
+-- `PartsAreAt`, and there is memory for `count` bytes.
+pub record PartsAreAtWithMemory {P B T V W : Type 0} (view : EngineView P B T W) (parser : P)
     (lent : ProcessorState T B) (value : V) (state : State V W) (count : ℕ) : Type 0 where
-  pub parts_at : ArePartsAt view parser lent value state
-  pub memory : view.parser.has_memory parser (view.text_size_of lent.text) state.parsed count
+  pub parts_at : PartsAreAt view parser lent value state
+  pub memory : view.parser.has_memory parser (view.text_capacity_of lent.text) state.parsed count
 
 -- If there are bytes to parse, there is memory for them and `spare` more.
-abbrev pub HasMemoryIfAny : {P B T V W : Type 0} → EngineView P B T W → P → ProcessorState T B
+abbrev pub PartsHaveMemory : {P B T V W : Type 0} → EngineView P B T W → P → ProcessorState T B
     → State V W → List ℕ → ℕ → Type 0
-HasMemoryIfAny view parser lent state bytes spare =
-    0 < length bytes → view.parser.has_memory parser (view.text_size_of lent.text) state.parsed
+PartsHaveMemory view parser lent state bytes spare =
+    0 < length bytes → view.parser.has_memory parser (view.text_capacity_of lent.text) state.parsed
     (length bytes + spare)
 
--- `ArePartsAt`, with the memory that was there before.
-pub record ArePartsAtKeepingMemory {P B T V W : Type 0} (view : EngineView P B T W) (parser : P)
-    (lent : ProcessorState T B) (next : P) (back : ProcessorState T B)
+-- `PartsAreAt`, with the memory that was there before.
+pub record PartsAreAtKeepingMemory {P B T V W : Type 0} (view : EngineView P B T W) (parser : P)
+    (lent : ProcessorState T B) (next : P) (returned : ProcessorState T B)
     (value : V) (state : State V W) : Type 0 where
-  pub parts_at : ArePartsAt view next back value state
-  pub keeps_memory : KeepsMemory (view.parser.has_memory parser (view.text_size_of lent.text))
-      (view.parser.has_memory next (view.text_size_of back.text))
+  pub parts_at : PartsAreAt view next returned value state
+  pub keeps_memory : KeepsMemory (view.parser.has_memory parser (view.text_capacity_of lent.text))
+      (view.parser.has_memory next (view.text_capacity_of returned.text))
 
 -- From each state that the parts are at, with memory for `count` bytes and more, they lead on as
 -- `ends` says.
 abbrev pub PartsLeadOn : {P B T V W : Type 0} → EngineView P B T W → P → ProcessorState T B → V
     → P → ProcessorState T B → V → ℕ → (State V W → (State V W → Type 0) → Type 0) → Type 0
-PartsLeadOn view parser lent old next back new count ends =
+PartsLeadOn view parser lent old next returned new count ends =
     (state : State _ _) (spare : ℕ)
-    → ArePartsAtWithMemory view parser lent old state (count + spare)
-    → ends state (ArePartsAtKeepingMemory view parser lent next back new)
+    → PartsAreAtWithMemory view parser lent old state (count + spare)
+    → ends state (PartsAreAtKeepingMemory view parser lent next returned new)
 
 -- If there was memory for bytes and `spare` more, there is memory for these after the bytes.
-abbrev pub LeaveMemory : {P B T V W : Type 0} → EngineView P B T W → P → ProcessorState T B → V
+abbrev pub PartsLeaveMemory : {P B T V W : Type 0} → EngineView P B T W → P → ProcessorState T B → V
     → P → ProcessorState T B → List ℕ → Type 0
-LeaveMemory {W} view parser lent old next back bytes =
+PartsLeaveMemory {W} view parser lent old next returned bytes =
     (state : State _ W) (spare : ℕ)
-    → ArePartsAtWithMemory view parser lent old state (length bytes + spare)
-    → view.parser.has_memory next (view.text_size_of back.text) (state.parsed ++ bytes) spare
+    → PartsAreAtWithMemory view parser lent old state (length bytes + spare)
+    → view.parser.has_memory next (view.text_capacity_of returned.text)
+    (state.parsed ++ bytes) spare
 
 -- The engine and the handler's value are as the state says.
 abbrev pub EngineIsAt : {P B T A V W : Type 0} → EngineView P B T W → Engine P B T A → V

@@ -25,12 +25,12 @@ pub record IsHeldTail (held more text : List ℕ) (start : ℕ) : Type 0 where
   pub text_is : text ≡ drop start (held ++ more)
 
 -- The result of adding the last `new` of these bytes to the others.
-pub record Adds (bytes : List ℕ) (new : ℕ) (added : Release) : Type 0 where
+pub record FindsRelease (bytes : List ℕ) (new : ℕ) (added : Release) : Type 0 where
   pub begins : added.begins ≡ begins_ending_in_last new (part_after_last_end bytes)
   pub released : added.released ≡ length bytes - length (still_held bytes)
 
 -- Bytes were added to those that were held.
-pub record IsAdded {A : Type 0} (held more : List ℕ) (hold : SyncState A)
+pub record AddsToHold {A : Type 0} (held more : List ℕ) (hold : SyncState A)
     (begins : ℕ) : Type 0 where
   pub held_is : held_of hold ≡ still_held (held ++ more)
   pub released_is : released_of hold
@@ -38,13 +38,13 @@ pub record IsAdded {A : Type 0} (held more : List ℕ) (hold : SyncState A)
   pub begins_are : begins ≡ begins_ending_in_last (length more) (part_after_last_end (held ++ more))
 
 -- Neither an update begins nor one ends with the sequence at this position.
-pub record IsNeither (text : List ℕ) (position : ℕ) : Type 0 where
+pub record HasNoSequenceAt (text : List ℕ) (position : ℕ) : Type 0 where
   pub no_begin : begins_with begin_update (drop position text) ≡ false
   pub no_end : begins_with end_update (drop position text) ≡ false
 
 -- Neither an update begins nor one ends at a position from one on, before another.
-abbrev pub NoneBetween : List ℕ → ℕ → ℕ → Type 0
-NoneBetween text from before = (k : ℕ) → from ≤ k → k < before → IsNeither text k
+abbrev pub HasNoSequenceBetween : List ℕ → ℕ → ℕ → Type 0
+HasNoSequenceBetween text from before = (k : ℕ) → from ≤ k → k < before → HasNoSequenceAt text k
 
 -- None of the first bytes of a block is an ESC that a `?` follows after one byte, as in what begins
 -- and what ends an update.

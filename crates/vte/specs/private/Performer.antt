@@ -5,10 +5,10 @@ use Rattle.vte.specs.Colors.{is_component}
 use Rattle.std.specs.Borrow.{Bor, GName}
 use Rattle.std.specs.List.{concat}
 use Rattle.vte.specs.Split.{split_by}
-use Rattle.vte.specs.Synchronized.{begins_in_event}
+use Rattle.vte.specs.Synchronized.{begin_count_in_event}
 use Rattle.vte.specs.Calls.{calls_of, last_printed_after}
 use Rattle.vte.specs.CommandCalls.{system_command_calls}
-use Rattle.vte.specs.Processor.{set_times}
+use Rattle.vte.specs.Processor.{timeout_set_times}
 use Rattle.vte_core.specs.Event.{Event, OscDispatch}
 use Rattle.vte_handler.specs.Call.{Call}
 use Rattle.vte_handler.specs.Handler.{after}
@@ -40,11 +40,11 @@ text_to_join false text = 0x3b ∷ text
 abbrev pub joined_size : List (List ℕ) → ℕ
 joined_size pieces = length (concat pieces) + length pieces
 
-abbrev pub FitsTextSize : ℕ → List (List ℕ) → Type 0
-FitsTextSize text_size pieces = joined_size pieces ≤ text_size
+abbrev pub FitsTextCapacity : ℕ → List (List ℕ) → Type 0
+FitsTextCapacity text_capacity pieces = joined_size pieces ≤ text_capacity
 
-abbrev pub fits_text_size : ℕ → List (List ℕ) → Bool
-fits_text_size text_size pieces = nat_le (joined_size pieces) text_size
+abbrev pub fits_text_capacity : ℕ → List (List ℕ) → Bool
+fits_text_capacity text_capacity pieces = nat_le (joined_size pieces) text_capacity
 
 -- ---- a performer
 
@@ -55,30 +55,31 @@ pub record PerformerValue (V W : Type 0) : Type 0 where
   pub handler : V
   pub timeout : W
   pub last : Option ℕ
-  pub text_size : ℕ
+  pub text_capacity : ℕ
   pub terminated : Bool
   pub state_name : GName
   pub handler_name : GName
 
 -- The calls of an event. A command that doesn't fit the buffer for texts makes none.
 abbrev pub calls_made : ℕ → Option ℕ → Event → List Call
-calls_made text_size last (OscDispatch pieces bell) =
-    if fits_text_size text_size pieces then system_command_calls pieces bell else []
-calls_made text_size last event = calls_of last event
+calls_made text_capacity last (OscDispatch pieces bell) =
+    if fits_text_capacity text_capacity pieces then system_command_calls pieces bell else []
+calls_made text_capacity last event = calls_of last event
 
 -- With a text of this size, the calls of the event are made.
 abbrev pub FitsText : ℕ → Event → Type 0
-FitsText text_size event = (last : Option ℕ) → calls_made text_size last event ≡ calls_of last event
+FitsText text_capacity event = (last : Option ℕ)
+    → calls_made text_capacity last event ≡ calls_of last event
 
 -- An event that begins an update terminates the performer.
 abbrev pub performer_with_event : {V W : Type 0}
     → (V → Call → V) → TimeoutMeaning W → PerformerValue V W → Event → PerformerValue V W
 performer_with_event step timeout performer event = record {
-  handler = after step performer.handler (calls_made performer.text_size performer.last event);
-  timeout = set_times timeout (begins_in_event event) performer.timeout;
+  handler = after step performer.handler (calls_made performer.text_capacity performer.last event);
+  timeout = timeout_set_times timeout (begin_count_in_event event) performer.timeout;
   last = last_printed_after performer.last event;
-  text_size = performer.text_size;
-  terminated = performer.terminated || nat_lt 0 (begins_in_event event);
+  text_capacity = performer.text_capacity;
+  terminated = performer.terminated || nat_lt 0 (begin_count_in_event event);
   state_name = performer.state_name;
   handler_name = performer.handler_name;
 }

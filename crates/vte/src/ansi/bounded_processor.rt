@@ -3,8 +3,8 @@ ghost use Rattle.std.specs.Prelude.{Some, [], ◌≡◌};
 ghost use Rattle.vte_core.specs.Parser.{lost_data};
 ghost use Rattle.vte_handler.specs.Timeout.{timeout_meaning};
 ghost use Rattle.vte.specs.BoundedProcessor.{HasParsedAndHoldsBounded, held_in_bounded, parser_in_bounded, timeout_in_bounded};
-ghost use Rattle.vte.specs.Processor.{meaning_of};
-ghost use Rattle.vte.specs.ProcessorCalls.{CountsHeld, Creates, ReadsInTurns, SaysParsedLoss, StopsSync};
+ghost use Rattle.vte.specs.Processor.{processor_meaning};
+ghost use Rattle.vte.specs.ProcessorCalls.{AdvancesInTurns, CountsHeld, Creates, SaysParsedLoss, StopsSync};
 
 use crate::ansi::calls::growing_text::GrowingText;
 use crate::ansi::updates::engine::Engine;
@@ -55,8 +55,8 @@ impl<T: Timeout + Drop, A: Allocator, const N: usize> BoundedProcessor<T, A, N> 
         self.engine.hold.len()
     }
 
-    /// Returns whether the operating system command that is open lost data bytes, or if none is
-    /// open, the last one: those after the first `N`, and those after the 16th piece. Bytes that
+    /// Returns whether the open operating system command has lost data bytes, or the last one if
+    /// none is open. It loses those after the first `N`, and those after the 16th piece. Bytes that
     /// are held back don't count.
     pub fn command_lost_data(&self) -> bool
         ensures lost { result ≡ lost_data (parser_in_bounded self.now) }
@@ -69,7 +69,7 @@ impl<T: Timeout + Drop, A: Allocator, const N: usize> BoundedProcessor<T, A, N> 
     /// Stops an update: parses the bytes that are held back, tells the handler that the update has
     /// ended, and clears the timeout. The handler is called without an update, too.
     pub fn stop_sync<H: Handler>(&mut self, handler: &mut H)
-        ensures { StopsSync (meaning_of (Some N) H.step T.set T.clear T.allows)
+        ensures { StopsSync (processor_meaning (Some N) H.step T.set T.clear T.allows)
             (HasParsedAndHoldsBounded T.value_of self.old)
             (HasParsedAndHoldsBounded T.value_of self.new)
             (H.value_of handler.old) (H.value_of handler.new) }
@@ -79,7 +79,7 @@ impl<T: Timeout + Drop, A: Allocator, const N: usize> BoundedProcessor<T, A, N> 
 
     /// Stops an update as [`stop_sync`](Self::stop_sync) does. The handler receives text in runs.
     pub fn stop_sync_text<H: HandlerText>(&mut self, handler: &mut H)
-        ensures { StopsSync (meaning_of (Some N) H.step T.set T.clear T.allows)
+        ensures { StopsSync (processor_meaning (Some N) H.step T.set T.clear T.allows)
             (HasParsedAndHoldsBounded T.value_of self.old)
             (HasParsedAndHoldsBounded T.value_of self.new)
             (H.value_of handler.old) (H.value_of handler.new) }
@@ -92,23 +92,23 @@ impl<T: Timeout + Drop, A: Allocator, const N: usize> BoundedProcessor<T, A, N> 
     /// If the timeout is never pending, all bytes are parsed: the handler of a new processor
     /// receives the calls of the whole stream, however it is split.
     pub fn advance<H: Handler>(&mut self, handler: &mut H, bytes: &[u8])
-        ensures { ReadsInTurns (meaning_of (Some N) H.step T.set T.clear T.allows)
+        ensures { AdvancesInTurns (processor_meaning (Some N) H.step T.set T.clear T.allows)
             (HasParsedAndHoldsBounded T.value_of self.old)
             (HasParsedAndHoldsBounded T.value_of self.new)
             (H.value_of handler.old) (H.value_of handler.new) bytes.now }
     {
         // The memory is there, so all bytes are read.
-        let _ = self.engine.read::<H, ByCharacter>(handler, bytes);
+        let _ = self.engine.advance::<H, ByCharacter>(handler, bytes);
     }
 
     /// Reads bytes as [`advance`](Self::advance) does. The handler receives text in runs.
     pub fn advance_text<H: HandlerText>(&mut self, handler: &mut H, bytes: &[u8])
-        ensures { ReadsInTurns (meaning_of (Some N) H.step T.set T.clear T.allows)
+        ensures { AdvancesInTurns (processor_meaning (Some N) H.step T.set T.clear T.allows)
             (HasParsedAndHoldsBounded T.value_of self.old)
             (HasParsedAndHoldsBounded T.value_of self.new)
             (H.value_of handler.old) (H.value_of handler.new) bytes.now }
     {
         // The memory is there, so all bytes are read.
-        let _ = self.engine.read::<H, InRuns>(handler, bytes);
+        let _ = self.engine.advance::<H, InRuns>(handler, bytes);
     }
 }

@@ -1,11 +1,11 @@
 //! Laws of lists of a processor's calls, and the laws of the types.
 ghost use Rattle.std.specs.Prelude.{drop, List, None, Option, take, ℕ, ◌++◌, ◌≡◌};
-ghost use Rattle.vte.specs.CallExamples.{AreMade, AreRead, color_examples, command_examples, counted_examples, escape_examples, executed_examples};
+ghost use Rattle.vte.specs.CallExamples.{color_examples, command_examples, counted_examples, escape_examples, executed_examples, HaveCalls, HaveColors};
 ghost use Rattle.vte.specs.CallExamples.{link_examples, mode_examples, palette_examples, position_examples, rendition_examples, selected_examples, title_examples};
-ghost use Rattle.vte.specs.Processor.{given_bytes, HoldsWellAt, meaning_of, State, TakesAllTurns, TakesSteps, TakesTurns};
+ghost use Rattle.vte.specs.Processor.{given_bytes, HoldsWellAt, processor_meaning, State, TakesAllTurns, TakesSteps, TakesTurns};
 ghost use Rattle.vte.specs.ProcessorCalls.{HasDelivered};
 ghost use Rattle.vte.specs.Refusal.{TakesTurnsUntilRefused};
-ghost use Rattle.vte.specs.UpdateExamples.{AreRight, expired_example, ShortExamples, update_examples};
+ghost use Rattle.vte.specs.UpdateExamples.{ExpiredExample, HaveOutcomes, ShortExamples, update_examples};
 ghost use Rattle.vte.specs.declared.ansi.laws.replays.Step.{Step};
 ghost use Rattle.vte_handler.specs.Timeout.{IsSteady};
 
@@ -21,20 +21,20 @@ pub use vte_types::laws::{
 
 /// The definitions give the calls that were worked out by hand for streams of every shape.
 pub fn worked_examples()
-    ensures executed { AreMade executed_examples }
-    ensures escape { AreMade escape_examples }
-    ensures counted { AreMade counted_examples }
-    ensures position { AreMade position_examples }
-    ensures selected { AreMade selected_examples }
-    ensures mode { AreMade mode_examples }
-    ensures rendition { AreMade rendition_examples }
-    ensures title { AreMade title_examples }
-    ensures link { AreMade link_examples }
-    ensures palette { AreMade palette_examples }
-    ensures command { AreMade command_examples }
-    ensures color { AreRead color_examples }
-    ensures update { AreRight update_examples }
-    ensures expired { expired_example }
+    ensures executed { HaveCalls executed_examples }
+    ensures escape { HaveCalls escape_examples }
+    ensures counted { HaveCalls counted_examples }
+    ensures position { HaveCalls position_examples }
+    ensures selected { HaveCalls selected_examples }
+    ensures mode { HaveCalls mode_examples }
+    ensures rendition { HaveCalls rendition_examples }
+    ensures title { HaveCalls title_examples }
+    ensures link { HaveCalls link_examples }
+    ensures palette { HaveCalls palette_examples }
+    ensures command { HaveCalls command_examples }
+    ensures color { HaveColors color_examples }
+    ensures update { HaveOutcomes update_examples }
+    ensures expired { ExpiredExample }
     ensures short { ShortExamples }
 {}
 
@@ -42,40 +42,43 @@ pub fn worked_examples()
 /// handler receives of them: as of the calls of [`replay`], with a limit and without.
 pub fn calls_are_received<H: Handler, T: Timeout>()
     ensures calls { (limit : Option ℕ) (state next : State H.Value T.Value) (steps : List Step)
-        → let m = meaning_of limit H.step T.set T.clear T.allows in
-        TakesSteps m state steps next → HasDelivered m state (given_bytes steps) next }
+        → let meaning = processor_meaning limit H.step T.set T.clear T.allows in
+        TakesSteps meaning state steps next → HasDelivered meaning state (given_bytes steps) next }
     // The last call was refused memory when it had read this many of its bytes.
     ensures refused { (state reached next : State H.Value T.Value) (steps : List Step)
-        (bytes : List ℕ) (read : ℕ) → let m = meaning_of None H.step T.set T.clear T.allows in
-        TakesSteps m state steps reached →
-        TakesTurnsUntilRefused m reached bytes next (drop read bytes) →
-        HasDelivered m state (given_bytes steps ++ take read bytes) next }
+        (bytes : List ℕ) (read : ℕ)
+        → let meaning = processor_meaning None H.step T.set T.clear T.allows in
+        TakesSteps meaning state steps reached →
+        TakesTurnsUntilRefused meaning reached bytes next (drop read bytes) →
+        HasDelivered meaning state (given_bytes steps ++ take read bytes) next }
     // Further calls go on from where calls led to.
     ensures goes_on { (limit : Option ℕ) (state reached next : State H.Value T.Value)
-        (steps more : List Step) → let m = meaning_of limit H.step T.set T.clear T.allows in
-        TakesSteps m state steps reached → TakesSteps m reached more next →
-        TakesSteps m state (steps ++ more) next }
+        (steps more : List Step)
+        → let meaning = processor_meaning limit H.step T.set T.clear T.allows in
+        TakesSteps meaning state steps reached → TakesSteps meaning reached more next →
+        TakesSteps meaning state (steps ++ more) next }
     ensures holds_well { (limit : Option ℕ) (state next : State H.Value T.Value)
-        (steps : List Step) → let m = meaning_of limit H.step T.set T.clear T.allows in
-        TakesSteps m state steps next → HoldsWellAt m state → HoldsWellAt m next }
+        (steps : List Step) → let meaning = processor_meaning limit H.step T.set T.clear T.allows in
+        TakesSteps meaning state steps next → HoldsWellAt meaning state → HoldsWellAt meaning next }
     // With a steady timeout they lead to one state only.
-    ensures only { (limit : Option ℕ) (state next other : State H.Value T.Value)
-        (steps : List Step) → let m = meaning_of limit H.step T.set T.clear T.allows in
-        IsSteady m.timeout → HoldsWellAt m state →
-        TakesSteps m state steps next → TakesSteps m state steps other → other ≡ next }
+    ensures unique_state { (limit : Option ℕ) (state next other : State H.Value T.Value)
+        (steps : List Step) → let meaning = processor_meaning limit H.step T.set T.clear T.allows in
+        IsSteady meaning.timeout → HoldsWellAt meaning state →
+        TakesSteps meaning state steps next → TakesSteps meaning state steps other → other ≡ next }
 {}
 
-/// Where the rest of a refused call of a [`LongProcessor`](crate::ansi::LongProcessor) leads to,
-/// the whole call leads to: if it was refused between turns, and with a steady timeout within a
-/// turn too, although the timeout is asked once more.
+/// The rest of a refused call of a [`LongProcessor`](crate::ansi::LongProcessor) leads to where the
+/// whole call leads to: if it was refused between turns, and with a steady timeout within a turn
+/// too, although the timeout is asked once more.
 #[tactic(auto, using(crate::proofs::lemmas::turns::RefusedTurns::taken_on))]
 pub fn refused_calls_go_on<H: Handler, T: Timeout>()
     ensures between { (state next end : State H.Value T.Value) (bytes rest : List ℕ)
-        → let m = meaning_of None H.step T.set T.clear T.allows in
-        TakesTurns m state bytes next rest → TakesAllTurns m next rest end
-        → TakesAllTurns m state bytes end }
+        → let meaning = processor_meaning None H.step T.set T.clear T.allows in
+        TakesTurns meaning state bytes next rest → TakesAllTurns meaning next rest end
+        → TakesAllTurns meaning state bytes end }
     ensures within { (state next end : State H.Value T.Value) (bytes rest : List ℕ)
-        → let m = meaning_of None H.step T.set T.clear T.allows in
-        IsSteady m.timeout → HoldsWellAt m state → TakesTurnsUntilRefused m state bytes next rest →
-        TakesAllTurns m next rest end → TakesAllTurns m state bytes end }
+        → let meaning = processor_meaning None H.step T.set T.clear T.allows in
+        IsSteady meaning.timeout → HoldsWellAt meaning state
+        → TakesTurnsUntilRefused meaning state bytes next rest →
+        TakesAllTurns meaning next rest end → TakesAllTurns meaning state bytes end }
 {}

@@ -2,10 +2,10 @@
 ghost use Rattle.std.specs.Prelude.{length, List, None, ℕ, [], ◌+◌, ◌≡◌};
 ghost use Rattle.vte_core.specs.LongParser.{lost_data_long, open_command_size, reading_of_long};
 ghost use Rattle.vte_handler.specs.Timeout.{timeout_meaning};
-ghost use Rattle.vte.specs.Processor.{meaning_of};
-ghost use Rattle.vte.specs.LongProcessor.{AdvancesLong, HasParsedAndHoldsLong, ReservesLong, StopsLong};
-ghost use Rattle.vte.specs.Memory.{HasFreedMemory, HasMemory, held_in_long, KeepsMemory, parser_in_long, timeout_in_long};
-ghost use Rattle.vte.specs.ProcessorCalls.{CountsHeld, Creates, IsCopyOfProcessor, SaysParsedLoss};
+ghost use Rattle.vte.specs.Processor.{processor_meaning};
+ghost use Rattle.vte.specs.LongProcessor.{AdvancesLong, HasParsedAndHoldsLong, ReservesLong, StopsSyncLong};
+ghost use Rattle.vte.specs.Memory.{HasFreedMemoryLong, HasMemoryLong, held_in_long, KeepsMemory, parser_in_long, timeout_in_long};
+ghost use Rattle.vte.specs.ProcessorCalls.{CountsHeld, Creates, IsCloneOfProcessor, SaysParsedLoss};
 
 use crate::ansi::calls::growing_text::GrowingText;
 use crate::ansi::updates::engine::Engine;
@@ -17,9 +17,9 @@ use vte_handler::{Handler, HandlerText, Timeout};
 /// length.
 ///
 /// A call allocates before it parses each 65,536 bytes: for them and an open command, and for a
-/// text that is joined from these. Bytes that are held back take theirs whole. If memory is
-/// refused, the call stops there. Nothing is lost or done twice, and the rest can be passed in
-/// again:
+/// text that is joined from these. For bytes that are held back, it allocates all memory at once.
+/// If memory is refused, the call stops there. Nothing is lost or done twice, and the rest can be
+/// passed in again:
 ///
 /// ```rattle
 /// if let Err(refused) = processor.advance(&mut handler, bytes) {
@@ -34,12 +34,12 @@ pub struct LongProcessor<T: Timeout + Drop, A: Allocator> {
 
 /// A clone goes on as the original would, if the clone of its timeout does.
 impl<T: Timeout + Clone + Drop, A: Allocator + Clone> Clone for LongProcessor<T, A> {
-    ghost is_clone = { λ processor copy. IsCopyOfProcessor T.is_clone T.value_of
-        (timeout_in_long processor) (timeout_in_long copy)
-        (HasParsedAndHoldsLong T.value_of processor) (HasParsedAndHoldsLong T.value_of copy)
+    ghost is_clone = { λ processor clone. IsCloneOfProcessor T.is_clone T.value_of
+        (timeout_in_long processor) (timeout_in_long clone)
+        (HasParsedAndHoldsLong T.value_of processor) (HasParsedAndHoldsLong T.value_of clone)
         (reading_of_long (parser_in_long processor))
-        (reading_of_long (parser_in_long copy))
-        × KeepsMemory (HasMemory processor) (HasMemory copy) };
+        (reading_of_long (parser_in_long clone))
+        × KeepsMemory (HasMemoryLong processor) (HasMemoryLong clone) };
 
     fn clone(&self) -> Result<Self, AllocError> {
         let engine = self.engine.clone()?;
@@ -78,8 +78,8 @@ impl<T: Timeout + Drop, A: Allocator> LongProcessor<T, A> {
         self.engine.hold.len()
     }
 
-    /// Returns whether the operating system command that is open lost data bytes, or if none is
-    /// open, the last one: those after the 16th piece. Bytes that are held back don't count.
+    /// Returns whether the open operating system command has lost data bytes, or the last one if
+    /// none is open. It loses those after the 16th piece. Bytes that are held back don't count.
     pub fn command_lost_data(&self) -> bool
         ensures lost { result ≡ lost_data_long (parser_in_long self.now) }
         ensures open { SaysParsedLoss None (HasParsedAndHoldsLong T.value_of self.now) result }
@@ -99,14 +99,14 @@ impl<T: Timeout + Drop, A: Allocator> LongProcessor<T, A> {
     /// Gives back the memory that an open operating system command doesn't need, unless bytes are
     /// held back. The 2,097,152 bytes for updates stay.
     pub fn shrink(&mut self)
-        ensures same { (parsed held : List ℕ) (timeout : T.Value)
+        ensures stays { (parsed held : List ℕ) (timeout : T.Value)
             → HasParsedAndHoldsLong T.value_of self.old parsed held timeout
             → HasParsedAndHoldsLong T.value_of self.new parsed held timeout }
         // No memory is kept if no command is open.
         ensures frees { (parsed : List ℕ) (timeout : T.Value)
             → HasParsedAndHoldsLong T.value_of self.old parsed [] timeout
             → open_command_size parsed ≡ 0
-            → HasFreedMemory self.new }
+            → HasFreedMemoryLong self.new }
         // `command_lost_data` answers as before.
         ensures lost { lost_data_long (parser_in_long self.new)
             ≡ lost_data_long (parser_in_long self.old) }
@@ -121,8 +121,8 @@ impl<T: Timeout + Drop, A: Allocator> LongProcessor<T, A> {
     /// ended, and clears the timeout. The handler is called without an update, too. It needs no
     /// memory: what is held back has taken it.
     pub fn stop_sync<H: Handler>(&mut self, handler: &mut H)
-        ensures { StopsLong T.value_of
-            (meaning_of None H.step T.set T.clear T.allows) self.old self.new
+        ensures { StopsSyncLong T.value_of
+            (processor_meaning None H.step T.set T.clear T.allows) self.old self.new
             (H.value_of handler.old) (H.value_of handler.new) }
     {
         self.engine.stop::<H, ByCharacter>(handler);
@@ -130,8 +130,8 @@ impl<T: Timeout + Drop, A: Allocator> LongProcessor<T, A> {
 
     /// Stops an update as [`stop_sync`](Self::stop_sync) does. The handler receives text in runs.
     pub fn stop_sync_text<H: HandlerText>(&mut self, handler: &mut H)
-        ensures { StopsLong T.value_of
-            (meaning_of None H.step T.set T.clear T.allows) self.old self.new
+        ensures { StopsSyncLong T.value_of
+            (processor_meaning None H.step T.set T.clear T.allows) self.old self.new
             (H.value_of handler.old) (H.value_of handler.new) }
     {
         self.engine.stop::<H, InRuns>(handler);
@@ -144,10 +144,10 @@ impl<T: Timeout + Drop, A: Allocator> LongProcessor<T, A> {
     /// of a new processor receives the calls of the whole stream, however it is split.
     pub fn advance<H: Handler>(&mut self, handler: &mut H, bytes: &[u8]) -> Result<(), Refused>
         ensures { AdvancesLong T.value_of
-            (meaning_of None H.step T.set T.clear T.allows) self.old self.new
+            (processor_meaning None H.step T.set T.clear T.allows) self.old self.new
             (H.value_of handler.old) (H.value_of handler.new) bytes.now result }
     {
-        self.engine.read::<H, ByCharacter>(handler, bytes)
+        self.engine.advance::<H, ByCharacter>(handler, bytes)
     }
 
     /// Reads bytes as [`advance`](Self::advance) does. The handler receives text in runs.
@@ -157,9 +157,9 @@ impl<T: Timeout + Drop, A: Allocator> LongProcessor<T, A> {
         bytes: &[u8],
     ) -> Result<(), Refused>
         ensures { AdvancesLong T.value_of
-            (meaning_of None H.step T.set T.clear T.allows) self.old self.new
+            (processor_meaning None H.step T.set T.clear T.allows) self.old self.new
             (H.value_of handler.old) (H.value_of handler.new) bytes.now result }
     {
-        self.engine.read::<H, InRuns>(handler, bytes)
+        self.engine.advance::<H, InRuns>(handler, bytes)
     }
 }

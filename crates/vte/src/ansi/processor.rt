@@ -1,10 +1,10 @@
 //! The processor. A call of `advance` takes turns, and each turn parses bytes or holds them back.
 ghost use Rattle.std.specs.Prelude.{[], ◌≡◌};
 ghost use Rattle.vte_handler.specs.Timeout.{timeout_meaning};
-ghost use Rattle.vte.specs.Processor.{meaning_of};
-ghost use Rattle.vte.specs.ProcessorCalls.{CountsHeld, Creates, HasParsedAndHolds, held_in, IsCopyOfProcessor, parser_in, ReadsInTurns, SaysParsedLoss, StopsSync, timeout_in};
+ghost use Rattle.vte.specs.Processor.{processor_meaning};
+ghost use Rattle.vte.specs.ProcessorCalls.{AdvancesInTurns, CountsHeld, Creates, HasParsedAndHolds, held_in, IsCloneOfProcessor, parser_in, SaysParsedLoss, StopsSync, timeout_in};
 ghost use Rattle.vte_core.specs.Parser.{lost_data, reading_of};
-ghost use Rattle.vte_core.specs.Stream.{usual_limit};
+ghost use Rattle.vte_core.specs.Stream.{default_limit};
 
 use crate::ansi::updates::engine::Engine;
 use crate::ansi::updates::parsing::{ProcessorParser, ProcessorText};
@@ -15,8 +15,8 @@ use vte_handler::{Handler, HandlerText, Timeout};
 /// Parses the bytes that programs send to a terminal, and calls a [`Handler`] for what they ask of
 /// it.
 ///
-/// The bytes of a synchronized update are held back, so that the handler receives the update in one
-/// piece when it ends. The [`Timeout`] decides how long, and [`stop_sync`](Processor::stop_sync)
+/// The bytes of a synchronized update are held back, so that the handler receives the update all at
+/// once when it ends. The [`Timeout`] decides how long, and [`stop_sync`](Processor::stop_sync)
 /// stops an update that has expired.
 ///
 /// ```
@@ -46,10 +46,10 @@ pub struct Processor<T: Timeout + Drop, A: Allocator> {
 
 /// A clone goes on as the original would, if the clone of its timeout does.
 impl<T: Timeout + Clone + Drop, A: Allocator + Clone> Clone for Processor<T, A> {
-    ghost is_clone = { λ processor copy. IsCopyOfProcessor T.is_clone T.value_of
-        (timeout_in processor) (timeout_in copy) (HasParsedAndHolds T.value_of processor)
-        (HasParsedAndHolds T.value_of copy) (reading_of (parser_in processor))
-        (reading_of (parser_in copy)) };
+    ghost is_clone = { λ processor clone. IsCloneOfProcessor T.is_clone T.value_of
+        (timeout_in processor) (timeout_in clone) (HasParsedAndHolds T.value_of processor)
+        (HasParsedAndHolds T.value_of clone) (reading_of (parser_in processor))
+        (reading_of (parser_in clone)) };
 
     fn clone(&self) -> Result<Self, AllocError> {
         let engine = self.engine.clone()?;
@@ -63,7 +63,8 @@ impl<T: Timeout + Drop, A: Allocator> Processor<T, A> {
     ///
     /// Returns the timeout if memory runs out.
     pub fn new(alloc: A, timeout: T) -> Result<Self, T>
-        ensures { Creates usual_limit (timeout_meaning T.set T.clear T.allows) T.value_of timeout_in
+        ensures { Creates default_limit
+            (timeout_meaning T.set T.clear T.allows) T.value_of timeout_in
             (HasParsedAndHolds T.value_of) timeout result }
     {
         let engine = Engine::new(alloc, ProcessorParser::new(), ProcessorText::new(), timeout)?;
@@ -84,12 +85,12 @@ impl<T: Timeout + Drop, A: Allocator> Processor<T, A> {
         self.engine.hold.len()
     }
 
-    /// Returns whether the operating system command that is open lost data bytes, or if none is
-    /// open, the last one: those after the first 1,024, and those after the 16th piece. Bytes that
-    /// are held back don't count.
+    /// Returns whether the open operating system command has lost data bytes, or the last one if
+    /// none is open. It loses those after the first 1,024, and those after the 16th piece. Bytes
+    /// that are held back don't count.
     pub fn command_lost_data(&self) -> bool
         ensures lost { result ≡ lost_data (parser_in self.now) }
-        ensures open { SaysParsedLoss usual_limit (HasParsedAndHolds T.value_of self.now) result }
+        ensures open { SaysParsedLoss default_limit (HasParsedAndHolds T.value_of self.now) result }
     {
         self.engine.parser.command_lost_data()
     }
@@ -97,7 +98,7 @@ impl<T: Timeout + Drop, A: Allocator> Processor<T, A> {
     /// Stops an update: parses the bytes that are held back, tells the handler that the update has
     /// ended, and clears the timeout. The handler is called without an update, too.
     pub fn stop_sync<H: Handler>(&mut self, handler: &mut H)
-        ensures { StopsSync (meaning_of usual_limit H.step T.set T.clear T.allows)
+        ensures { StopsSync (processor_meaning default_limit H.step T.set T.clear T.allows)
             (HasParsedAndHolds T.value_of self.old) (HasParsedAndHolds T.value_of self.new)
             (H.value_of handler.old) (H.value_of handler.new) }
     {
@@ -106,7 +107,7 @@ impl<T: Timeout + Drop, A: Allocator> Processor<T, A> {
 
     /// Stops an update as [`stop_sync`](Self::stop_sync) does. The handler receives text in runs.
     pub fn stop_sync_text<H: HandlerText>(&mut self, handler: &mut H)
-        ensures { StopsSync (meaning_of usual_limit H.step T.set T.clear T.allows)
+        ensures { StopsSync (processor_meaning default_limit H.step T.set T.clear T.allows)
             (HasParsedAndHolds T.value_of self.old) (HasParsedAndHolds T.value_of self.new)
             (H.value_of handler.old) (H.value_of handler.new) }
     {
@@ -118,21 +119,21 @@ impl<T: Timeout + Drop, A: Allocator> Processor<T, A> {
     /// If the timeout is never pending, all bytes are parsed: the handler of a new processor
     /// receives the calls of the whole stream, however it is split.
     pub fn advance<H: Handler>(&mut self, handler: &mut H, bytes: &[u8])
-        ensures { ReadsInTurns (meaning_of usual_limit H.step T.set T.clear T.allows)
+        ensures { AdvancesInTurns (processor_meaning default_limit H.step T.set T.clear T.allows)
             (HasParsedAndHolds T.value_of self.old) (HasParsedAndHolds T.value_of self.new)
             (H.value_of handler.old) (H.value_of handler.new) bytes.now }
     {
         // The memory is there, so all bytes are read.
-        let _ = self.engine.read::<H, ByCharacter>(handler, bytes);
+        let _ = self.engine.advance::<H, ByCharacter>(handler, bytes);
     }
 
     /// Reads bytes as [`advance`](Self::advance) does. The handler receives text in runs.
     pub fn advance_text<H: HandlerText>(&mut self, handler: &mut H, bytes: &[u8])
-        ensures { ReadsInTurns (meaning_of usual_limit H.step T.set T.clear T.allows)
+        ensures { AdvancesInTurns (processor_meaning default_limit H.step T.set T.clear T.allows)
             (HasParsedAndHolds T.value_of self.old) (HasParsedAndHolds T.value_of self.new)
             (H.value_of handler.old) (H.value_of handler.new) bytes.now }
     {
         // The memory is there, so all bytes are read.
-        let _ = self.engine.read::<H, InRuns>(handler, bytes);
+        let _ = self.engine.advance::<H, InRuns>(handler, bytes);
     }
 }

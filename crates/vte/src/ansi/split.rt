@@ -1,4 +1,4 @@
-//! Prefixes of texts, and parts between separators.
+//! Prefixes of texts, and texts between separators.
 ghost use Rattle.std.specs.Prelude.{codes, IfSome, length, option_map, ◌<◌, ◌∷◌, ◌≡◌};
 ghost use Rattle.vte.specs.Split.{first_after, split_by};
 ghost use Rattle.vte.specs.private.Performer.{parts_left};
@@ -15,8 +15,8 @@ pub(crate) fn strip_word<'a>(text: &'a [u8], word: &[u8]) -> Option<&'a [u8]>
     text.strip_prefix(word)
 }
 
-/// Splits a text at its first separator: returns the part before it, and what follows it if there
-/// is one.
+/// Splits a text at its first separator. Returns what is before the separator, and what follows it
+/// if there is one.
 pub(crate) fn split_at_first(text: &[u8], separator: u8) -> (&[u8], Option<&[u8]>)
     ensures parts { split_by separator text.now ≡ result.0.now ∷ parts_left separator result.1 }
     ensures shorter { IfSome result.1 (λ rest. length rest.now < length text.now) }
@@ -27,8 +27,8 @@ pub(crate) fn split_at_first(text: &[u8], separator: u8) -> (&[u8], Option<&[u8]
     }
 }
 
-/// Returns what follows `id=` in the first part that starts with it.
-pub(crate) fn id_in(parameters: &[u8]) -> Option<&[u8]>
+/// Returns what follows `id=` in the first parameter of a link that starts with it.
+pub(crate) fn link_id(parameters: &[u8]) -> Option<&[u8]>
     ensures { option_map (λ rest. rest.now) result
         ≡ first_after (codes "id=") (split_by 0x3a parameters.now) }
 {

@@ -35,7 +35,7 @@ impl<C: Clock + Clone + Drop> Clone for StdSyncHandler<C> {
 impl<C: Clock + Drop> StdSyncHandler<C> {
     /// Creates a timeout that isn't pending.
     pub fn new(clock: C) -> Self
-        ensures none { expiry_in result ≡ None }
+        ensures no_expiry { expiry_in result ≡ None }
         ensures clock { clock_in result ≡ clock }
         // A timeout stays pending until it is cleared, whatever the clock tells.
         ensures steady { IsSteady pending_meaning }

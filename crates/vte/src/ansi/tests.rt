@@ -1,4 +1,4 @@
-//! Colours and numbers of commands, as the functions read them that only this module calls.
+//! Colours and numbers of commands, as they are read by functions that aren't public.
 use crate::ansi::calls::color_text::xparse_color;
 use crate::ansi::calls::numbers::parse_number;
 use vte_types::Rgb;

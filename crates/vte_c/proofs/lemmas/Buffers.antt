@@ -1,7 +1,7 @@
 -- What events leave in the buffers. Those that aren't full have room for what one byte adds, so each event is written
 -- as one entry (`event-written`), or isn't one of the kinds asked for (`event-passed`); so is all that one byte reports
 -- (`entries-unit_more`), and a run of the input (`entries-run`).
-use Rattle.vte_c.proofs.Common.{add-zero, after, All, All-head, All-tail, ap, append-nil, append_assoc, AreFromOneByte, AreGroups, AreReadable, arith, Bool, Buffers, buffers_of, buffers_with_event, cases_Bool, concat, count_of, CsiDispatch, data_of, DataRun, Entry, entry_data, EscDispatch, Event, event_kind, EventWriter, Execute, false, filter-append, flag_byte, flat_map, flat_map-append, group_bytes, has, has_kind, has_room_for, HasEntries, Holds, Hook, if◌then◌else◌, InInput, inl, inr, is_full, IsBounded, IsFilled, IsRunAt, IsShort, kinds_of, len_utf8_bounds, length, length-append, length-encode, length-map, List, map, map-append, max_added, may_have_lost, nat_lt, nat_tests, NoRecordStops, or_parts, OscDispatch, piece_bytes, Print, Put, record_at, records_from, refl, reported, resumed, run_kind, run_record, RunKind, Single, StopsAtKind, subst, sum_by-cons, sym, take, TextRun, true, two_bytes, Unhook, usual_limit, VteEvent, with_entries, with_one, with_record, without_loss, ℕ, [], ◌%◌, ◌*◌, ◌++◌, ◌+◌, ◌<◌, ◌∙◌, ◌∷◌, ◌≡◌, ◌≤◌}
+use Rattle.vte_c.proofs.Common.{add-zero, after, All, All-head, All-tail, any_of_kinds, ap, append-nil, append_assoc, AreaHolds, AreBrief, AreGroups, AreReadable, arith, AtMostOneFollowsStop, Bool, Buffers, buffers_of, buffers_with_event, cases_Bool, concat, contains_kind, count_of, CsiDispatch, data_of, DataRun, default_limit, Entry, entry_data, EscDispatch, Event, event_kind, EventWriter, Execute, false, filter-append, flag_byte, flat_map, flat_map-append, group_bytes, has_room_for, HasEntries, Hook, if◌then◌else◌, InInput, inl, InputRunKind, inr, IsBounded, IsNonEmpty, IsRunAt, IsShort, kinds_of, len_utf8_bounds, length, length-append, length-encode, length-map, List, map, map-append, max_data_per_byte, may_have_lost, must_return, nat_lt, nat_tests, NoRecordStops, or_parts, OscDispatch, piece_bytes, Print, Put, record_at, records_from, refl, reported, resumed, run_kind, run_record, Single, subst, sum_by-cons, sym, take, TextRun, true, two_bytes, Unhook, VteEvent, with_entries, with_record, with_record_alone, without_loss, ℕ, [], ◌%◌, ◌*◌, ◌++◌, ◌+◌, ◌<◌, ◌∙◌, ◌∷◌, ◌≡◌, ◌≤◌}
 use Rattle.std.proofs.Math.Bool.{or-false, or_assoc}
 use Rattle.std.proofs.lemmas.List.Folds.{list_any-append}
 use Rattle.vte_core.proofs.lemmas.places.PlaceLeads.{short_bounded}
@@ -31,11 +31,11 @@ length-piece_bytes (piece ∷ pieces) =
     let parts = length-append (piece_bytes piece) (flat_map piece_bytes pieces) in
     omega (arith, parts, length-append piece (concat pieces), length-piece_bytes pieces)
 
-length-filled : (groups : List (List ℕ)) → All IsFilled groups → length groups ≤ count_of groups
+length-filled : (groups : List (List ℕ)) → All IsNonEmpty groups → length groups ≤ count_of groups
 length-filled [] filled = omega arith
 length-filled (group ∷ groups) filled =
-    let not_empty : 0 < length group = All-head IsFilled group groups filled in
-    omega (arith, sum_by-cons length group groups, length-filled groups (All-tail IsFilled group groups filled))
+    let not_empty : 0 < length group = All-head IsNonEmpty group groups filled in
+    omega (arith, sum_by-cons length group groups, length-filled groups (All-tail IsNonEmpty group groups filled))
 
 pub length-groups : (groups : List (List ℕ)) → AreGroups groups → length groups ≤ 32
 length-groups groups groups_are = omega (arith, length-filled groups groups_are.filled, groups_are.at_most)
@@ -46,10 +46,10 @@ group_bytes-at_most groups groups_are =
 
 -- No event has more data bytes: a command has at most 16 pieces, each after four bytes, with 1,024 bytes together. A
 -- sequence has at most 96: 32 groups, each after one byte, with 32 numbers of two bytes together.
-abbrev max_data : ℕ
-max_data = 1088
+abbrev max_event_data : ℕ
+max_event_data = 1088
 
-data_of-at_most : (event : Event) → IsBounded usual_limit event → length (data_of event) ≤ max_data
+data_of-at_most : (event : Event) → IsBounded default_limit event → length (data_of event) ≤ max_event_data
 data_of-at_most (Print c) bounded = omega (arith, length-encode c, (len_utf8_bounds c).1)
 data_of-at_most (Hook groups ints ignore final) bounded = omega (arith, group_bytes-at_most groups bounded.0)
 data_of-at_most (OscDispatch pieces bell) bounded = omega (arith, length-piece_bytes pieces, bounded.0, bounded.1)
@@ -91,13 +91,13 @@ with_entries-append buffers front back =
 
 -- As long as buffers aren't full, no record stops.
 pub no_record_stops-free : {old new : Buffers} {input : List ℕ} {entries : List Entry}
-    → HasEntries old new input entries → is_full new ≡ false
+    → HasEntries old new input entries → must_return new ≡ false
     → NoRecordStops old.stops (records_from old.used entries)
 no_record_stops-free {old} {new} {input} {entries} has_entries free =
-    let met : new.met ≡ false = grind (arith, nat_tests) in
+    let has_stopped : new.has_stopped ≡ false = grind (arith, nat_tests) in
     no_kind_stops-none old.stops (records_from old.used entries)
-    (or_parts old.met (has_kind old.stops (records_from old.used entries))
-    (sym (ap (λ (held : Buffers). held.met) has_entries.written) ∙ met)).1
+    (or_parts old.has_stopped (any_of_kinds old.stops (records_from old.used entries))
+    (sym (ap (λ (held : Buffers). held.has_stopped) has_entries.written) ∙ has_stopped)).1
 
 readable-append : (input : List ℕ) (front back : List Entry) → AreReadable input front → AreReadable input back
     → AreReadable input (front ++ back)
@@ -108,9 +108,9 @@ readable-append input (InInput run start size ∷ front) back front_are back_are
     (front_are.0, readable-append input front back front_are.1 back_are)
 
 -- At most two records may all be the last ones: one that stops, and one after it.
-stops_at_kind-two : (stops offset : ℕ) (entries : List Entry) → length entries ≤ 2
-    → StopsAtKind stops (kinds_of (records_from offset entries))
-stops_at_kind-two stops offset entries at_most =
+follows_stop-two : (stops offset : ℕ) (entries : List Entry) → length entries ≤ 2
+    → AtMostOneFollowsStop stops (kinds_of (records_from offset entries))
+follows_stop-two stops offset entries at_most =
     let count = length-map (records_from offset entries) (λ (event : VteEvent). event.kind) in
     record {
       before = [];
@@ -125,23 +125,23 @@ entries-nothing buffers input =
     record {
       readable = tt;
       written = simp (append-nil, add-zero, or-false) refl;
-      first = stops_at_kind-two buffers.stops buffers.used [] (omega arith);
+      at_most_one_follows = follows_stop-two buffers.stops buffers.used [] (omega arith);
     }
 
 pub entries-then : {old mid new : Buffers} {input : List ℕ} {front back : List Entry} → HasEntries old mid input front
-    → is_full mid ≡ false
+    → must_return mid ≡ false
     → HasEntries mid new input back → HasEntries old new input (front ++ back)
 entries-then {old} {mid} {new} {input} {front} {back} has_front free has_back =
     let before = records_from old.used front in
     let soon =
-    subst (λ (held : Buffers). StopsAtKind held.stops (kinds_of (records_from held.used back))) has_front.written
-    has_back.first in
+    subst (λ (held : Buffers). AtMostOneFollowsStop held.stops (kinds_of (records_from held.used back)))
+    has_front.written has_back.at_most_one_follows in
     record {
       readable = readable-append input front back has_front.readable has_back.readable;
       written =
           has_back.written ∙ ap (λ (held : Buffers). with_entries held back) has_front.written
           ∙ with_entries-append old front back;
-      first = record {
+      at_most_one_follows = record {
         before = kinds_of before ++ soon.before;
         last = soon.last;
         parts = rw (records-append old.used front back, map-append, append_assoc (kinds_of before), ← soon.parts) refl;
@@ -154,7 +154,7 @@ entries-then {old} {mid} {new} {input} {front} {back} has_front free has_back =
 
 -- ---- before a write the area holds no data of the event
 
-pub holds-nothing : (events : EventWriter) → Holds (buffers_of events) events events.used []
+pub holds-nothing : (events : EventWriter) → AreaHolds (buffers_of events) events events.used []
 holds-nothing events = record {
   same = refl;
   ends = omega (arith, events.used_limit, events.size_limit);
@@ -164,7 +164,7 @@ holds-nothing events = record {
 -- ---- a run of the input
 
 -- What is written has no bit for lost data.
-run-without_loss : (run : RunKind) (start size : ℕ)
+run-without_loss : (run : InputRunKind) (start size : ℕ)
     → without_loss (run_record (run_kind run) start size) ≡ run_record (run_kind run) start size
 unfolding without_loss
 run-without_loss TextRun start size = refl
@@ -186,17 +186,17 @@ single-without_loss offset Unhook = refl
 single-without_loss offset (CsiDispatch groups ints ignore final) = refl
 single-without_loss offset (EscDispatch ints ignore final) = refl
 
-pub entries-run : {old new : Buffers} (input : List ℕ) (run : RunKind) (start size : ℕ) → is_full old ≡ false
+pub entries-run : {old new : Buffers} (input : List ℕ) (run : InputRunKind) (start size : ℕ) → must_return old ≡ false
     → IsRunAt input run start size
-    → new ≡ with_one old (run_record (run_kind run) start size)
+    → new ≡ with_record_alone old (run_record (run_kind run) start size)
     → HasEntries old new input (InInput run start size ∷ [])
-unfolding with_one
+unfolding with_record_alone
 entries-run {old} {new} input run start size free is_run recorded =
     let has_record_room : nat_lt old.count old.capacity ≡ true = grind (arith, nat_tests) in
     record {
       readable = (is_run, tt);
       written = rw (recorded, has_record_room, run-without_loss run start size) (simp (append-nil, add-zero, or-false));
-      first = stops_at_kind-two old.stops old.used (InInput run start size ∷ []) (omega arith);
+      at_most_one_follows = follows_stop-two old.stops old.used (InInput run start size ∷ []) (omega arith);
     }
 
 -- ---- a pause, apart from which an event is written the same (`resumed`)
@@ -204,11 +204,11 @@ entries-run {old} {new} input run start size free is_run recorded =
 pub resumed-same : (buffers : Buffers) → buffers.paused ≡ false → resumed buffers ≡ buffers
 resumed-same buffers unpaused = ap (λ (paused : Bool). record buffers { paused = paused }) (sym unpaused)
 
-pub free-unpaused : (buffers : Buffers) → is_full buffers ≡ false → buffers.paused ≡ false
+pub free-unpaused : (buffers : Buffers) → must_return buffers ≡ false → buffers.paused ≡ false
 free-unpaused buffers free = grind (arith, nat_tests)
 
-pub resumed-free : (buffers : Buffers) → is_full buffers ≡ false → is_full (resumed buffers) ≡ false
-resumed-free buffers free = ap is_full (resumed-same buffers (free-unpaused buffers free)) ∙ free
+pub resumed-free : (buffers : Buffers) → must_return buffers ≡ false → must_return (resumed buffers) ≡ false
+resumed-free buffers free = ap must_return (resumed-same buffers (free-unpaused buffers free)) ∙ free
 
 choice-resumed : (choice : Bool) (first second other_first other_second : Buffers)
     → resumed first ≡ resumed other_first → resumed second ≡ resumed other_second
@@ -224,17 +224,17 @@ choice-paused false paused first second first_is second_is = second_is
 -- An event is written in the same way after a pause.
 event-resumed : (buffers : Buffers) (event : Event)
     → resumed (buffers_with_event buffers event) ≡ resumed (buffers_with_event (resumed buffers) event)
-unfolding with_one with_record
+unfolding with_record_alone with_record
 event-resumed buffers event =
-    choice-resumed (has buffers.kinds (event_kind event)) _ _ _ _
+    choice-resumed (contains_kind buffers.kinds (event_kind event)) _ _ _ _
     (choice-resumed (has_room_for buffers (length (data_of event))) _ _ _ _
     (choice-resumed (nat_lt buffers.count buffers.capacity) _ _ _ _ refl refl) refl) refl
 
 pub paused-after_event : (buffers : Buffers) (event : Event) → may_have_lost event ≡ false
     → (buffers_with_event buffers event).paused ≡ buffers.paused
-unfolding with_one with_record
+unfolding with_record_alone with_record
 paused-after_event buffers event kept =
-    choice-paused (has buffers.kinds (event_kind event)) buffers.paused _ _
+    choice-paused (contains_kind buffers.kinds (event_kind event)) buffers.paused _ _
     (rw kept
     (choice-paused (has_room_for buffers (length (data_of event))) buffers.paused _ _
     (choice-paused (nat_lt buffers.count buffers.capacity) buffers.paused _ _ refl refl) refl)) refl
@@ -247,14 +247,14 @@ pub record HasRoomFor (buffers : Buffers) (count size : ℕ) : Type 0 where
   pub data_fits : buffers.used + size ≤ buffers.size
 
 -- Buffers that aren't full have room for what one byte adds.
-free-has_room : (buffers : Buffers) → is_full buffers ≡ false → HasRoomFor buffers 2 max_added
+free-has_room : (buffers : Buffers) → must_return buffers ≡ false → HasRoomFor buffers 2 max_data_per_byte
 free-has_room buffers free = record { events = grind (arith, nat_tests); data_fits = grind (arith, nat_tests) }
 
 pub event-written : (buffers : Buffers) (event : Event) → buffers.paused ≡ false
     → HasRoomFor buffers 1 (length (data_of event))
-    → has buffers.kinds (event_kind event) ≡ true
+    → contains_kind buffers.kinds (event_kind event) ≡ true
     → resumed (buffers_with_event buffers event) ≡ with_entries buffers (Single event ∷ [])
-unfolding with_one with_record
+unfolding with_record_alone with_record
 event-written buffers event unpaused room_for wanted =
     let has_both : has_room_for buffers (length (data_of event)) ≡ true = grind (arith, nat_tests) in
     let has_record_room : nat_lt buffers.count buffers.capacity ≡ true = grind (arith, nat_tests) in
@@ -263,7 +263,7 @@ event-written buffers event unpaused room_for wanted =
 
 -- An event that isn't reported leaves the buffers as they are.
 pub event-passed : (buffers : Buffers) (event : Event) → buffers.paused ≡ false
-    → has buffers.kinds (event_kind event) ≡ false
+    → contains_kind buffers.kinds (event_kind event) ≡ false
     → resumed (buffers_with_event buffers event) ≡ buffers
 event-passed buffers event unpaused other = rw other (resumed-same buffers unpaused)
 
@@ -271,20 +271,21 @@ event-passed buffers event unpaused other = rw other (resumed-same buffers unpau
 abbrev pub entries_of : Buffers → List Event → List Entry
 entries_of buffers events = map Single (reported buffers.kinds events)
 
-entries-event : (input : List ℕ) (buffers : Buffers) (event : Event) → IsBounded usual_limit event
+entries-event : (input : List ℕ) (buffers : Buffers) (event : Event) → IsBounded default_limit event
     → buffers.paused ≡ false
     → HasRoomFor buffers 1 (length (data_of event))
     → HasEntries buffers (resumed (buffers_with_event buffers event)) input (entries_of buffers (event ∷ []))
-entries-event input buffers event bounded unpaused room_for = elim (cases_Bool (has buffers.kinds (event_kind event))) [
-  | inl wanted ↦
-      rw (event-written buffers event unpaused room_for wanted, wanted)
-      (record {
-        readable = (bounded, tt);
-        written = refl;
-        first = stops_at_kind-two buffers.stops buffers.used (Single event ∷ []) (omega arith);
-      })
-  | inr other ↦ rw (event-passed buffers event unpaused other, other) (entries-nothing buffers input)
-]
+entries-event input buffers event bounded unpaused room_for =
+    elim (cases_Bool (contains_kind buffers.kinds (event_kind event))) [
+      | inl wanted ↦
+          rw (event-written buffers event unpaused room_for wanted, wanted)
+          (record {
+            readable = (bounded, tt);
+            written = refl;
+            at_most_one_follows = follows_stop-two buffers.stops buffers.used (Single event ∷ []) (omega arith);
+          })
+      | inr other ↦ rw (event-passed buffers event unpaused other, other) (entries-nothing buffers input)
+    ]
 
 -- One event has at most one entry, with no more data.
 record AreFew (buffers : Buffers) (event : Event) : Type 0 where
@@ -292,14 +293,14 @@ record AreFew (buffers : Buffers) (event : Event) : Type 0 where
   pub size : length (flat_map entry_data (entries_of buffers (event ∷ []))) ≤ length (data_of event)
 
 event-has_few : (buffers : Buffers) (event : Event) → AreFew buffers event
-event-has_few buffers event = elim (cases_Bool (has buffers.kinds (event_kind event))) [
+event-has_few buffers event = elim (cases_Bool (contains_kind buffers.kinds (event_kind event))) [
   | inl wanted ↦
       record { count = rw wanted (omega arith); size = rw wanted (omega (arith, length-append (data_of event) [])) }
   | inr other ↦ record { count = rw other (omega arith); size = rw other (omega arith) }
 ]
 
-entries-unit : (input : List ℕ) (buffers : Buffers) (unit : List Event) → AreFromOneByte usual_limit unit
-    → is_full buffers ≡ false
+entries-unit : (input : List ℕ) (buffers : Buffers) (unit : List Event) → AreBrief default_limit unit
+    → must_return buffers ≡ false
     → HasEntries buffers (resumed (after buffers_with_event buffers unit)) input (entries_of buffers unit)
 entries-unit input buffers [] brief free =
     rw (resumed-same buffers (free-unpaused buffers free)) (entries-nothing buffers input)
@@ -338,11 +339,11 @@ entries-unit input buffers (event ∷ last ∷ []) brief free =
     (λ (asked : ℕ).
     HasEntries next (resumed (buffers_with_event next last)) input (map Single (reported asked (last ∷ []))))
     kinds
-    (entries-event input next last (short_bounded usual_limit last brief.1) refl room_for_last) in
+    (entries-event input next last (short_bounded default_limit last brief.1) refl room_for_last) in
     -- The entries of both events are those of the first, followed by those of the last.
     let both : entries_of buffers (event ∷ last ∷ [])
     ≡ entries_of buffers (event ∷ []) ++ entries_of buffers (last ∷ []) =
-    ap (map Single) (filter-append (λ event. has buffers.kinds (event_kind event)) (event ∷ []) (last ∷ []))
+    ap (map Single) (filter-append (λ event. contains_kind buffers.kinds (event_kind event)) (event ∷ []) (last ∷ []))
     ∙ map-append Single _ _ in
     -- A pause after the first event doesn't change how the last one is written, so the two steps join.
     rw (event-resumed (buffers_with_event buffers event) last, both) (record {
@@ -350,7 +351,7 @@ entries-unit input buffers (event ∷ last ∷ []) brief free =
       written =
           second.written ∙ ap (λ (held : Buffers). with_entries held (entries_of buffers (last ∷ []))) first.written
           ∙ with_entries-append buffers _ _;
-      first = stops_at_kind-two buffers.stops buffers.used
+      at_most_one_follows = follows_stop-two buffers.stops buffers.used
           (entries_of buffers (event ∷ []) ++ entries_of buffers (last ∷ []))
           (omega (
             arith,
@@ -363,7 +364,7 @@ entries-unit input buffers (event ∷ last ∷ third ∷ events) brief free = ab
 
 pub entries-unit_more : {old : Buffers} (input : List ℕ) (buffers : Buffers) (before unit : List Event)
     → HasEntries old (resumed (after buffers_with_event buffers before)) input (entries_of old before)
-    → is_full (after buffers_with_event buffers before) ≡ false → AreFromOneByte usual_limit unit
+    → must_return (after buffers_with_event buffers before) ≡ false → AreBrief default_limit unit
     → HasEntries old (resumed (after buffers_with_event buffers (before ++ unit))) input
     (entries_of old (before ++ unit))
 entries-unit_more {old} input buffers before unit has_entries free brief =

@@ -1,6 +1,6 @@
 -- A call goes on (`ReadsOn`) by calls of the parser, whose events are written as long as there is room, and by the runs
 -- that these return. One step after another is a longer one (`goes-then`).
-use Rattle.vte_c.proofs.Common.{added, after, ap, append-nil, AreCharacters, arith, Bool, breaks_at, Buffers, buffers_with_event, cases_Bool, cases_lt, chars, ComesTo, data_of, DataRun, drop, drop-drop, entry_events, Event, event_kind, events_of_run, false, false≢true, filter-append, flat_map, flat_map-append, GoesOnFromPositions, has, HasEntries, HasRead, HasReadOn, if◌then◌else◌, InInput, inl, inr, is_full, is_stop, IsRunAt, IsRunOfKind, len_utf8_bounds, length, length-append, length-drop, length-encode, List, map, nat_tests, NoRecordStops, OpensSilently, Parser, Print, Put, ReadsOn, refl, replacement, reported, reported_before, ReportsUnits, resumed, resumed_stream, run_kind, run_record, RunKind, Single, Starts, StopsAtNone, subst, sym, take, TextRun, true, usual_limit, with_entries, with_run, with_taken, with_wanted, zero-add, ℕ, [], ◌++◌, ◌+◌, ◌-◌, ◌<◌, ◌∙◌, ◌∷◌, ◌≡◌, ◌≤◌}
+use Rattle.vte_c.proofs.Common.{added, after, ap, append-nil, AreCharacters, AreEmptyBuffers, arith, Bool, breaks_at, Buffers, buffers_with_event, cases_Bool, cases_lt, chars, ComesTo, contains_kind, data_of, DataRun, default_limit, drop, drop-drop, entry_events, Event, event_kind, events_of_run, false, false≢true, filter-append, flat_map, flat_map-append, GoesOnFromPositions, HasEntries, HasRead, HasReadOn, if◌then◌else◌, InInput, inl, InputRunKind, inr, is_stop, IsRunAt, IsRunOfKind, len_utf8_bounds, length, length-append, length-drop, length-encode, List, map, must_return, nat_tests, NoRecordStops, NoRunStops, OpensSilently, Parser, Print, Put, ReadsOn, refl, replacement, reported, reported_before, ReportsUnits, resumed, resumed_stream, run_kind, run_record, Single, subst, sym, take, TextRun, true, with_entries, with_run, with_run_record, with_taken, zero-add, ℕ, [], ◌++◌, ◌+◌, ◌-◌, ◌<◌, ◌∙◌, ◌∷◌, ◌≡◌, ◌≤◌}
 use Rattle.vte_core.proofs.lemmas.streams.After.{added-nothing}
 use Rattle.vte_core.specs.AdvanceToRun.{IsLongestRun, ReturnsRun, run_bytes, run_events, taken_bytes}
 use Rattle.vte_core.specs.declared.reader.run.Run.{Run}
@@ -13,7 +13,8 @@ use Rattle.vte_c.proofs.lemmas.Buffers.{entries-nothing, entries-run, entries-th
 -- ---- a run of the input
 
 -- All events of a run are reported, or none.
-calls-reported : (kinds : ℕ) (wanted : Bool) (call : ℕ → Event) → ((n : ℕ) → has kinds (event_kind (call n)) ≡ wanted)
+calls-reported : (kinds : ℕ) (wanted : Bool) (call : ℕ → Event)
+    → ((n : ℕ) → contains_kind kinds (event_kind (call n)) ≡ wanted)
     → (ns : List ℕ) → reported kinds (map call ns) ≡ (if wanted then map call ns else [])
 calls-reported kinds true call each_wanted [] = refl
 calls-reported kinds false call each_wanted [] = refl
@@ -22,27 +23,29 @@ calls-reported kinds true call each_wanted (n ∷ ns) =
 calls-reported kinds false call each_wanted (n ∷ ns) =
     rw (each_wanted n) (calls-reported kinds false call each_wanted ns)
 
-run-reported : (kinds : ℕ) (wanted : Bool) (run : RunKind) (bytes : List ℕ) → has kinds (run_kind run) ≡ wanted
+run-reported : (kinds : ℕ) (wanted : Bool) (run : InputRunKind) (bytes : List ℕ)
+    → contains_kind kinds (run_kind run) ≡ wanted
     → reported kinds (events_of_run run bytes) ≡ (if wanted then events_of_run run bytes else [])
 run-reported kinds wanted TextRun bytes kind_wanted = calls-reported kinds wanted Print (λ c. kind_wanted) (chars bytes)
 run-reported kinds wanted DataRun bytes kind_wanted = calls-reported kinds wanted Put (λ b. kind_wanted) bytes
 
-run-never_stops : (buffers : Buffers) (run : RunKind) → StopsAtNone buffers
+run-never_stops : (buffers : Buffers) (run : InputRunKind) → NoRunStops buffers
     → is_stop buffers.kinds buffers.stops (run_kind run) ≡ false
-run-never_stops buffers TextRun stops_at_none = stops_at_none.0
-run-never_stops buffers DataRun stops_at_none = stops_at_none.1
+run-never_stops buffers TextRun no_run_stops = no_run_stops.0
+run-never_stops buffers DataRun no_run_stops = no_run_stops.1
 
-goes-run : {old new : Buffers} {since bytes : List ℕ} (run : RunKind) {from size : ℕ} → is_full old ≡ false
-    → new ≡ with_wanted old (run_record (run_kind run) from size) → IsRunAt bytes run from size
-    → added usual_limit since (take size (drop from bytes)) ≡ events_of_run run (take size (drop from bytes))
-    → ReadsOn old new since (since ++ take size (drop from bytes)) bytes from size
-goes-run {old} {new} {since} {bytes} run {from} {size} free recorded is_run adds =
+goes-run : {old new : Buffers} {already_read bytes : List ℕ} (run : InputRunKind) {from size : ℕ}
+    → must_return old ≡ false
+    → new ≡ with_run_record old (run_record (run_kind run) from size) → IsRunAt bytes run from size
+    → added default_limit already_read (take size (drop from bytes)) ≡ events_of_run run (take size (drop from bytes))
+    → ReadsOn old new already_read (already_read ++ take size (drop from bytes)) bytes from size
+goes-run {old} {new} {already_read} {bytes} run {from} {size} free recorded is_run adds =
     let part : List ℕ = take size (drop from bytes) in
-    let goes_on = rw adds at (continues-added since (drop from bytes) size) in
-    let before = λ (stops_at_none : StopsAtNone old) (i : ℕ) (earlier : i < size).
-    no_event_stops-earlier (is_stop old.kinds old.stops) since (drop from bytes) i size (omega arith)
-    (rw adds (no_event_stops-run (is_stop old.kinds old.stops) run part (run-never_stops old run stops_at_none))) in
-    elim (cases_Bool (has old.kinds (run_kind run))) [
+    let goes_on = rw adds at (continues-added already_read (drop from bytes) size) in
+    let before = λ (no_run_stops : NoRunStops old) (i : ℕ) (earlier : i < size).
+    no_event_stops-earlier (is_stop old.kinds old.stops) already_read (drop from bytes) i size (omega arith)
+    (rw adds (no_event_stops-run (is_stop old.kinds old.stops) run part (run-never_stops old run no_run_stops))) in
+    elim (cases_Bool (contains_kind old.kinds (run_kind run))) [
       | inl wanted ↦ record {
         given = events_of_run run part;
         entries = InInput run from size ∷ [];
@@ -68,66 +71,67 @@ events-singles input [] = refl
 events-singles input (event ∷ events) = ap (λ (events : List Event). event ∷ events) (events-singles input events)
 
 -- Before the first byte at most U+FFFD is given, for a character that it breaks, and that doesn't fill the buffers.
-free-at_first : (old : Buffers) (broken : Bool) → Starts old
+free-at_first : (old : Buffers) (broken : Bool) → AreEmptyBuffers old
     → NoRecordStops old.stops (after buffers_with_event old (if broken then Print replacement ∷ [] else [])).events
-    → is_full (after buffers_with_event old (if broken then Print replacement ∷ [] else [])) ≡ false
-free-at_first old false starts no_stops = grind (arith, nat_tests)
-free-at_first old true starts no_stops =
+    → must_return (after buffers_with_event old (if broken then Print replacement ∷ [] else [])) ≡ false
+free-at_first old false are_empty no_stops = grind (arith, nat_tests)
+free-at_first old true are_empty no_stops =
     -- U+FFFD has at most four bytes of data, and its event doesn't pause the writer.
     let small : length (data_of (Print replacement)) ≤ 4 =
     omega (arith, length-encode replacement, (len_utf8_bounds replacement).1) in
     let next : Buffers = buffers_with_event old (Print replacement) in
-    let unpaused : next.paused ≡ false = paused-after_event old (Print replacement) refl ∙ starts.paused in
+    let unpaused : next.paused ≡ false = paused-after_event old (Print replacement) refl ∙ are_empty.paused in
     let same : resumed next ≡ next = resumed-same next unpaused in
-    elim (cases_Bool (has old.kinds 0)) [
+    elim (cases_Bool (contains_kind old.kinds 0)) [
       | inl wanted ↦
           let written : next ≡ with_entries old (Single (Print replacement) ∷ []) =
           sym same
-          ∙ event-written old (Print replacement) starts.paused
+          ∙ event-written old (Print replacement) are_empty.paused
           (record {
-            events = omega (arith, starts.capacity, starts.count);
-            data_fits = omega (arith, starts.size, starts.used);
+            events = omega (arith, are_empty.capacity, are_empty.count);
+            data_fits = omega (arith, are_empty.size, are_empty.used);
           }) wanted in
-          let other : has old.stops 0 ≡ false = (rw (written, starts.events) at no_stops).0 in
+          let other : contains_kind old.stops 0 ≡ false = (rw (written, are_empty.events) at no_stops).0 in
           rw written (grind (arith, nat_tests, length-append))
       | inr passed ↦
-          let unchanged : next ≡ old = sym same ∙ event-passed old (Print replacement) starts.paused passed in
+          let unchanged : next ≡ old = sym same ∙ event-passed old (Print replacement) are_empty.paused passed in
           rw unchanged (grind (arith, nat_tests))
     ]
 
 -- The code cites these laws of the parser.
 pub record Laws : Type 0 where
-  pub units : ReportsUnits usual_limit
-  pub goes_on : GoesOnFromPositions usual_limit
-  pub silent : OpensSilently usual_limit
+  pub units : ReportsUnits default_limit
+  pub goes_on : GoesOnFromPositions default_limit
+  pub silent : OpensSilently default_limit
 
-module _ (old new : Buffers) (since bytes : List ℕ) (from n : ℕ) (laws : Laws) (free : is_full old ≡ false)
-    (comes : ComesTo buffers_with_event is_full old usual_limit since (drop from bytes) new n) where
+module _ (old new : Buffers) (already_read bytes : List ℕ) (from n : ℕ) (laws : Laws) (free : must_return old ≡ false)
+    (comes : ComesTo buffers_with_event must_return old default_limit already_read (drop from bytes) new n) where
   abbrev given_at : ℕ → List Event
-  given_at i = reported_before usual_limit since (drop from bytes) i
+  given_at i = reported_before default_limit already_read (drop from bytes) i
 
   -- All that was given is written, since the buffers weren't full at any start that the call came to.
   given-written : (i : ℕ) → i ≤ n
       → HasEntries old (resumed (after buffers_with_event old (given_at i))) bytes (entries_of old (given_at i))
   given-written i within =
       passed-at (λ events. HasEntries old (resumed (after buffers_with_event old events)) bytes (entries_of old events))
-      (λ events. is_full (after buffers_with_event old events) ≡ false)
-      since (drop from bytes) laws.units
+      (λ events. must_return (after buffers_with_event old events) ≡ false)
+      already_read (drop from bytes) laws.units
       (rw (resumed-same old (free-unpaused old free)) (entries-nothing old bytes)) free
       (entries-unit_more bytes old)
       i (omega (arith, comes.within)) (λ j earlier. comes.earlier j (omega arith))
 
-  goes-call : ReadsOn old (resumed new) since (resumed_stream since (drop from bytes) n) bytes from n
+  goes-call : ReadsOn old (resumed new) already_read (resumed_stream already_read (drop from bytes) n) bytes from n
   goes-call = record {
     given = given_at n;
     entries = entries_of old (given_at n);
-    continues = continues-call laws.goes_on since (drop from bytes) n;
+    continues = continues-call laws.goes_on already_read (drop from bytes) n;
     shows = events-singles bytes (reported old.kinds (given_at n));
     holds =
         subst (λ (held : Buffers). HasEntries old (resumed held) bytes (entries_of old (given_at n)))
         (sym comes.performed) (given-written n (omega arith));
-    before = λ stops_at_none.
-        no_event_stops-before (is_stop old.kinds old.stops) stops_at_none.0 since (drop from bytes) n comes.within
+    before = λ no_run_stops.
+        no_event_stops-before (is_stop old.kinds old.stops) no_run_stops.0 already_read
+        (drop from bytes) n comes.within
         laws.silent
         (λ i earlier start.
         no_event_stops-reported old.kinds old.stops (given_at i)
@@ -139,21 +143,22 @@ module _ (old new : Buffers) (since bytes : List ℕ) (from n : ℕ) (laws : Law
 
 -- ---- one step after the other, if the buffers aren't full in between
 
-goes-nothing : {buffers : Buffers} {since bytes : List ℕ} {from : ℕ} → ReadsOn buffers buffers since since bytes from 0
-goes-nothing {buffers} {since} {bytes} {from} = record {
+goes-nothing : {buffers : Buffers} {already_read bytes : List ℕ} {from : ℕ}
+    → ReadsOn buffers buffers already_read already_read bytes from 0
+goes-nothing {buffers} {already_read} {bytes} {from} = record {
   given = [];
   entries = [];
-  continues = continues-nothing since (drop from bytes);
+  continues = continues-nothing already_read (drop from bytes);
   shows = refl;
   holds = entries-nothing buffers bytes;
-  before = λ stops_at_none i earlier. absurd (omega arith);
+  before = λ no_run_stops i earlier. absurd (omega arith);
 }
 
-goes-then : {old mid new : Buffers} {since next last bytes : List ℕ} {from n m : ℕ}
-    (reads : ReadsOn old mid since next bytes from n)
-    → is_full mid ≡ false → from + n + m ≤ length bytes → ReadsOn mid new next last bytes (from + n) m
-    → ReadsOn old new since last bytes from (n + m)
-goes-then {old} {mid} {since} {bytes} {from} {n} {m} reads free within reads_on =
+goes-then : {old mid new : Buffers} {already_read next last bytes : List ℕ} {from n m : ℕ}
+    (reads : ReadsOn old mid already_read next bytes from n)
+    → must_return mid ≡ false → from + n + m ≤ length bytes → ReadsOn mid new next last bytes (from + n) m
+    → ReadsOn old new already_read last bytes from (n + m)
+goes-then {old} {mid} {already_read} {bytes} {from} {n} {m} reads free within reads_on =
     let unread : List ℕ = drop from bytes in
     let size = length-drop from bytes in
     -- The second step begins n bytes after the first, with the same kinds and stops.
@@ -168,8 +173,8 @@ goes-then {old} {mid} {since} {bytes} {from} {n} {m} reads free within reads_on 
           rw (flat_map-append (entry_events bytes) reads.entries reads_on.entries, filter-append, reads.shows)
           (rw kinds at (ap (λ (events : List Event). reported old.kinds reads.given ++ events) reads_on.shows));
       holds = entries-then reads.holds free reads_on.holds;
-      before = λ stops_at_none i earlier. elim (cases_lt i n) [
-        | inl front ↦ reads.before stops_at_none i front
+      before = λ no_run_stops i earlier. elim (cases_lt i n) [
+        | inl front ↦ reads.before no_run_stops i front
         | inr after_it ↦
             let k : ℕ = i - n in
             let position : n + k ≡ i = omega arith in
@@ -182,22 +187,22 @@ goes-then {old} {mid} {since} {bytes} {from} {n} {m} reads free within reads_on 
             (no_event_stops-entries old.stops bytes old.used reads.entries (no_record_stops-free reads.holds free))) in
             -- Before the end of the second step, none of its events stops either.
             let later_without_stop =
-            rw (kinds, stops, rest) at (reads_on.before (rw (kinds, stops) stops_at_none) k (omega arith)) in
+            rw (kinds, stops, rest) at (reads_on.before (rw (kinds, stops) no_run_stops) k (omega arith)) in
             -- What the first i bytes add is the first part of these events.
             rw (← position)
-            (no_event_stops-front stop (added usual_limit since (take (n + k) unread)) front.others
+            (no_event_stops-front stop (added default_limit already_read (take (n + k) unread)) front.others
             (rw front.parts at (no_event_stops-append stop _ _ given_without_stop later_without_stop)))
       ];
     }
 
-pub gone-nothing : {old : Buffers} {parser : Parser 1024} {since bytes : List ℕ} → HasRead parser since
-    → HasReadOn old old parser since bytes 0 0
-gone-nothing {since} reads = record { next = since; reads = reads; goes = goes-nothing }
+pub gone-nothing : {old : Buffers} {parser : Parser 1024} {already_read bytes : List ℕ} → HasRead parser already_read
+    → HasReadOn old old parser already_read bytes 0 0
+gone-nothing {already_read} reads = record { next = already_read; reads = reads; goes = goes-nothing }
 
-pub gone-then : {old mid new : Buffers} {parser last : Parser 1024} {since bytes : List ℕ} {n m : ℕ}
-    (has_read : HasReadOn old mid parser since bytes 0 n)
-    → is_full mid ≡ false → n + m ≤ length bytes → HasReadOn mid new last has_read.next bytes n m
-    → HasReadOn old new last since bytes 0 (n + m)
+pub gone-then : {old mid new : Buffers} {parser last : Parser 1024} {already_read bytes : List ℕ} {n m : ℕ}
+    (has_read : HasReadOn old mid parser already_read bytes 0 n)
+    → must_return mid ≡ false → n + m ≤ length bytes → HasReadOn mid new last has_read.next bytes n m
+    → HasReadOn old new last already_read bytes 0 (n + m)
 gone-then has_read free within has_read_on =
     record {
       next = has_read_on.next;
@@ -212,24 +217,24 @@ run-empty : (bytes : List ℕ) (end : ℕ) (taken : Taken) → IsLongestRun byte
     → (buffers : Buffers) (start : ℕ)
     → with_taken buffers start taken ≡ resumed buffers
 run-empty bytes end (Text text) longest no_bytes buffers start = absurd (omega (arith, longest.0, no_bytes))
-run-empty bytes end (Data those) longest no_bytes buffers start = absurd (omega (arith, longest.0, no_bytes))
+run-empty bytes end (Data slice) longest no_bytes buffers start = absurd (omega (arith, longest.0, no_bytes))
 run-empty bytes end Nothing longest no_bytes buffers start = refl
 
-module _ (old mid new : Buffers) (since bytes : List ℕ) (from : ℕ) (run : Run) {HasReadBefore : List ℕ → Type 0}
-    (laws : Laws) (free : is_full old ≡ false) (begins : from ≤ length bytes)
-    (returned : ReturnsRun buffers_with_event is_full old mid usual_limit HasReadBefore (drop from bytes) run)
-    (before : HasReadBefore since) where
+module _ (old mid new : Buffers) (already_read bytes : List ℕ) (from : ℕ) (run : Run) {HasReadBefore : List ℕ → Type 0}
+    (laws : Laws) (free : must_return old ≡ false) (begins : from ≤ length bytes)
+    (returned : ReturnsRun buffers_with_event must_return old mid default_limit HasReadBefore (drop from bytes) run)
+    (before : HasReadBefore already_read) where
   abbrev after_call : List ℕ
-  after_call = resumed_stream since (drop from bytes) run.start
+  after_call = resumed_stream already_read (drop from bytes) run.start
 
-  goes-to_run_start : ReadsOn old (resumed mid) since after_call bytes from run.start
-  goes-to_run_start = goes-call old mid since bytes from run.start laws free (returned.comes since before)
+  goes-to_run_start : ReadsOn old (resumed mid) already_read after_call bytes from run.start
+  goes-to_run_start = goes-call old mid already_read bytes from run.start laws free (returned.comes already_read before)
 
   -- A run of this kind was recorded.
-  goes-recorded : (kind : RunKind) → 0 < length (run_bytes run)
-      → new ≡ with_wanted mid (run_record (run_kind kind) (from + run.start) (length (run_bytes run)))
+  goes-recorded : (kind : InputRunKind) → 0 < length (run_bytes run)
+      → new ≡ with_run_record mid (run_record (run_kind kind) (from + run.start) (length (run_bytes run)))
       → IsRunOfKind kind (run_bytes run) → run_events run ≡ events_of_run kind (run_bytes run)
-      → ReadsOn old new since (after_call ++ run_bytes run) bytes from run.end
+      → ReadsOn old new already_read (after_call ++ run_bytes run) bytes from run.end
   goes-recorded kind not_empty recorded is_run same_events =
       let here : take (length (run_bytes run)) (drop (from + run.start) bytes) ≡ run_bytes run =
       ap (take (length (run_bytes run))) (sym (drop-drop run.start from bytes)) ∙ sym returned.is_run.bytes_are in
@@ -238,20 +243,20 @@ module _ (old mid new : Buffers) (since bytes : List ℕ) (from : ℕ) (run : Ru
       let open_room = returned.may_go_on (omega (arith, returned.is_run.end)) in
       let same_room : resumed mid ≡ mid = resumed-same mid (free-unpaused mid open_room) in
       let by_run =
-      goes-run {since = after_call} kind open_room recorded
-      (record { within = within; some = not_empty; is = rw here is_run })
-      (rw here (returned.adds since before ∙ same_events)) in
+      goes-run {already_read = after_call} kind open_room recorded
+      (record { within = within; some = not_empty; is_of_kind = rw here is_run })
+      (rw here (returned.adds already_read before ∙ same_events)) in
       rw returned.is_run.end (goes-then (rw same_room at goes-to_run_start) open_room within (rw here at by_run))
 
   goes-taken : (taken : Taken) → run.taken ≡ taken → AreCharacters taken → IsLongestRun (drop from bytes) run.end taken
       → new ≡ with_taken mid (from + run.start) taken
-      → ReadsOn old new since (after_call ++ run_bytes run) bytes from run.end
+      → ReadsOn old new already_read (after_call ++ run_bytes run) bytes from run.end
   goes-taken (Text text) same_taken utf8 longest written =
       let bytes_are : run_bytes run ≡ text.now = ap taken_bytes same_taken in
       goes-recorded TextRun (rw bytes_are longest.0) (rw bytes_are written) (rw bytes_are (utf8, longest.1))
       (rw same_taken refl)
-  goes-taken (Data those) same_taken utf8 longest written =
-      let bytes_are : run_bytes run ≡ those.now = ap taken_bytes same_taken in
+  goes-taken (Data slice) same_taken utf8 longest written =
+      let bytes_are : run_bytes run ≡ slice.now = ap taken_bytes same_taken in
       goes-recorded DataRun (rw bytes_are longest.0) (rw bytes_are written) tt (rw same_taken refl)
   goes-taken Nothing same_taken utf8 longest written =
       let no_bytes : run_bytes run ≡ [] = ap taken_bytes same_taken in
@@ -259,14 +264,14 @@ module _ (old mid new : Buffers) (since bytes : List ℕ) (from : ℕ) (run : Ru
       rw (no_bytes, append-nil after_call, end, written) goes-to_run_start
 
   pub goes-to-run : AreCharacters run.taken → new ≡ with_run mid from run
-      → ReadsOn old new since (after_call ++ run_bytes run) bytes from run.end
+      → ReadsOn old new already_read (after_call ++ run_bytes run) bytes from run.end
   goes-to-run utf8 recorded = goes-taken run.taken refl utf8 returned.is_run.whole recorded
 
   -- With room for what two bytes add, a call reads one, unless a record that stops was written.
-  pub goes-further : Starts old → from < length bytes → new ≡ with_run mid from run
+  pub goes-further : AreEmptyBuffers old → from < length bytes → new ≡ with_run mid from run
       → NoRecordStops old.stops new.events → 0 < run.end
   unfolding reported_before
-  goes-further starts before_end recorded no_stops = elim (cases_lt 0 run.end) [
+  goes-further are_empty before_end recorded no_stops = elim (cases_lt 0 run.end) [
     | inl moved ↦ moved
     | inr at_0 ↦
         let unread : List ℕ = drop from bytes in
@@ -274,10 +279,12 @@ module _ (old mid new : Buffers) (since bytes : List ℕ) (from : ℕ) (run : Ru
         let empty : length (run_bytes run) ≡ 0 = omega (arith, at_0, returned.is_run.end) in
         let same : new ≡ resumed mid =
         recorded ∙ run-empty unread run.end run.taken returned.is_run.whole empty mid (from + run.start) in
-        let performed = rw (start, added-nothing usual_limit since) at (returned.comes since before).performed in
-        let goes_on = free-at_first old (breaks_at since unread 0) starts (rw (same, performed) at no_stops) in
+        let performed = rw (start, added-nothing default_limit already_read) at
+        (returned.comes already_read before).performed in
+        let goes_on =
+        free-at_first old (breaks_at already_read unread 0) are_empty (rw (same, performed) at no_stops) in
         absurd
         (false≢true
-        (sym goes_on ∙ ap is_full (sym performed)
+        (sym goes_on ∙ ap must_return (sym performed)
         ∙ returned.stops (omega (arith, at_0, start)) (omega (arith, start, length-drop from bytes, before_end))))
   ]

@@ -1,16 +1,16 @@
 -- A parser that read a part of a call goes on as one that has read another stream (`Continues`), and so it does after
 -- the next part: what the parts add is joined.
-use Rattle.vte_c.proofs.Common.{add-one, add_assoc, added, ap, append-nil, append_assoc, AreFirst, arith, Bool, breaks, breaks_at, cases_Bool, chars, Continues, DataRun, drop, drop-drop, Entry, entry_data, entry_events, Event, event_kind, events_of_run, false, flat_map, get_or, GoesOnFromPositions, has, has_kind, if◌then◌else◌, InInput, inl, inr, is_stop, IsStart, length, length-drop, List, map, NoEventStops, NoKindStops, NoRecordStops, open_character, OpensSilently, or_parts, Print, Put, records_from, refl, replacement, reported, reported_before, resumed_stream, run_kind, RunKind, Single, suc, sym, take, take-add, take-append-drop, take_more, TextRun, true, usual_limit, VteEvent, zero, zero-add, ℕ, [], ◌++◌, ◌+◌, ◌-◌, ◌<◌, ◌∙◌, ◌∷◌, ◌≡◌, ◌≤◌}
+use Rattle.vte_c.proofs.Common.{add-one, add_assoc, added, any_of_kinds, ap, append-nil, append_assoc, arith, Bool, breaks, breaks_at, cases_Bool, chars, contains_kind, Continues, DataRun, default_limit, drop, drop-drop, Entry, entry_data, entry_events, Event, event_kind, events_of_run, false, flat_map, get_or, GoesOnFromPositions, if◌then◌else◌, InInput, inl, InputRunKind, inr, is_stop, IsPrefix, IsStart, length, length-drop, List, map, NoEventStops, NoKindStops, NoRecordStops, open_character, OpensSilently, or_parts, Print, Put, records_from, refl, replacement, reported, reported_before, resumed_stream, run_kind, Single, suc, sym, take, take-add, take-append-drop, take_more, TextRun, true, VteEvent, zero, zero-add, ℕ, [], ◌++◌, ◌+◌, ◌-◌, ◌<◌, ◌∙◌, ◌∷◌, ◌≡◌, ◌≤◌}
 use Rattle.vte_core.proofs.lemmas.EarlyStops.{added-append}
 use Rattle.vte_core.proofs.lemmas.streams.After.{added-nothing}
 use Rattle.vte_core.proofs.lemmas.shapes.BrokenCharacters.{breaks-next}
 
--- ---- some events are the first of others (`AreFirst`)
+-- ---- some events are the first of others (`IsPrefix`)
 
-first-same : {events all : List Event} → all ≡ events → AreFirst events all
+first-same : {events all : List Event} → all ≡ events → IsPrefix events all
 first-same {events} same = record { others = []; parts = same ∙ sym (append-nil events) }
 
-first-then : {front events all : List Event} → AreFirst front events → AreFirst events all → AreFirst front all
+first-then : {front events all : List Event} → IsPrefix front events → IsPrefix events all → IsPrefix front all
 first-then {front} first later = record {
   others = first.others ++ later.others;
   parts =
@@ -18,8 +18,8 @@ first-then {front} first later = record {
       ∙ append_assoc front first.others later.others;
 }
 
-first-after : {events all : List Event} (before : List Event) → AreFirst events all
-    → AreFirst (before ++ events) (before ++ all)
+first-after : {events all : List Event} (before : List Event) → IsPrefix events all
+    → IsPrefix (before ++ events) (before ++ all)
 first-after {events} before first = record {
   others = first.others;
   parts = ap (λ (events : List Event). before ++ events) first.parts ∙ sym (append_assoc before events first.others);
@@ -27,12 +27,16 @@ first-after {events} before first = record {
 
 -- ---- one part after another
 
-pub continues-nothing : (since bytes : List ℕ) → Continues since since bytes 0 []
-continues-nothing since bytes = record { goes_on = λ more. refl; prefixes = λ k within. first-same (rw zero-add refl) }
+pub continues-nothing : (already_read bytes : List ℕ) → Continues already_read already_read bytes 0 []
+continues-nothing already_read bytes = record {
+  goes_on = λ more. refl;
+  prefixes =
+      λ k within. first-same (rw zero-add refl);
+}
 
-pub continues-then : {since next last bytes : List ℕ} {n m : ℕ} {given given_next : List Event}
-    → Continues since next bytes n given → Continues next last (drop n bytes) m given_next
-    → n ≤ length bytes → Continues since last bytes (n + m) (given ++ given_next)
+pub continues-then : {already_read next last bytes : List ℕ} {n m : ℕ} {given given_next : List Event}
+    → Continues already_read next bytes n given → Continues next last (drop n bytes) m given_next
+    → n ≤ length bytes → Continues already_read last bytes (n + m) (given ++ given_next)
 continues-then {bytes} {n} {m} {given} {given_next} continues continues_on within = record {
   goes_on =
       λ unread.
@@ -45,11 +49,11 @@ continues-then {bytes} {n} {m} {given} {given_next} continues continues_on withi
 
 -- ---- bytes that report what they add
 
-pub continues-added : (since bytes : List ℕ) (n : ℕ)
-    → Continues since (since ++ take n bytes) bytes n (added usual_limit since (take n bytes))
-continues-added since bytes n = record {
+pub continues-added : (already_read bytes : List ℕ) (n : ℕ)
+    → Continues already_read (already_read ++ take n bytes) bytes n (added default_limit already_read (take n bytes))
+continues-added already_read bytes n = record {
   goes_on = λ more.
-      let parts = added-append usual_limit since (take n bytes) (drop n bytes ++ more) in
+      let parts = added-append default_limit already_read (take n bytes) (drop n bytes ++ more) in
       rw (← parts, ← append_assoc (take n bytes), take-append-drop) refl;
   prefixes = λ k within. first-same (rw (take-add n k bytes, added-append) refl);
 }
@@ -57,44 +61,54 @@ continues-added since bytes n = record {
 -- ---- a call of the parser
 
 -- A call that stops before that byte has given U+FFFD, which no byte has added so far.
-broken-first : GoesOnFromPositions usual_limit → (stream unread : List ℕ) (k : ℕ)
+broken-first : GoesOnFromPositions default_limit → (stream unread : List ℕ) (k : ℕ)
     → breaks (open_character stream) unread ≡ true
-    → AreFirst (added usual_limit stream (take k unread)) (Print replacement ∷ added usual_limit [] (take k unread))
+    → IsPrefix (added default_limit stream (take k unread)) (Print replacement ∷ added default_limit [] (take k unread))
 unfolding reported_before resumed_stream breaks_at
 broken-first goes_on stream unread zero broken =
-    record { others = Print replacement ∷ added usual_limit [] []; parts = rw (added-nothing usual_limit stream) refl }
+    record {
+      others = Print replacement ∷ added default_limit [] [];
+      parts =
+          rw (added-nothing default_limit stream) refl;
+    }
 broken-first goes_on stream [] (suc k) broken =
-    record { others = Print replacement ∷ added usual_limit [] []; parts = rw (added-nothing usual_limit stream) refl }
+    record {
+      others = Print replacement ∷ added default_limit [] [];
+      parts =
+          rw (added-nothing default_limit stream) refl;
+    }
 broken-first goes_on stream (byte ∷ unread) (suc k) broken =
     let front : List ℕ = byte ∷ take k unread in
     let breaks_it : breaks_at stream front 0 ≡ true =
     rw (append-nil stream) (breaks-next (open_character stream) byte (take k unread) unread ∙ broken) in
     first-same
     (sym
-    (rw (append-nil front, reported_before, resumed_stream, breaks_it, added-nothing usual_limit stream) at
+    (rw (append-nil front, reported_before, resumed_stream, breaks_it, added-nothing default_limit stream) at
     (goes_on stream front [] 0)))
 
-pub continues-call : GoesOnFromPositions usual_limit → (since bytes : List ℕ) (n : ℕ)
-    → Continues since (resumed_stream since bytes n) bytes n (reported_before usual_limit since bytes n)
+pub continues-call : GoesOnFromPositions default_limit → (already_read bytes : List ℕ) (n : ℕ)
+    → Continues already_read (resumed_stream already_read bytes n) bytes n
+    (reported_before default_limit already_read bytes n)
 unfolding reported_before resumed_stream breaks_at
-continues-call goes_on since bytes n = elim (cases_Bool (breaks_at since bytes n)) [
+continues-call goes_on already_read bytes n = elim (cases_Bool (breaks_at already_read bytes n)) [
   | inl broken ↦ rw broken (record {
-    goes_on = λ more. rw broken at (goes_on since bytes more n);
+    goes_on = λ more. rw broken at (goes_on already_read bytes more n);
     prefixes = λ k within.
-        rw (take-add n k bytes, added-append, append_assoc (added usual_limit since (take n bytes)))
-        (first-after (added usual_limit since (take n bytes))
-        (broken-first goes_on (since ++ take n bytes) (drop n bytes) k broken));
+        rw (take-add n k bytes, added-append, append_assoc (added default_limit already_read (take n bytes)))
+        (first-after (added default_limit already_read (take n bytes))
+        (broken-first goes_on (already_read ++ take n bytes) (drop n bytes) k broken));
   })
-  | inr unbroken ↦ rw (unbroken, append-nil (added usual_limit since (take n bytes))) (continues-added since bytes n)
+  | inr unbroken ↦ rw (unbroken, append-nil (added default_limit already_read (take n bytes)))
+      (continues-added already_read bytes n)
 ]
 
 -- ---- records of kinds that do not stop
 
-pub no_kind_stops-none : (stops : ℕ) (records : List VteEvent) → has_kind stops records ≡ false
+pub no_kind_stops-none : (stops : ℕ) (records : List VteEvent) → any_of_kinds stops records ≡ false
     → NoRecordStops stops records
 no_kind_stops-none stops [] none_of_kinds = tt
 no_kind_stops-none stops (event ∷ records) none_of_kinds =
-    let apart = or_parts (has stops event.kind) (has_kind stops records) none_of_kinds in
+    let apart = or_parts (contains_kind stops event.kind) (any_of_kinds stops records) none_of_kinds in
     (apart.0, no_kind_stops-none stops records apart.1)
 
 pub no_kind_stops-append : (stops : ℕ) (front back : List ℕ) → NoKindStops stops front → NoKindStops stops back
@@ -122,7 +136,7 @@ no_event_stops-each : (stop : ℕ → Bool) (call : ℕ → Event) → ((n : ℕ
 no_event_stops-each stop call kind_goes_on [] = tt
 no_event_stops-each stop call kind_goes_on (n ∷ ns) = (kind_goes_on n, no_event_stops-each stop call kind_goes_on ns)
 
-pub no_event_stops-run : (stop : ℕ → Bool) (run : RunKind) (bytes : List ℕ) → stop (run_kind run) ≡ false
+pub no_event_stops-run : (stop : ℕ → Bool) (run : InputRunKind) (bytes : List ℕ) → stop (run_kind run) ≡ false
     → NoEventStops stop (events_of_run run bytes)
 no_event_stops-run stop TextRun bytes kind_goes_on = no_event_stops-each stop Print (λ c. kind_goes_on) (chars bytes)
 no_event_stops-run stop DataRun bytes kind_goes_on = no_event_stops-each stop Put (λ b. kind_goes_on) bytes
@@ -130,35 +144,37 @@ no_event_stops-run stop DataRun bytes kind_goes_on = no_event_stops-each stop Pu
 -- The events of records that don't stop don't stop either.
 pub no_event_stops-entries : (stops : ℕ) (input : List ℕ) (place : ℕ) (entries : List Entry)
     → NoRecordStops stops (records_from place entries)
-    → NoEventStops (has stops) (flat_map (entry_events input) entries)
+    → NoEventStops (contains_kind stops) (flat_map (entry_events input) entries)
 no_event_stops-entries stops input place [] none_stops = tt
 no_event_stops-entries stops input place (Single event ∷ entries) none_stops =
     (none_stops.0, no_event_stops-entries stops input (place + length (entry_data (Single event))) entries none_stops.1)
 no_event_stops-entries stops input place (InInput run start size ∷ entries) none_stops =
     let bytes : List ℕ = take size (drop start input) in
-    no_event_stops-append (has stops) (events_of_run run bytes) (flat_map (entry_events input) entries)
-    (no_event_stops-run (has stops) run bytes none_stops.0)
+    no_event_stops-append (contains_kind stops) (events_of_run run bytes) (flat_map (entry_events input) entries)
+    (no_event_stops-run (contains_kind stops) run bytes none_stops.0)
     (no_event_stops-entries stops input (place + 0) entries none_stops.1)
 
 -- An event that isn't reported doesn't stop.
-pub no_event_stops-reported : (kinds stops : ℕ) (events : List Event) → NoEventStops (has stops) (reported kinds events)
+pub no_event_stops-reported : (kinds stops : ℕ) (events : List Event)
+    → NoEventStops (contains_kind stops) (reported kinds events)
     → NoEventStops (is_stop kinds stops) events
 no_event_stops-reported kinds stops [] none_stops = tt
-no_event_stops-reported kinds stops (event ∷ events) none_stops = elim (cases_Bool (has kinds (event_kind event))) [
-  | inl wanted ↦
-      let rest = rw wanted at none_stops in
-      (rw wanted rest.0, no_event_stops-reported kinds stops events rest.1)
-  | inr other ↦ (rw other refl, no_event_stops-reported kinds stops events (rw other at none_stops))
-]
+no_event_stops-reported kinds stops (event ∷ events) none_stops =
+    elim (cases_Bool (contains_kind kinds (event_kind event))) [
+      | inl wanted ↦
+          let rest = rw wanted at none_stops in
+          (rw wanted rest.0, no_event_stops-reported kinds stops events rest.1)
+      | inr other ↦ (rw other refl, no_event_stops-reported kinds stops events (rw other at none_stops))
+    ]
 
 -- If nothing that bytes add stops, nothing that fewer of them add does.
 pub no_event_stops-earlier : (stop : ℕ → Bool) (stream bytes : List ℕ) (i n : ℕ) → i ≤ n
-    → NoEventStops stop (added usual_limit stream (take n bytes))
-    → NoEventStops stop (added usual_limit stream (take i bytes))
+    → NoEventStops stop (added default_limit stream (take n bytes))
+    → NoEventStops stop (added default_limit stream (take i bytes))
 no_event_stops-earlier stop stream bytes i n earlier none_stops =
     let parts : i + (n - i) ≡ n = omega arith in
-    no_event_stops-front stop (added usual_limit stream (take i bytes))
-    (added usual_limit (stream ++ take i bytes) (take (n - i) (drop i bytes)))
+    no_event_stops-front stop (added default_limit stream (take i bytes))
+    (added default_limit (stream ++ take i bytes) (take (n - i) (drop i bytes)))
     (rw (← parts, take-add i (n - i) bytes, added-append) at none_stops)
 
 -- ---- what the bytes before the last add
@@ -167,20 +183,20 @@ no_event_stops-earlier stop stream bytes i n earlier none_stops =
 -- call would have stopped, or adds nothing that stops.
 
 module _ (stop : ℕ → Bool) (no_text : stop 0 ≡ false) (stream bytes : List ℕ) (n : ℕ) (within : n ≤ length bytes)
-    (silent : OpensSilently usual_limit)
+    (silent : OpensSilently default_limit)
     (asked : (i : ℕ) → i < n → IsStart stream bytes i
-    → NoEventStops stop (reported_before usual_limit stream bytes i)) where
+    → NoEventStops stop (reported_before default_limit stream bytes i)) where
   no_event_stops-at_start : (i : ℕ) → i < n → open_character (stream ++ take i bytes) ≡ []
-      → NoEventStops stop (added usual_limit stream (take i bytes))
+      → NoEventStops stop (added default_limit stream (take i bytes))
   unfolding reported_before
   no_event_stops-at_start i earlier closed =
-      no_event_stops-front stop (added usual_limit stream (take i bytes))
+      no_event_stops-front stop (added default_limit stream (take i bytes))
       (if breaks_at stream bytes i then Print replacement ∷ [] else [])
       (asked i earlier (record { within = omega arith; starts = inl closed }))
 
   -- A byte after which no character is open ends at a start, and any other adds nothing that stops.
-  pub no_event_stops-before : (i : ℕ) → i < n → NoEventStops stop (added usual_limit stream (take i bytes))
-  no_event_stops-before zero earlier = rw (added-nothing usual_limit stream) tt
+  pub no_event_stops-before : (i : ℕ) → i < n → NoEventStops stop (added default_limit stream (take i bytes))
+  no_event_stops-before zero earlier = rw (added-nothing default_limit stream) tt
   no_event_stops-before (suc i) earlier =
       let byte : ℕ = get_or bytes i 0 in
       let here : List ℕ = stream ++ take i bytes in
@@ -189,9 +205,9 @@ module _ (stop : ℕ → Bool) (no_text : stop 0 ≡ false) (stream bytes : List
       let before = no_event_stops-before i (omega arith) in
       elim (silent here byte) [
         | inl closed ↦ no_event_stops-at_start (suc i) earlier (rw (one_more, ← append_assoc) closed)
-        | inr opens ↦ rw (one_more, added-append usual_limit stream (take i bytes) (byte ∷ []))
-            (no_event_stops-append stop (added usual_limit stream (take i bytes))
-            (added usual_limit here (byte ∷ [])) before (elim opens [
+        | inr opens ↦ rw (one_more, added-append default_limit stream (take i bytes) (byte ∷ []))
+            (no_event_stops-append stop (added default_limit stream (take i bytes))
+            (added default_limit here (byte ∷ [])) before (elim opens [
               | inl nothing ↦ rw nothing tt
               | inr broken ↦ rw broken (no_text, tt)
             ]))

@@ -1,6 +1,6 @@
 -- A caller finds in its buffers the records and data of the entries that a call wrote, and reads their events back from
 -- them (`entries-read`, `fed`). More bytes after the input change nothing (`entry_events-later`).
-use Rattle.vte_c.proofs.Common.{add-zero, added, all_kinds, ap, append-nil, append_assoc, AreEncoded, AreGroups, AreReadable, arith, Bool, Buffers, buffers_of, cases_Bool, concat, count_byte, count_of, CsiDispatch, data_of, DataRun, drop, drop-append-le, drop-append_seam, drop-drop, Entry, entry_data, entry_events, eqb-true, EscDispatch, Event, event_in, event_kind, events, events_in, events_of, events_of_run, EventWriter, Execute, false, fed_count, filter-append, flag_byte, flat_map, get_or, group_bytes, groups_in, has, HasEntries, HasFed, HasGiven, HasRead, HasReadOn, HasReadSaved, HasReported, Hook, InInput, inl, inr, intermediates_in, IsBounded, IsRunAt, kinds_of, length, length-append, length-drop, length-map, length-take, List, map, map-set_same, min, nat_tests, no_room, NoRecordStops, numbers_in, OscDispatch, Parser, piece_bytes, pieces_in, Print, Put, record_at, records_from, refl, reported, run_kind, run_record, RunKind, Saved, set, Single, Starts, sum_by-cons, sym, take, take-append-drop, take-append-le, take-append_seam, take-map, TextRun, true, two_bytes, Unhook, usual_limit, VteEvent, with_intermediates, with_loss, without_loss, ℕ, [], ◌%◌, ◌*◌, ◌++◌, ◌+◌, ◌/◌, ◌<◌, ◌==◌, ◌∙◌, ◌∷◌, ◌≡◌, ◌≤◌}
+use Rattle.vte_c.proofs.Common.{add-zero, added, all_kinds, ap, append-nil, append_assoc, AreEmptyBuffers, AreEncoded, AreGroups, AreReadable, arith, Bool, Buffers, buffers_of, cases_Bool, concat, contains_kind, count_byte, count_of, CsiDispatch, data_of, DataRun, default_limit, drop, drop-append-le, drop-append_seam, drop-drop, Entry, entry_data, entry_events, eqb-true, EscDispatch, Event, event_in, event_kind, events, events_in, events_of, events_of_run, EventWriter, Execute, false, filter-append, flag_byte, flat_map, get_or, group_bytes, groups_in, HasEntries, HasFed, HasGiven, HasRead, HasReadOn, HasReadSaved, HasReported, Hook, InInput, inl, InputRunKind, inr, intermediates_in, IsBounded, IsRunAt, kinds_of, length, length-append, length-drop, length-map, length-take, List, map, map-set_same, min, nat_tests, no_room, NoRecordStops, numbers_in, osc_kind, OscDispatch, Parser, piece_bytes, pieces_in, Print, Put, read_count, record_at, records_from, refl, reported, run_kind, run_record, Saved, set, Single, sum_by-cons, sym, take, take-append-drop, take-append-le, take-append_seam, take-map, TextRun, true, two_bytes, Unhook, VteEvent, with_intermediates, with_loss, without_loss, ℕ, [], ◌%◌, ◌*◌, ◌++◌, ◌+◌, ◌/◌, ◌<◌, ◌==◌, ◌∙◌, ◌∷◌, ◌≡◌, ◌≤◌}
 use Rattle.std.specs.Char.{encode_utf8}
 use Rattle.vte_core.proofs.lemmas.bytes.Runs.{chars-encode}
 use Rattle.vte_c.proofs.lemmas.Buffers.{length-groups, length-records, length-two_bytes}
@@ -69,7 +69,7 @@ intermediates-read event (a ∷ b ∷ []) at_most = refl
 intermediates-read event (a ∷ b ∷ c ∷ later) at_most = absurd (omega arith)
 
 -- An event is read back if its data is at its offset in the area.
-single-read : (input area back : List ℕ) (offset : ℕ) (event : Event) → IsBounded usual_limit event
+single-read : (input area back : List ℕ) (offset : ℕ) (event : Event) → IsBounded default_limit event
     → drop offset area ≡ data_of event ++ back
     → events_of input area (record_at offset (Single event)) ≡ event ∷ []
 unfolding events_of event_in
@@ -91,7 +91,7 @@ single-read input area back offset _ bounded is_there = refl
 
 -- The data of each is where those before it end.
 
-run-read : (input area : List ℕ) (run : RunKind) (start size : ℕ)
+run-read : (input area : List ℕ) (run : InputRunKind) (start size : ℕ)
     → events_of input area (run_record (run_kind run) start size) ≡ events_of_run run (take size (drop start input))
 unfolding events_of
 run-read input area TextRun start size = refl
@@ -116,9 +116,9 @@ entries-read_from input area back offset (Single event ∷ entries) readable is_
 events-without_loss : (input area : List ℕ) (event : VteEvent)
     → events_of input area (without_loss event) ≡ events_of input area event
 unfolding events_of event_in without_loss
-events-without_loss input area event = elim (cases_Bool (event.kind == 5)) [
+events-without_loss input area event = elim (cases_Bool (event.kind == osc_kind)) [
   | inl command ↦
-      let kind : event.kind ≡ 5 = eqb-true event.kind 5 command in
+      let kind : event.kind ≡ osc_kind = eqb-true event.kind osc_kind command in
       let flag : event.flag % 2 % 2 ≡ event.flag % 2 = omega arith in
       rw (kind, flag) refl
   | inr other ↦
@@ -132,7 +132,7 @@ records-without_loss input area [] = refl
 records-without_loss input area (event ∷ records) =
     rw (events-without_loss input area event, records-without_loss input area records) refl
 
-record-without_loss : (event : VteEvent) → event.kind ≡ 5 → without_loss (with_loss event) ≡ without_loss event
+record-without_loss : (event : VteEvent) → event.kind ≡ osc_kind → without_loss (with_loss event) ≡ without_loss event
 unfolding without_loss
 record-without_loss event command =
     let flag : (event.flag % 2 + 2) % 2 ≡ event.flag % 2 = omega arith in
@@ -140,7 +140,7 @@ record-without_loss event command =
 
 -- Writing whether a command lost data later doesn't change what is read.
 pub records-same_without_loss : (records : List VteEvent) (count offset : ℕ) (default : VteEvent)
-    → (get_or records offset default).kind ≡ 5
+    → (get_or records offset default).kind ≡ osc_kind
     → map without_loss (take count (set records offset (with_loss (get_or records offset default))))
     ≡ map without_loss (take count records)
 records-same_without_loss records count offset default command =
@@ -153,7 +153,7 @@ records-same_without_loss records count offset default command =
 kind-without_loss : (event : VteEvent) → (without_loss event).kind ≡ event.kind
 unfolding without_loss
 kind-without_loss event =
-    elim (cases_Bool (event.kind == 5)) [ inl command ↦ rw command refl | inr other ↦ rw other refl ]
+    elim (cases_Bool (event.kind == osc_kind)) [ inl command ↦ rw command refl | inr other ↦ rw other refl ]
 
 kinds-without_loss : (records : List VteEvent) → kinds_of (map without_loss records) ≡ kinds_of records
 kinds-without_loss [] = refl
@@ -172,12 +172,12 @@ entries-read input area used entries readable is_there =
 -- What a call gives comes after what was given, and once nothing is unread, all is given.
 
 -- A call that isn't short of room returns what it has read.
-pub fed_count-with_room : (n : ℕ) → n < no_room → fed_count n ≡ n
-fed_count-with_room n small = grind (arith, nat_tests)
+pub read_count-with_room : (n : ℕ) → n < no_room → read_count n ≡ n
+read_count-with_room n small = grind (arith, nat_tests)
 
 -- Every event has one of eight kinds.
-event-reported : (event : Event) → has all_kinds (event_kind event) ≡ true
-unfolding has
+event-reported : (event : Event) → contains_kind all_kinds (event_kind event) ≡ true
+unfolding contains_kind
 event-reported (Print c) = refl
 event-reported (Execute byte) = refl
 event-reported (Hook groups ints ignore final) = refl
@@ -192,15 +192,15 @@ events-reported [] = refl
 events-reported (event ∷ events) = rw (event-reported event, events-reported events) refl
 
 module _ {A : Type 0} {of : List Event → List A} where
-  pub given-nothing : {parser : Saved} → events usual_limit [] ≡ [] → HasReadSaved parser []
+  pub given-nothing : {parser : Saved} → events default_limit [] ≡ [] → HasReadSaved parser []
       → HasGiven of parser [] [] []
-  given-nothing no_events has_read = record { since = []; reads = has_read; goes_on = λ more. rw no_events refl }
+  given-nothing no_events has_read = record { already_read = []; reads = has_read; goes_on = λ more. rw no_events refl }
 
   pub given-before : (parser : Saved) (given : List A) (stream unread bytes : List ℕ)
       → HasGiven of parser given stream unread
       → HasGiven of parser given (stream ++ bytes) (unread ++ bytes)
   given-before parser given stream unread bytes has_given = record {
-    since = has_given.since;
+    already_read = has_given.already_read;
     reads = has_given.reads;
     goes_on = λ more. rw (append_assoc unread, append_assoc stream) (has_given.goes_on (bytes ++ more));
   }
@@ -210,11 +210,11 @@ module _ {A : Type 0} {of : List Event → List A} where
       (n : ℕ) (has_given : HasGiven of old before stream (bytes ++ rest))
       → HasReadSaved new next
       → ((more : List ℕ)
-      → now ++ of (added usual_limit next (drop n bytes ++ more))
-      ≡ of (added usual_limit has_given.since (bytes ++ more)))
+      → now ++ of (added default_limit next (drop n bytes ++ more))
+      ≡ of (added default_limit has_given.already_read (bytes ++ more)))
       → HasGiven of new (before ++ now) stream (drop n bytes ++ rest)
   given-more {before} {next} now bytes rest n has_given reads goes_on = record {
-    since = next;
+    already_read = next;
     reads = reads;
     goes_on =
         λ more. rw (append_assoc before, append_assoc (drop n bytes), goes_on (rest ++ more), ← append_assoc bytes)
@@ -222,9 +222,9 @@ module _ {A : Type 0} {of : List Event → List A} where
   }
 
   pub given-all : of [] ≡ [] → (parser : Saved) (given : List A) (stream : List ℕ) → HasGiven of parser given stream []
-      → given ≡ of (events usual_limit stream)
+      → given ≡ of (events default_limit stream)
   given-all none_of_none parser given stream has_given =
-      rw (added-nothing usual_limit has_given.since, none_of_none, append-nil given, append-nil stream) at
+      rw (added-nothing default_limit has_given.already_read, none_of_none, append-nil given, append-nil stream) at
       (has_given.goes_on [])
 
 -- ---- entries of an input, if more bytes follow it
@@ -236,14 +236,14 @@ run-same input more start size within =
     let at_most : size ≤ length (drop start input) = omega (arith, length-drop start input) in
     rw (drop-append-le start input more, take-append-le size (drop start input) more) refl
 
-run-later : (input more : List ℕ) (run : RunKind) (start size : ℕ) → IsRunAt input run start size
+run-later : (input more : List ℕ) (run : InputRunKind) (start size : ℕ) → IsRunAt input run start size
     → IsRunAt (input ++ more) run start size
 run-later input more run start size is_run =
     let same = run-same input more start size is_run.within in
     record {
       within = omega (arith, is_run.within, length-append input more);
       some = is_run.some;
-      is = rw same is_run.is;
+      is_of_kind = rw same is_run.is_of_kind;
     }
 
 readable-later : (input more : List ℕ) (entries : List Entry) → AreReadable input entries
@@ -265,7 +265,7 @@ entry_events-later input more (InInput run start size ∷ entries) readable =
 
 -- The buffers then hold just the records and data of the call's entries, so a reader finds their events.
 
-module _ (old new : EventWriter) (input : List ℕ) (entries : List Entry) (starts : Starts (buffers_of old))
+module _ (old new : EventWriter) (input : List ℕ) (entries : List Entry) (are_empty : AreEmptyBuffers (buffers_of old))
     (has_entries : HasEntries (buffers_of old) (buffers_of new) input entries) (more : List ℕ) where
   abbrev events-encoded : AreEncoded (flat_map (entry_events (input ++ more)) entries) new.count new.used new.events.now
       (input ++ more) new.area.now
@@ -273,10 +273,10 @@ module _ (old new : EventWriter) (input : List ℕ) (entries : List Entry) (star
     entries = entries;
     given = refl;
     readable = readable-later input more entries has_entries.readable;
-    number = omega (arith, ap (λ (held : Buffers). held.count) has_entries.written, starts.count);
-    recorded = rw (starts.events, starts.used) at (ap (λ (held : Buffers). held.events) has_entries.written);
-    size = omega (arith, ap (λ (held : Buffers). held.used) has_entries.written, starts.used);
-    held = rw starts.area at (ap (λ (held : Buffers). held.area) has_entries.written);
+    number = omega (arith, ap (λ (held : Buffers). held.count) has_entries.written, are_empty.count);
+    recorded = rw (are_empty.events, are_empty.used) at (ap (λ (held : Buffers). held.events) has_entries.written);
+    size = omega (arith, ap (λ (held : Buffers). held.used) has_entries.written, are_empty.used);
+    held = rw are_empty.area at (ap (λ (held : Buffers). held.area) has_entries.written);
   }
 
   -- A caller finds the events.
@@ -291,22 +291,22 @@ module _ (old new : EventWriter) (input : List ℕ) (entries : List Entry) (star
 
 pub call-fed : {old new : EventWriter} {parser : Parser 1024} {saved : Saved} {given : List Event}
     {stream bytes rest : List ℕ}
-    {n : ℕ} → Starts (buffers_of old)
+    {n : ℕ} → AreEmptyBuffers (buffers_of old)
     → {before : Saved} (has_reported : HasReported (buffers_of old).kinds before given stream (bytes ++ rest))
-    → HasReadOn (buffers_of old) (buffers_of new) parser has_reported.since bytes 0 n
-    → ((since : List ℕ) → HasRead parser since → HasReadSaved saved since)
+    → HasReadOn (buffers_of old) (buffers_of new) parser has_reported.already_read bytes 0 n
+    → ((already_read : List ℕ) → HasRead parser already_read → HasReadSaved saved already_read)
     → (NoRecordStops (buffers_of old).stops (buffers_of new).events → 0 < length bytes → 0 < n)
     → HasFed old new saved given stream bytes rest n
-call-fed {old} {new} {given} {stream} {bytes} {rest} {n} starts has_reported has_read_on saves further =
-    let there = events-encoded old new bytes has_read_on.goes.entries starts has_read_on.goes.holds in
-    let finds = events-found old new bytes has_read_on.goes.entries starts has_read_on.goes.holds in
+call-fed {old} {new} {given} {stream} {bytes} {rest} {n} are_empty has_reported has_read_on saves further =
+    let there = events-encoded old new bytes has_read_on.goes.entries are_empty has_read_on.goes.holds in
+    let finds = events-found old new bytes has_read_on.goes.entries are_empty has_read_on.goes.holds in
     record {
       events_name = ap (λ (held : Buffers). held.events_name) has_read_on.goes.holds.written;
       area_name = ap (λ (held : Buffers). held.area_name) has_read_on.goes.holds.written;
       progress = λ no_stops. further (rw (kinds-without_loss (take new.count new.events.now)) no_stops);
-      first =
-          rw (← kinds-without_loss (take new.count new.events.now), (there []).recorded, ← starts.used)
-          has_read_on.goes.holds.first;
+      at_most_one_follows =
+          rw (← kinds-without_loss (take new.count new.events.now), (there []).recorded, ← are_empty.used)
+          has_read_on.goes.holds.at_most_one_follows;
       encodes = λ more. rw (finds more) (there more);
       reports = λ more.
           rw (finds more, entry_events-later bytes more has_read_on.goes.entries has_read_on.goes.holds.readable)

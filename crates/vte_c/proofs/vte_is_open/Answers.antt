@@ -20,9 +20,9 @@ kind-code DeviceControl = refl
 kind-code SystemCommand = refl
 kind-code IgnoredString = refl
 
-pub returns-clause-which : goal.returns-clause-which
-returns-clause-which c = λ stream reads.
-    kind-code c.open.result ∙ ap open_code (c.open.ensures.which stream (c.restore.ensures stream reads))
+pub returns-clause-kind : goal.returns-clause-kind
+returns-clause-kind c = λ stream reads.
+    kind-code c.open.result ∙ ap open_code (c.open.ensures.kind stream (c.restore.ensures stream reads))
 
 pub returns-clause-closed : goal.returns-clause-closed
 returns-clause-closed c = λ closed stream reads.

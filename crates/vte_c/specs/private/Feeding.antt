@@ -3,34 +3,34 @@ use Rattle.std.specs.Prelude.{Bool, drop, false, length, List, map, take, ℕ, �
 use Rattle.std.specs.List.{flat_map, list_any}
 use Rattle.vte_core.specs.Event.{Event}
 use Rattle.vte_core.specs.Parser.{HasRead}
-use Rattle.vte_core.specs.Stream.{added, usual_limit}
+use Rattle.vte_core.specs.Stream.{added, default_limit}
 use Rattle.vte_core.specs.declared.parser.Parser.{Parser}
 use Rattle.vte_core.specs.declared.parser.saved.Saved.{Saved}
 use Rattle.vte_c.specs.private.Buffers.{Buffers, buffers_of}
-use Rattle.vte_c.specs.Record.{data_kind, Entry, entry_data, entry_events, events_in, has, kinds_in, records_from, reported, text_kind}
-use Rattle.vte_c.specs.Reported.{AreEncoded, AreReadable, HasReported, is_stop, NoEventStops, NoKindStops, StopsAtKind}
+use Rattle.vte_c.specs.Record.{contains_kind, data_kind, Entry, entry_data, entry_events, events_in, kinds_in, records_from, reported, text_kind}
+use Rattle.vte_c.specs.Reported.{AreEncoded, AreReadable, AtMostOneFollowsStop, HasReported, is_stop, NoEventStops, NoKindStops}
 use Rattle.vte_c.specs.declared.event.VteEvent.{VteEvent}
 use Rattle.vte_c.specs.declared.events.EventWriter.{EventWriter}
 
 -- The events are the first of those of another list.
-pub record AreFirst (events all : List Event) : Type 0 where
+pub record IsPrefix (events all : List Event) : Type 0 where
   pub others : List Event
   pub parts : all ≡ events ++ others
 
 -- After n of the bytes these events were reported, and a parser that had read one stream continues
 -- as one that has read another.
-pub record Continues (since next bytes : List ℕ) (n : ℕ) (given : List Event) : Type 0 where
+pub record Continues (already_read next bytes : List ℕ) (n : ℕ) (given : List Event) : Type 0 where
   pub goes_on : (more : List ℕ) →
-      added usual_limit since (bytes ++ more)
-      ≡ given ++ added usual_limit next (drop n bytes ++ more)
+      added default_limit already_read (bytes ++ more)
+      ≡ given ++ added default_limit next (drop n bytes ++ more)
   -- what a prefix of the bytes adds, beyond the first n
   pub prefixes : (k : ℕ) → n + k ≤ length bytes →
-      AreFirst (added usual_limit since (take (n + k) bytes))
-      (given ++ added usual_limit next (take k (drop n bytes)))
+      IsPrefix (added default_limit already_read (take (n + k) bytes))
+      (given ++ added default_limit next (take k (drop n bytes)))
 
 -- Whether a record is of the kinds.
-abbrev pub has_kind : ℕ → List VteEvent → Bool
-has_kind kinds records = list_any (λ event. has kinds event.kind) records
+abbrev pub any_of_kinds : ℕ → List VteEvent → Bool
+any_of_kinds kinds records = list_any (λ event. contains_kind kinds event.kind) records
 
 abbrev pub kinds_of : List VteEvent → List ℕ
 kinds_of records = map (λ event. event.kind) records
@@ -44,8 +44,8 @@ abbrev pub NoEventStopsIn : Buffers → List Event → Type 0
 NoEventStopsIn buffers events = NoEventStops (is_stop buffers.kinds buffers.stops) events
 
 -- Neither text nor data stop a call into these buffers.
-abbrev pub StopsAtNone : Buffers → Type 0
-StopsAtNone buffers =
+abbrev pub NoRunStops : Buffers → Type 0
+NoRunStops buffers =
     (is_stop buffers.kinds buffers.stops text_kind ≡ false)
     × (is_stop buffers.kinds buffers.stops data_kind ≡ false)
 
@@ -56,7 +56,8 @@ with_entries buffers entries = record buffers {
   count = buffers.count + length entries;
   area = buffers.area ++ flat_map entry_data entries;
   used = buffers.used + length (flat_map entry_data entries);
-  met = buffers.met || has_kind buffers.stops (records_from buffers.used entries);
+  has_stopped = buffers.has_stopped || any_of_kinds buffers.stops
+      (records_from buffers.used entries);
 }
 
 -- These entries were written: the buffers hold their records and their data, and at most two of
@@ -64,25 +65,27 @@ with_entries buffers entries = record buffers {
 pub record HasEntries (old new : Buffers) (input : List ℕ) (entries : List Entry) : Type 0 where
   pub readable : AreReadable input entries
   pub written : new ≡ with_entries old entries
-  pub first : StopsAtKind old.stops (kinds_of (records_from old.used entries))
+  pub at_most_one_follows : AtMostOneFollowsStop old.stops
+      (kinds_of (records_from old.used entries))
 
 -- After bytes up to an offset n more were read: their events of the kinds are those of entries,
 -- which were written, and the parser goes on as if it had read `next`.
-pub record ReadsOn (old new : Buffers) (since next bytes : List ℕ) (from n : ℕ) : Type 0 where
+pub record ReadsOn (old new : Buffers) (already_read next bytes : List ℕ)
+    (from n : ℕ) : Type 0 where
   pub given : List Event
   pub entries : List Entry
-  pub continues : Continues since next (drop from bytes) n given
+  pub continues : Continues already_read next (drop from bytes) n given
   pub shows : flat_map (entry_events bytes) entries ≡ reported old.kinds given
   pub holds : HasEntries old new bytes entries
-  pub before : StopsAtNone old → (i : ℕ) → i < n →
-      NoEventStopsIn old (added usual_limit since (take i (drop from bytes)))
+  pub before : NoRunStops old → (i : ℕ) → i < n →
+      NoEventStopsIn old (added default_limit already_read (take i (drop from bytes)))
 
 -- A call that had read bytes up to an offset has read n more.
-pub record HasReadOn (old new : Buffers) (parser : Parser 1024) (since bytes : List ℕ)
+pub record HasReadOn (old new : Buffers) (parser : Parser 1024) (already_read bytes : List ℕ)
     (from n : ℕ) : Type 0 where
   pub next : List ℕ
   pub reads : HasRead parser next
-  pub goes : ReadsOn old new since next bytes from n
+  pub goes : ReadsOn old new already_read next bytes from n
 
 -- A call read the first n bytes and wrote their events into the caller's buffers, where they are
 -- found whatever follows the bytes.
@@ -92,7 +95,8 @@ pub record HasFed (old new : EventWriter) (parser : Saved) (given : List Event)
   pub area_name : new.area.ghost_name ≡ old.area.ghost_name
   pub progress : NoKindStops (buffers_of old).stops (kinds_in new.count new.events.now) →
       0 < length bytes → 0 < n
-  pub first : StopsAtKind (buffers_of old).stops (kinds_in new.count new.events.now)
+  pub at_most_one_follows : AtMostOneFollowsStop (buffers_of old).stops
+      (kinds_in new.count new.events.now)
   pub encodes : (more : List ℕ) →
       AreEncoded (events_in new.count new.events.now (bytes ++ more) new.area.now)
       new.count new.used new.events.now (bytes ++ more) new.area.now

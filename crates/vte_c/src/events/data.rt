@@ -2,7 +2,7 @@
 //! caller's area.
 ghost use Rattle.std.specs.Prelude.{length, List, map, ℕ, ◌++◌, ◌≤◌};
 ghost use Rattle.std.specs.List.{flat_map};
-ghost use Rattle.vte_c.specs.private.Buffers.{Buffers, buffers_of, Holds};
+ghost use Rattle.vte_c.specs.private.Buffers.{AreaHolds, Buffers, buffers_of};
 ghost use Rattle.vte_c.specs.Record.{group_bytes, piece_bytes};
 
 use super::{EventWriter, bytes_of_one};
@@ -12,7 +12,8 @@ use vte_core::Params;
 impl EventWriter<'_> {
     /// Writes groups into the area. Returns where they end.
     pub(super) fn write_groups(&mut self, params: &Params) -> usize
-        ensures { Holds (buffers_of self.old) self.new result (flat_map group_bytes params.now) }
+        ensures { AreaHolds (buffers_of self.old) self.new result
+            (flat_map group_bytes params.now) }
     {
         let mut end = self.used;
         for group in params {
@@ -23,8 +24,8 @@ impl EventWriter<'_> {
 
     /// Writes a group into the area at `start`: its count of numbers, and two bytes for each.
     fn write_group(&mut self, start: usize, group: &[u16]) -> usize
-        ensures { (buffers : Buffers) (text : List ℕ) → Holds buffers self.old start text →
-            Holds buffers self.new result (text ++ group_bytes group.now) }
+        ensures { (buffers : Buffers) (text : List ℕ) → AreaHolds buffers self.old start text →
+            AreaHolds buffers self.new result (text ++ group_bytes group.now) }
     {
         // most groups have one number
         if let [number] = group {
@@ -39,7 +40,7 @@ impl EventWriter<'_> {
 
     /// Writes the pieces of a command into the area. Returns where they end.
     pub(super) fn write_pieces(&mut self, pieces: &[&[u8]]) -> usize
-        ensures { Holds (buffers_of self.old) self.new result (flat_map piece_bytes (map
+        ensures { AreaHolds (buffers_of self.old) self.new result (flat_map piece_bytes (map
             (λ piece. piece.now) pieces.now)) }
     {
         let mut end = self.used;
@@ -51,8 +52,8 @@ impl EventWriter<'_> {
 
     /// Writes a piece into the area at `start`, after four bytes with its length.
     fn write_piece(&mut self, start: usize, piece: &[u8]) -> usize
-        ensures { (buffers : Buffers) (text : List ℕ) → Holds buffers self.old start text →
-            Holds buffers self.new result (text ++ piece_bytes piece.now) }
+        ensures { (buffers : Buffers) (text : List ℕ) → AreaHolds buffers self.old start text →
+            AreaHolds buffers self.new result (text ++ piece_bytes piece.now) }
     {
         let length = piece.len().min(u32::MAX as usize);
         let bytes = [
@@ -68,9 +69,10 @@ impl EventWriter<'_> {
     /// Writes bytes into the area at `start`, if they fit. Returns where they end, or would end.
     #[inline(always)]
     pub(super) fn write(&mut self, start: usize, bytes: &[u8]) -> usize
-        ensures holds { (buffers : Buffers) (text : List ℕ) → Holds buffers self.old start text →
-            Holds buffers self.new result (text ++ bytes.now) }
-        ensures after { start ≤ result }
+        ensures holds { (buffers : Buffers) (text : List ℕ)
+            → AreaHolds buffers self.old start text →
+            AreaHolds buffers self.new result (text ++ bytes.now) }
+        ensures not_before_start { start ≤ result }
     {
         let end = start.saturating_add(bytes.len());
         if end <= self.size {

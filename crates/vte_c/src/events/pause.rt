@@ -2,18 +2,18 @@
 ghost use Rattle.std.specs.Prelude.{◌≡◌};
 ghost use Rattle.vte_c.specs.private.Buffers.{buffers_of, paused_if, resumed};
 
-use super::{EventWriter, MAX_ADDED};
+use super::{EventWriter, MAX_DATA_PER_BYTE};
 use crate::event;
 
 impl EventWriter<'_> {
     /// Pauses if a command may have lost data, and keeps the index of its record.
-    pub(super) fn pause_if(&mut self, may_have_lost: bool, command: usize)
+    pub(super) fn pause_if(&mut self, may_have_lost: bool, command_index: usize)
         ensures { buffers_of self.new ≡ paused_if may_have_lost (buffers_of self.old) }
     {
         if may_have_lost {
             self.paused = true;
-            self.command = command;
-            self.full_count = 0;
+            self.command_index = command_index;
+            self.full_at = 0;
         }
     }
 
@@ -23,8 +23,8 @@ impl EventWriter<'_> {
     {
         if self.paused {
             self.paused = false;
-            if !self.met && self.size - self.used >= MAX_ADDED {
-                self.full_count = self.events.len().saturating_sub(1);
+            if !self.has_stopped && self.size - self.used >= MAX_DATA_PER_BYTE {
+                self.full_at = self.events.len().saturating_sub(1);
             }
             if lost_data {
                 self.add_loss();
@@ -36,7 +36,7 @@ impl EventWriter<'_> {
     fn add_loss(&mut self)
         ensures { buffers_of self.new ≡ buffers_of self.old }
     {
-        let index = self.command;
+        let index = self.command_index;
         if index < self.count
             && index < self.events.len()
             && self.events[index].kind == event::OSC

@@ -1,7 +1,7 @@
 -- Early stops. What is reported before a position, and what goes on from there, is what the whole gives
 -- (`goes_on_from`); from one position to the next at most one unit is reported. By what a byte does to an open
 -- character.
-use Rattle.vte_core.proofs.Common.{add-one, added, ap, append-nil, append_assoc, AreFromOneByte, arith, Bool, breaks, breaks_at, cases_Bool, drop, drop-append_seam, Event, false, false≢true, get_or, if◌then◌else◌, inl, inr, IsAfter, IsAtMostOneShort, IsStart, length, List, None, open_at, open_character, Option, Place, Print, refl, replacement, reported_before, resumed_stream, rules, subst, suc, sym, take, take-append-drop, take_more, true, zero, ℕ, [], ◌++◌, ◌+◌, ◌<◌, ◌∙◌, ◌∷◌, ◌≡◌, ◌≤◌, ◌⊎◌}
+use Rattle.vte_core.proofs.Common.{add-one, added, ap, append-nil, append_assoc, AreBrief, arith, Bool, breaks, breaks_at, cases_Bool, drop, drop-append_seam, Event, false, false≢true, get_or, if◌then◌else◌, inl, inr, IsAfter, IsAtMostOneShort, IsStart, length, List, None, open_at, open_character, Option, Place, Print, refl, replacement, reported_before, resumed_stream, rules, subst, suc, sym, take, take-append-drop, take_more, true, zero, ℕ, [], ◌++◌, ◌+◌, ◌<◌, ◌∙◌, ◌∷◌, ◌≡◌, ◌≤◌, ◌⊎◌}
 use Rattle.vte_core.specs.EarlyStopLaws.{AreReportedAtStart, GoesOnFromPositions, ReportsUnit, ReportsUnits}
 use Rattle.vte_core.proofs.lemmas.streams.After.{added-nothing, after-open_character}
 use Rattle.vte_core.proofs.lemmas.places.PlaceLeads.{one_short-append}
@@ -19,7 +19,7 @@ use Rattle.vte_core.proofs.lemmas.streams.StreamSteps.{added-byte, bytes_are_bri
 -- each start.
 module _ {limit : Option ℕ} (P Q : List Event → Type 0) (stream bytes : List ℕ) (units : ReportsUnits limit)
     (at_first : P []) (asked_first : Q [])
-    (kept : (before unit : List Event) → P before → Q before → AreFromOneByte limit unit → P (before ++ unit)) where
+    (kept : (before unit : List Event) → P before → Q before → AreBrief limit unit → P (before ++ unit)) where
   -- By induction on m, P holds before each position below m, if Q holds before each earlier start.
   passed-below : (m i : ℕ) → i < m → i ≤ length bytes
       → ((j : ℕ) → j < i → IsStart stream bytes j → Q (reported_before limit stream bytes j))
@@ -99,15 +99,15 @@ ends_from : (stream rest : List ℕ) (broken : Bool) → (broken ≡ true → br
 ends_from stream rest broken rest_breaks =
     let leads : LeadsTo None ((if broken then [] else stream) ++ rest) = leads_to in
     after-open_character
-    (after_from stream rest broken rest_breaks leads.is_after) leads.is_place
-    ∙ sym (after-open_character leads.is_after leads.is_place)
+    (after_from stream rest broken rest_breaks leads.is_after) leads.is_reachable
+    ∙ sym (after-open_character leads.is_after leads.is_reachable)
 
 -- What the bytes before a position add, divided at the last start before it.
 record Added (limit : Option ℕ) (stream bytes : List ℕ) (i : ℕ) : Type 0 where
   before : List Event
   unit : List Event
   parts : added limit stream (take i bytes) ≡ before ++ unit
-  brief : AreFromOneByte limit unit
+  brief : AreBrief limit unit
   one_short : (open_character (stream ++ take i bytes) ≡ [] → ⊥) → IsAtMostOneShort unit
   begun : (before ≡ []) ⊎ AreReportedAtStart limit stream bytes i before
 
@@ -161,10 +161,10 @@ module _ (limit : Option ℕ) (stream bytes : List ℕ) (i : ℕ) (within : i < 
       }
 
   -- If the byte belongs to an open character, the unit goes on.
-  added-carried : Added limit stream bytes i → (open_character here ≡ [] → ⊥)
+  added-extended : Added limit stream bytes i → (open_character here ≡ [] → ⊥)
       → breaks (open_character here) (b ∷ []) ≡ false
       → Added limit stream bytes (i + 1)
-  added-carried adds some_open unbroken =
+  added-extended adds some_open unbroken =
       let little = reports_little limit here b some_open unbroken in
       let last : List Event = added limit here (b ∷ []) in
       record {
@@ -196,7 +196,7 @@ module _ (limit : Option ℕ) (stream bytes : List ℕ) (i : ℕ) (within : i < 
     | inl none_open ↦ added-from_start (starts-settled within none_open)
     | inr some_open ↦ elim (cases_Bool (breaks (open_character here) (b ∷ []))) [
       | inl broken ↦ added-from_start (starts-broken within (breaks_at-next ∙ broken))
-      | inr unbroken ↦ added-carried adds some_open unbroken
+      | inr unbroken ↦ added-extended adds some_open unbroken
     ]
   ]
 
@@ -230,7 +230,7 @@ reports_units limit stream bytes i within = record {
     a = added_to limit stream bytes i within
 
     by_break : (broken : Bool) → breaks_at stream bytes i ≡ broken
-        → AreFromOneByte limit (a.unit ++ (if broken then Print replacement ∷ [] else []))
+        → AreBrief limit (a.unit ++ (if broken then Print replacement ∷ [] else []))
     by_break true is_broken =
         one_short-append limit a.unit (Print replacement ∷ [])
         (a.one_short (λ none_open. false≢true (sym (breaks_at-settled stream bytes i none_open) ∙ is_broken)))

@@ -1,6 +1,6 @@
 -- Parameters sent back: the text of groups is written from its prefix, and read as the same groups, since digits give
 -- their number back, `:` joins and `;` parts.
-use Rattle.vte_core.proofs.Common.{All, All-append, All-cons, All-head, All-map, All-nil, All-tail, ap, append-nil, append_assoc, AreInClass, AreParameters, AreSmall, arith, Bool, BytesLead, class_of, colon, count_of, CsiDispatch, decimal, DispatchesShown, drop, false, flat_map, flat_map-append, fold, fold-append, get_or, greatest_number, groups_of, has_too_many_numbers, head_of, if◌then◌else◌, InControlSequence, InText, is_colon, is_parameter_text, is_separator, is_well_shaped, IsFilled, join_with_byte, length, List, map, max_numbers, nat_tests, Number, number_of, numbers, numbers_from, Option, refl, rules, semicolon, sequence_event, sequence_kind, shown, sym, take, take_all, true, with_number, ℕ, [], ◌++◌, ◌-◌, ◌∙◌, ◌∷◌, ◌≡◌, ◌≤◌}
+use Rattle.vte_core.proofs.Common.{All, All-append, All-cons, All-head, All-map, All-nil, All-tail, ap, append-nil, append_assoc, AreInClass, AreParameters, AreSmall, arith, Bool, BytesLead, class_of, colon, count_of, CsiDispatch, decimal, DispatchesShown, drop, false, flat_map, flat_map-append, fold, fold-append, get_or, groups_of, has_too_many_numbers, head_of, if◌then◌else◌, InControlSequence, InText, is_colon, is_parameter_byte, is_separator, is_well_shaped, IsNonEmpty, join_with_byte, length, List, map, max_numbers, max_value, nat_tests, Number, number_of, numbers, numbers_from, Option, refl, rules, semicolon, sequence_event, sequence_kind, shown, sym, take, take_all, true, with_number, ℕ, [], ◌++◌, ◌-◌, ◌∙◌, ◌∷◌, ◌≡◌, ◌≤◌}
 use Rattle.std.proofs.lemmas.List.Folds.{flat_map-map}
 use Rattle.std.specs.Str.Parse.{AllDigits, digits_value}
 use Rattle.std.proofs.lemmas.Fmt.{decimal_is_IsNumeral}
@@ -68,15 +68,15 @@ all_digits : (ds : List ℕ) → AllDigits 10 ds → All IsDigit ds
 all_digits [] digits = All-nil IsDigit
 all_digits (d ∷ ds) digits = All-cons IsDigit d ds (digit_from_value d digits.0) (all_digits ds digits.1)
 
-digits-decimal : (n : ℕ) → n ≤ greatest_number → All IsDigit (decimal n)
+digits-decimal : (n : ℕ) → n ≤ max_value → All IsDigit (decimal n)
 digits-decimal n small = all_digits (decimal n) (decimal_is_IsNumeral n (omega arith)).0.1
 
-number_of-decimal : (n : ℕ) → n ≤ greatest_number → number_of (decimal n) ≡ n
+number_of-decimal : (n : ℕ) → n ≤ max_value → number_of (decimal n) ≡ n
 number_of-decimal n small =
     let value : digits_value 10 (decimal n) ≡ n = (decimal_is_IsNumeral n (omega arith)).1 in
     omega (arith, value)
 
-no_separators-decimal : (n : ℕ) → n ≤ greatest_number → All IsNoSeparator (decimal n)
+no_separators-decimal : (n : ℕ) → n ≤ max_value → All IsNoSeparator (decimal n)
 no_separators-decimal n small = search (rules, arith, is_digit_no_separator, digits-decimal)
 
 -- ---- a text of numbers, each but the first with its separator before it
@@ -122,17 +122,17 @@ in_group : List ℕ → List Number
 in_group [] = []
 in_group (n ∷ ns) = numbered false n ∷ map (numbered true) ns
 
-groups-spelled : (groups : List (List ℕ)) → All IsFilled groups
+groups-spelled : (groups : List (List ℕ)) → All IsNonEmpty groups
     → flat_map spelled (flat_map in_group groups) ≡ flat_map after_semicolon groups
 unfolding in_group
 groups-spelled [] are_filled = refl
 groups-spelled ([] ∷ groups) are_filled =
-    absurd (omega (arith, All-head IsFilled [] groups are_filled))
+    absurd (omega (arith, All-head IsNonEmpty [] groups are_filled))
 groups-spelled ((n ∷ ns) ∷ groups) are_filled =
     search (
       rules,
       arith,
-      (groups-spelled groups (All-tail IsFilled (n ∷ ns) groups are_filled)),
+      (groups-spelled groups (All-tail IsNonEmpty (n ∷ ns) groups are_filled)),
       flat_map-append,
       numbered,
       in_group,
@@ -151,7 +151,7 @@ IsSmall-in_group : (group : List ℕ) → AreSmall group → All IsSmall (in_gro
 unfolding in_group
 IsSmall-in_group [] small = All-nil IsSmall
 IsSmall-in_group (n ∷ ns) small =
-    let P : ℕ → Type 0 = λ value. value ≤ greatest_number in
+    let P : ℕ → Type 0 = λ value. value ≤ max_value in
     All-cons IsSmall (numbered false n) (map (numbered true) ns) (All-head P n ns small)
     (All-map IsSmall (numbered true) ns (All-tail P n ns small))
 
@@ -168,14 +168,14 @@ grouped-joined before group [] = ap (λ (l : List ℕ). before ++ l ∷ []) (sym
 grouped-joined before group (n ∷ ns) =
     search (rules, arith, (grouped-joined before (group ++ n ∷ []) ns), numbered, with_number-joins, append_assoc)
 
-grouped-groups : (before groups : List (List ℕ)) → All IsFilled groups
+grouped-groups : (before groups : List (List ℕ)) → All IsNonEmpty groups
     → fold with_number before (flat_map in_group groups) ≡ before ++ groups
 unfolding in_group
 grouped-groups before [] filled = sym (append-nil before)
 grouped-groups before ([] ∷ groups) filled =
-    absurd (omega (arith, All-head IsFilled [] groups filled))
+    absurd (omega (arith, All-head IsNonEmpty [] groups filled))
 grouped-groups before ((n ∷ ns) ∷ groups) filled =
-    let rest = All-tail IsFilled (n ∷ ns) groups filled in
+    let rest = All-tail IsNonEmpty (n ∷ ns) groups filled in
     let more = flat_map in_group groups in
     fold-append with_number (with_number before (numbered false n)) (map (numbered true) ns) more
     ∙ ap (λ (b : List (List ℕ)). fold with_number (fold with_number b (map (numbered true) ns)) more)
@@ -214,16 +214,16 @@ has_too_many_numbers-shown groups are_parameters = search (rules, arith, at_most
 
 -- ---- the text has only bytes of parameters
 
-digit_is_parameter : (b : ℕ) → IsDigit b → is_parameter_text (class_of b) ≡ true
+digit_is_parameter : (b : ℕ) → IsDigit b → is_parameter_byte (class_of b) ≡ true
 unfolding class_of
 digit_is_parameter b digit = grind (arith, nat_tests)
 
-separator_is_parameter : (number : Number) → is_parameter_text (class_of (separator number)) ≡ true
+separator_is_parameter : (number : Number) → is_parameter_byte (class_of (separator number)) ≡ true
 unfolding class_of
 separator_is_parameter number = search (rules, arith)
 
-parameters-digits : (ds more : List ℕ) → All IsDigit ds → AreInClass is_parameter_text more
-    → AreInClass is_parameter_text (ds ++ more)
+parameters-digits : (ds more : List ℕ) → All IsDigit ds → AreInClass is_parameter_byte more
+    → AreInClass is_parameter_byte (ds ++ more)
 parameters-digits [] more digits are_parameters = are_parameters
 parameters-digits (d ∷ ds) more digits are_parameters = (
   digit_is_parameter d (All-head IsDigit d ds digits),
@@ -231,7 +231,7 @@ parameters-digits (d ∷ ds) more digits are_parameters = (
 )
 
 parameters-spelled : (numbers : List Number) → All IsSmall numbers
-    → AreInClass is_parameter_text (flat_map spelled numbers)
+    → AreInClass is_parameter_byte (flat_map spelled numbers)
 parameters-spelled [] all_small = tt
 parameters-spelled (number ∷ numbers) all_small =
     let rest =
@@ -240,7 +240,7 @@ parameters-spelled (number ∷ numbers) all_small =
     (parameters-spelled numbers (All-tail IsSmall number numbers all_small)) in
     (separator_is_parameter number, rest)
 
-parameters-shown : (groups : List (List ℕ)) → AreParameters groups → AreInClass is_parameter_text (shown groups)
+parameters-shown : (groups : List (List ℕ)) → AreParameters groups → AreInClass is_parameter_byte (shown groups)
 parameters-shown groups are_parameters =
     search (rules, arith, shown-spelled, parameters-spelled, in_group, IsSmall-groups)
 
@@ -248,7 +248,7 @@ parameters-shown groups are_parameters =
 
 -- The head of such a sequence leads byte by byte to its final byte, and is read as the groups that it shows.
 
-bytes_lead-head : (limit : Option ℕ) (head bytes : List ℕ) → AreInClass is_parameter_text bytes
+bytes_lead-head : (limit : Option ℕ) (head bytes : List ℕ) → AreInClass is_parameter_byte bytes
     → BytesLead limit (InControlSequence head) bytes [] (InControlSequence (head ++ bytes))
 bytes_lead-head limit head [] are_parameters = rw append-nil bytes_lead-nothing
 bytes_lead-head limit head (b ∷ bytes) are_parameters =
@@ -260,7 +260,7 @@ bytes_lead-head limit head (b ∷ bytes) are_parameters =
     rw append_assoc at (bytes_lead-append one rest)
 
 -- ESC, `[`, bytes of parameters and `m` report the sequence of these bytes.
-bytes_lead-shown : (limit : Option ℕ) (bytes : List ℕ) → AreInClass is_parameter_text bytes
+bytes_lead-shown : (limit : Option ℕ) (bytes : List ℕ) → AreInClass is_parameter_byte bytes
     → BytesLead limit (InText []) (0x1b ∷ 0x5b ∷ (bytes ++ 0x6d ∷ []))
     (sequence_event CsiDispatch (head_of bytes) 0x6d ∷ []) (InText [])
 unfolding class_of sequence_kind

@@ -8,7 +8,7 @@ use Rattle.vte_core.specs.Utf8.{from_to, is_in, Range}
 -- Between two characters; before one, two or three more bytes 80..BF; after a first byte whose
 -- second is bound more closely; and after a byte that fits nowhere, for good.
 pub data AutomatonState : Type 0 where
-  Between : AutomatonState
+  BetweenCharacters : AutomatonState
   NeedsOne : AutomatonState
   NeedsTwo : AutomatonState
   NeedsThree : AutomatonState
@@ -22,10 +22,10 @@ pub data AutomatonState : Type 0 where
 abbrev pub next_if_in : Range → AutomatonState → ℕ → AutomatonState
 next_if_in range next b = if is_in range b then next else Failed
 
-abbrev pub next_between : ℕ → AutomatonState
-next_between b =
-    if is_layout b then Between
-    else if is_in (from_to 0x20 0x7f) b then Between
+abbrev pub next_between_characters : ℕ → AutomatonState
+next_between_characters b =
+    if is_layout b then BetweenCharacters
+    else if is_in (from_to 0x20 0x7f) b then BetweenCharacters
     else if b == 0xc2 then AfterC2
     else if is_in (from_to 0xc3 0xdf) b then NeedsOne
     else if b == 0xe0 then AfterE0
@@ -37,15 +37,15 @@ next_between b =
     else Failed
 
 unfoldable pub next_state : AutomatonState → ℕ → AutomatonState
-next_state Between b = next_between b
-next_state NeedsOne b = next_if_in (from_to 0x80 0xbf) Between b
+next_state BetweenCharacters b = next_between_characters b
+next_state NeedsOne b = next_if_in (from_to 0x80 0xbf) BetweenCharacters b
 next_state NeedsTwo b = next_if_in (from_to 0x80 0xbf) NeedsOne b
 next_state NeedsThree b = next_if_in (from_to 0x80 0xbf) NeedsTwo b
 next_state AfterE0 b = next_if_in (from_to 0xa0 0xbf) NeedsOne b
 next_state AfterED b = next_if_in (from_to 0x80 0x9f) NeedsOne b
 next_state AfterF0 b = next_if_in (from_to 0x90 0xbf) NeedsTwo b
 next_state AfterF4 b = next_if_in (from_to 0x80 0x8f) NeedsTwo b
-next_state AfterC2 b = next_if_in (from_to 0xa0 0xbf) Between b
+next_state AfterC2 b = next_if_in (from_to 0xa0 0xbf) BetweenCharacters b
 next_state Failed b = Failed
 
 abbrev pub state_after : AutomatonState → List ℕ → AutomatonState
@@ -53,20 +53,20 @@ state_after state [] = state
 state_after state (b ∷ bytes) = state_after (next_state state b) bytes
 
 -- What the three bytes before a position say of the state there.
-abbrev pub Trails : AutomatonState → ℕ → ℕ → ℕ → Type 0
-Trails Between three_back two_back one_back = (one_back < 0xc0) × (two_back < 0xe0)
-    × (three_back < 0xf0)
-Trails NeedsOne three_back two_back one_back =
+abbrev pub IsAllowedAfter : AutomatonState → ℕ → ℕ → ℕ → Type 0
+IsAllowedAfter BetweenCharacters three_back two_back one_back =
+    (one_back < 0xc0) × (two_back < 0xe0) × (three_back < 0xf0)
+IsAllowedAfter NeedsOne three_back two_back one_back =
     (one_back < 0xc0 → two_back < 0xe0 → 0xf0 ≤ three_back) × (one_back < 0xe0) × (two_back < 0xf0)
-Trails NeedsTwo three_back two_back one_back = (one_back < 0xe0 → 0xf0 ≤ two_back)
+IsAllowedAfter NeedsTwo three_back two_back one_back = (one_back < 0xe0 → 0xf0 ≤ two_back)
     × (one_back < 0xf0)
-Trails NeedsThree three_back two_back one_back = 0xf0 ≤ one_back
-Trails AfterE0 three_back two_back one_back = one_back ≡ 0xe0
-Trails AfterED three_back two_back one_back = one_back ≡ 0xed
-Trails AfterF0 three_back two_back one_back = one_back ≡ 0xf0
-Trails AfterF4 three_back two_back one_back = one_back ≡ 0xf4
-Trails AfterC2 three_back two_back one_back = (one_back ≡ 0xc2) × (two_back < 0xf0)
-Trails Failed three_back two_back one_back = ⊥
+IsAllowedAfter NeedsThree three_back two_back one_back = 0xf0 ≤ one_back
+IsAllowedAfter AfterE0 three_back two_back one_back = one_back ≡ 0xe0
+IsAllowedAfter AfterED three_back two_back one_back = one_back ≡ 0xed
+IsAllowedAfter AfterF0 three_back two_back one_back = one_back ≡ 0xf0
+IsAllowedAfter AfterF4 three_back two_back one_back = one_back ≡ 0xf4
+IsAllowedAfter AfterC2 three_back two_back one_back = (one_back ≡ 0xc2) × (two_back < 0xf0)
+IsAllowedAfter Failed three_back two_back one_back = ⊥
 
 -- How many of three bytes are those of a character that they leave open.
 abbrev pub open_count : ℕ → ℕ → ℕ → ℕ
@@ -78,8 +78,8 @@ open_count three_back two_back one_back =
 
 -- In a run a byte may follow these three.
 pub record Follows (layout : Bool) (three_back two_back one_back byte : ℕ) : Type 0 where
-  pub leads : (state : AutomatonState) → Trails state three_back two_back one_back
-      → Trails (next_state state byte) two_back one_back byte
+  pub leads : (state : AutomatonState) → IsAllowedAfter state three_back two_back one_back
+      → IsAllowedAfter (next_state state byte) two_back one_back byte
   pub above : layout ≡ false → 0x20 ≤ byte
 
 -- The k-th byte of the window may be there.
@@ -89,5 +89,5 @@ FollowsAt layout window k =
     (slice_index window.one_back k) (slice_index window.current k)
 
 -- A byte of ASCII in a run that may have HT, LF and CR.
-abbrev pub StaysBetween : ℕ → Type 0
-StaysBetween b = (next_between b ≡ Between) × (b < 0x80)
+abbrev pub StaysBetweenCharacters : ℕ → Type 0
+StaysBetweenCharacters b = (next_between_characters b ≡ BetweenCharacters) × (b < 0x80)

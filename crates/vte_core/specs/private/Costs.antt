@@ -1,6 +1,6 @@
 -- How far the function of a state reads, and what that costs: looks at bytes, and memory.
 use Rattle.std.specs.Prelude.{IfOk, length, List, Result, ℕ, ◌*◌, ◌+◌, ◌<◌, ◌≡◌, ◌≤◌}
-use Rattle.vte_core.specs.Looks.{looked}
+use Rattle.vte_core.specs.Looks.{looks_of}
 use Rattle.vte_core.specs.declared.parser.machine.Machine.{Machine}
 use Rattle.vte_core.specs.declared.parser.refused.Refused.{Refused}
 use Rattle.vte_core.specs.declared.reader.Reader.{Reader}
@@ -21,55 +21,57 @@ use Rattle.vte_core.specs.private.Progress.{ChunkCall, IsRefusedInCommand, IsSet
 
 -- ---- bounds of functions
 
--- The bounds of each state's function, which reads from position i to position j, and gives back no
--- memory. It takes at least one look per byte and at most `rate`. The caller has taken `seen` of
--- them: those at the first bytes, by which it chose this function.
-pub record MovesWithin (rate seen : ℕ) {B : Type 0} (bytes : List ℕ) (i j : ℕ)
-    (parser next : Machine B)
-    (earlier later : Reader) : Type 0 where
-  pub low : i ≤ j
-  pub progress : i < length bytes → i < j
-  pub high : j ≤ length bytes
-  pub count : looked later + rate * i + seen ≤ looked earlier + rate * j
-  pub at_least : looked earlier + j ≤ looked later + i + seen
-  pub memory : parser.command.capacity ≤ next.command.capacity
+-- What the numbers of a bound are: looks that the caller took, and looks at bytes left unread.
+abbrev pub seen : ℕ → ℕ
+seen looks = looks
 
--- The same bounds for a function that may read nothing; `ahead` of its looks may be at bytes left
--- unread.
+abbrev pub ahead : ℕ → ℕ
+ahead looks = looks
+
+-- The bounds of a function that may read nothing, from position i to position j. It takes at least
+-- one look per byte, and at most `rate` and `ahead` more, at bytes left unread. The caller has
+-- taken `seen` of them: those at the first bytes, by which it chose this function. It gives back no
+-- memory.
 pub record SpendsWithin (rate seen ahead : ℕ) {B : Type 0} (bytes : List ℕ) (i j : ℕ)
     (parser next : Machine B) (earlier later : Reader) : Type 0 where
   pub low : i ≤ j
   pub high : j ≤ length bytes
-  pub count : looked later + rate * i + seen ≤ looked earlier + rate * j + ahead
-  pub at_least : looked earlier + j ≤ looked later + i + seen
+  pub looks_at_most : looks_of later + rate * i + seen ≤ looks_of earlier + rate * j + ahead
+  pub looks_at_least : looks_of earlier + j ≤ looks_of later + i + seen
   pub memory : parser.command.capacity ≤ next.command.capacity
+
+-- The bounds of each state's function, which reads a byte if there is one.
+pub record MovesWithin (rate seen : ℕ) {B : Type 0} (bytes : List ℕ) (i j : ℕ)
+    (parser next : Machine B) (earlier later : Reader) : Type 0 where
+  pub spends : SpendsWithin rate seen 0 bytes i j parser next earlier later
+  pub progress : i < length bytes → i < j
 
 -- The bounds of a function that handles a byte at which its caller looked: no character is open
 -- afterwards, and it takes at most `most` looks.
 pub record HandlesByte (most : ℕ) {B : Type 0} (parser next : Machine B)
     (earlier later : Reader) : Type 0 where
   pub settled : IsSettled next.state
-  pub count : looked later ≤ looked earlier + most
-  pub at_least : looked earlier ≤ looked later
+  pub looks_at_most : looks_of later ≤ looks_of earlier + most
+  pub looks_at_least : looks_of earlier ≤ looks_of later
   pub memory : parser.command.capacity ≤ next.command.capacity
 
 -- The bounds of a call with this result, which read n of its bytes: at most `rate` looks per byte
 -- read and 8 more. If memory was refused, the bytes left unread count too.
 pub record Costs (rate : ℕ) {Answer B : Type 0} (bytes : List ℕ) (result : Result Answer Refused)
-    (n : ℕ) (parser next : Machine B) (before after : ℕ) : Type 0 where
-  pub count : after ≤ before + rate * length bytes + 8
-  pub count_if_ok : IfOk result (λ _. after ≤ before + rate * n + 8)
-  pub at_least : before + n ≤ after
+    (n : ℕ) (parser next : Machine B) (looks_before looks_after : ℕ) : Type 0 where
+  pub looks_at_most : looks_after ≤ looks_before + rate * length bytes + 8
+  pub looks_at_most_if_ok : IfOk result (λ _. looks_after ≤ looks_before + rate * n + 8)
+  pub looks_at_least : looks_before + n ≤ looks_after
   pub memory : parser.command.capacity ≤ next.command.capacity
 
 -- The bounds of a function that reads nothing at position i, because memory was refused. It
 -- searched for the end of the data: it took at least one look, and at most one for each byte from
 -- there on.
-pub record Refuses {V B : Type 0} (call : ChunkCall V) (value : V) (i read : ℕ)
+pub record IsRefusedAt {V B : Type 0} (call : ChunkCall V) (value : V) (i read : ℕ)
     (parser next : Machine B) (earlier later : Reader) : Type 0 where
   pub stays : read ≡ i
   pub refused : IsRefusedInCommand call.limit next.state next.command call.bytes read
   pub may_go_on : MayGoOn call value
-  pub searched : looked earlier < looked later
-  pub within : looked later + i ≤ looked earlier + length call.bytes
+  pub looks_at_least : looks_of earlier < looks_of later
+  pub looks_at_most : looks_of later + i ≤ looks_of earlier + length call.bytes
   pub memory : parser.command.capacity ≤ next.command.capacity

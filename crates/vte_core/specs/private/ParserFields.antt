@@ -1,9 +1,9 @@
 -- The place at which a parser is, and what it has read.
 use Rattle.std.specs.Prelude.{Bool, drop, false, if◌then◌else◌, length, List, MatchOption, Option, slice_index, take, true, ℕ, [], ⊤, ◌++◌, ◌-◌, ◌<◌, ◌==◌, ◌||◌, ◌∷◌, ◌≡◌, ◌≤◌}
 use Rattle.vte_core.specs.declared.utf8.Unfinished.{Unfinished}
-use Rattle.vte_core.specs.declared.utf8.Unfinished.TheVariants.{Nothing, One, Three, Two}
-use Rattle.vte_core.specs.declared.utf8.Carried.{Carried}
-use Rattle.vte_core.specs.declared.utf8.Carried.TheVariants.{Broken, Unfinished as StillUnfinished, Whole}
+use Rattle.vte_core.specs.declared.utf8.Unfinished.TheVariants.{Empty, One, Three, Two}
+use Rattle.vte_core.specs.declared.utf8.Extended.{Extended}
+use Rattle.vte_core.specs.declared.utf8.Extended.TheVariants.{Malformed, Truncated, WellFormed}
 use Rattle.vte_core.specs.Utf8.{from_to, is_truncated, is_well_formed, Range, scalar_of}
 use Rattle.vte_core.specs.declared.head.Collected.{Collected}
 use Rattle.vte_core.specs.declared.head.HeadProgress.{HeadProgress}
@@ -11,7 +11,7 @@ use Rattle.vte_core.specs.declared.head.HeadProgress.TheVariants.{Entry, IllShap
 use Rattle.vte_core.specs.declared.parser.machine.Machine.{Machine}
 use Rattle.vte_core.specs.declared.parser.State.{State}
 use Rattle.vte_core.specs.declared.parser.State.TheVariants.{ControlSequence, DeviceControl, DeviceData, Escape, EscapeIntermediate, IgnoredString, SystemCommand, Text}
-use Rattle.vte_core.specs.Class.{AreInClass, is_head_byte, is_intermediate, is_marker, is_parameter_text}
+use Rattle.vte_core.specs.Class.{AreInClass, is_head_byte, is_intermediate, is_marker, is_parameter_byte}
 use Rattle.vte_core.specs.Intermediates.{are_too_many, first_two}
 use Rattle.vte_core.specs.Head.{head_of, is_well_shaped, reported_intermediates}
 use Rattle.vte_core.specs.Parameters.{grouped, groups_of, has_too_many_numbers, is_colon, is_separator, max_numbers, Number, number_of, numbers}
@@ -24,7 +24,7 @@ use Rattle.vte_core.specs.declared.parser.open.Open.TheVariants as kind
 -- ---- a character whose bytes come one at a time
 
 abbrev pub bytes_of : Unfinished → List ℕ
-bytes_of Nothing = []
+bytes_of Empty = []
 bytes_of (One a) = a ∷ []
 bytes_of (Two a b) = a ∷ b ∷ []
 bytes_of (Three a b c) = a ∷ b ∷ c ∷ []
@@ -35,10 +35,11 @@ may_continue [] = true
 may_continue (b ∷ bytes) = is_truncated (b ∷ bytes)
 
 -- What one more byte makes of the open bytes.
-abbrev pub Carries : List ℕ → ℕ → Carried → Type 0
-Carries u b (StillUnfinished v) = (bytes_of v ≡ u ++ b ∷ []) × (is_truncated (bytes_of v) ≡ true)
-Carries u b (Whole c) = (is_well_formed (u ++ b ∷ []) ≡ true) × (c ≡ scalar_of (u ++ b ∷ []))
-Carries u b Broken = (is_well_formed (u ++ b ∷ []) ≡ false) × (is_truncated (u ++ b ∷ []) ≡ false)
+abbrev pub Extends : List ℕ → ℕ → Extended → Type 0
+Extends u b (Truncated v) = (bytes_of v ≡ u ++ b ∷ []) × (is_truncated (bytes_of v) ≡ true)
+Extends u b (WellFormed c) = (is_well_formed (u ++ b ∷ []) ≡ true) × (c ≡ scalar_of (u ++ b ∷ []))
+Extends u b Malformed =
+    (is_well_formed (u ++ b ∷ []) ≡ false) × (is_truncated (u ++ b ∷ []) ≡ false)
 
 -- The first byte of a sequence of two bytes.
 pub record BeginsTwo (b : ℕ) : Type 0 where
@@ -128,7 +129,7 @@ pub record HoldsHead (collected : Collected) (progress : HeadProgress)
   pub intermediates : List ℕ
   pub shape : head ≡ marker ++ (parameters ++ intermediates)
   pub is_marker : IsMarker marker
-  pub are_parameters : AreInClass is_parameter_text parameters
+  pub are_parameters : AreInClass is_parameter_byte parameters
   pub are_intermediates : AreInClass is_intermediate intermediates
   pub reaches : Reaches progress marker parameters intermediates
   pub holds : HoldsIntermediates collected (marker ++ intermediates)
@@ -174,7 +175,7 @@ pub record HasReadWithLimit {B : Type 0} (limit : Option ℕ) (parser : Machine 
 -- ---- a complete head
 
 -- The head is well shaped, and what a dispatch of it reports is collected.
-pub record IsReady (collected : Collected) (ignored : Bool) (head : List ℕ) : Type 0 where
+pub record HoldsWholeHead (collected : Collected) (ignored : Bool) (head : List ℕ) : Type 0 where
   pub well_shaped : is_well_shaped (head_of head) ≡ true
   pub groups : collected.params ≡ groups_of (head_of head).parameter_text
   pub intermediates : collected.intermediates.items
@@ -208,13 +209,13 @@ pub record ReadsHead (bytes : List ℕ) (i j : ℕ) (reached progress : HeadProg
 pub record ReadsHeadUpTo (bytes : List ℕ) (i : ℕ) (reached : HeadProgress) (end : HeadEnd)
     (old new : Collected) : Type 0 where
   pub head : ReadsHead bytes i end.position reached end.progress old new
-  pub next : MatchOption end.next (end.position ≡ length bytes)
+  pub next_byte : MatchOption end.next_byte (end.position ≡ length bytes)
       (λ byte. (end.position < length bytes) × (byte ≡ slice_index bytes end.position))
 
 -- ---- what is open in a state
 
 abbrev pub open_in : State → Open
-open_in (Text Nothing) = kind.Nothing
+open_in (Text Empty) = kind.Nothing
 open_in (Text begun) = kind.Character
 open_in Escape = kind.EscapeSequence
 open_in EscapeIntermediate = kind.EscapeSequence

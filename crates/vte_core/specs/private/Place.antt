@@ -13,7 +13,7 @@ use Rattle.vte_core.specs.IgnoredString.{ignored_string_outcome}
 use Rattle.vte_core.specs.Outcome.{CharacterToClose, closing_events, CommandToClose, ControlSequenceToClose, DeviceDataToClose, DeviceHeadToClose, EscapeToClose, IgnoredStringToClose, NothingToClose, Outcome, report, ToClose}
 use Rattle.vte_core.specs.CutBefore.{cut_before}
 use Rattle.vte_core.specs.Stream.{cut_at_escape, events, outcome, with_bodies}
-use Rattle.vte_core.specs.SystemCommand.{ends_command, items_of, loses_data, pieces_of, system_command_rest}
+use Rattle.vte_core.specs.SystemCommand.{ends_system_command, items_of, loses_data, pieces_of, system_command_rest}
 use Rattle.vte_core.specs.Text.{executed_events, text_outcome}
 
 pub data Place : Type 0 where
@@ -43,27 +43,27 @@ IsSettledPlace _ = ⊤
 unfoldable pub escape_from : List ℕ → List ℕ → Outcome
 escape_from intermediates bytes =
     let cut = cut_before (λ b. ends_escape (class_of b)) bytes in
-    let all = intermediates ++ filter (λ b. is_intermediate (class_of b)) cut.inside in
-    report (executed_events cut.inside) (escape_rest all cut.rest)
+    let all = intermediates ++ filter (λ b. is_intermediate (class_of b)) cut.before in
+    report (executed_events cut.before) (escape_rest all cut.rest)
 
 -- The outcome of bytes after the head of a control sequence.
 unfoldable pub control_sequence_from : List ℕ → List ℕ → Outcome
 control_sequence_from head bytes =
     let cut = cut_before (λ b. ends_head (class_of b)) bytes in
-    report (executed_events cut.inside)
-    (control_sequence_rest (head ++ head_bytes cut.inside) cut.rest)
+    report (executed_events cut.before)
+    (control_sequence_rest (head ++ head_bytes cut.before) cut.rest)
 
 -- The outcome of bytes after the head of a device control string.
 unfoldable pub device_control_from : List ℕ → List ℕ → Outcome
 device_control_from head bytes =
     let cut = cut_before (λ b. ends_head (class_of b)) bytes in
-    device_control_rest (head ++ head_bytes cut.inside) cut.rest
+    device_control_rest (head ++ head_bytes cut.before) cut.rest
 
 -- The outcome of bytes after the items of an operating system command.
 unfoldable pub system_command_from : Option ℕ → List ℕ → List ℕ → Outcome
 system_command_from limit items bytes =
-    let cut = cut_before ends_command bytes in
-    let all = items ++ items_of cut.inside in
+    let cut = cut_before ends_system_command bytes in
+    let all = items ++ items_of cut.before in
     system_command_rest (pieces_of limit all) (loses_data limit all) cut.rest
 
 -- The outcome of the rest of the text or body.
@@ -115,5 +115,5 @@ pub record Leads (limit : Option ℕ) (place : Place) (byte : ℕ) (reported : L
 -- The bytes, which may include ESC, give these events and lead to the next place.
 pub record BytesLead (limit : Option ℕ) (place : Place) (bytes : List ℕ) (reported : List Event)
     (next : Place) : Type 0 where
-  pub reads : (more : List ℕ)
+  pub leads : (more : List ℕ)
       → outcome_from limit place (bytes ++ more) ≡ report reported (outcome_from limit next more)

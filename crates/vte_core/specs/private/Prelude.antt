@@ -1,10 +1,10 @@
 -- The words that contracts of the parser's functions share.
-pub use Rattle.vte_core.specs.Class.{class_of, dispatches_escape, ends_body, is_device_data, is_final, is_head_byte, is_intermediate, is_parameter_text, is_plain_control, IsDeviceData}
+pub use Rattle.vte_core.specs.Class.{class_of, dispatches_escape, ends_sequence, is_device_data, is_final, is_head_byte, is_intermediate, is_parameter_byte, is_plain_control, IsDeviceData}
 pub use Rattle.vte_core.specs.EarlyStop.{NoCharacterStops}
 pub use Rattle.vte_core.specs.Event.{after, CsiDispatch, EscDispatch, Event, Execute, Hook, OscDispatch, Print, Put, Unhook}
 pub use Rattle.vte_core.specs.SequenceKind.{begins_ignored_string}
 pub use Rattle.vte_core.specs.LongParser.{read_count}
-pub use Rattle.vte_core.specs.Looks.{counted, looked}
+pub use Rattle.vte_core.specs.Looks.{looks_of, per_byte, total_looks}
 pub use Rattle.vte_core.specs.OutsideRuns.{ReportsOutsideRuns}
 pub use Rattle.vte_core.specs.Parameters.{is_separator}
 pub use Rattle.vte_core.specs.Outcome.{SaysLoss}
@@ -15,11 +15,11 @@ pub use Rattle.vte_core.specs.SystemCommand.{has_room, IsCommandData, max_pieces
 pub use Rattle.vte_core.specs.Text.{character_event, HasNoRunAt, is_control_character, is_layout, malformed_event, run_event}
 pub use Rattle.vte_core.specs.Utf8.{from_to, is_in, is_truncated, scalar_of}
 pub use Rattle.vte_core.specs.declared.parser.State.TheVariants.{DeviceData, Escape, EscapeIntermediate, IgnoredString, SystemCommand, Text}
-pub use Rattle.vte_core.specs.declared.utf8.Unfinished.TheVariants.{Nothing, One}
-pub use Rattle.vte_core.specs.private.Scans.{AreIgnored, ArePrintedAscii, ArePut, Each, FindsEnd, IsNonEmptyRun, IsPrintedAscii, IsRange, IsRun, IsWindow, LooksAtMost, PrintsRun, Scans}
+pub use Rattle.vte_core.specs.declared.utf8.Unfinished.TheVariants.{Empty, One}
+pub use Rattle.vte_core.specs.private.Scans.{AreIgnored, ArePositions, ArePrintedAscii, ArePut, Each, FindsEnd, IsNonEmptyRun, IsPrintedAscii, IsRun, IsWindow, LooksAtMost, PrintsRun, Scans}
 pub use Rattle.vte_core.specs.private.Progress.{Advances, chunk_call, Completes, IsAtPosition, IsSettled, MayRead, MayReadAt, MayReadByte, ReadsUntilRefused, ReadsUpTo}
-pub use Rattle.vte_core.specs.private.Costs.{Costs, HandlesByte, MovesWithin, Refuses, SpendsWithin}
-pub use Rattle.vte_core.specs.private.ParserFields.{BeginsFour, BeginsThree, BeginsTwo, bytes_of, Carries, CountsNumbers, HasReadHead, HasReadWithLimit, HoldsHead, HoldsIntermediates, HoldsNumbers, IsAtPlace, IsReady, ReadsHeadUpTo, SameIntermediates, SameNumbers, second_range, with_open_number}
+pub use Rattle.vte_core.specs.private.Costs.{ahead, Costs, HandlesByte, IsRefusedAt, MovesWithin, seen, SpendsWithin}
+pub use Rattle.vte_core.specs.private.ParserFields.{BeginsFour, BeginsThree, BeginsTwo, bytes_of, CountsNumbers, Extends, HasReadHead, HasReadWithLimit, HoldsHead, HoldsIntermediates, HoldsNumbers, HoldsWholeHead, IsAtPlace, ReadsHeadUpTo, SameIntermediates, SameNumbers, second_range, with_open_number}
 pub use Rattle.vte_core.specs.private.Place.{AtEscape, closing_events_at, InControlSequence, InDeviceControl, IsSettledPlace, Place}
 pub use Rattle.vte_core.specs.CommandMemory.{Stored}
 pub use Rattle.vte_core.specs.private.Store.{ArePieceEnds, cut_pieces, fitting, HasCapacity, HoldsItems, ReservesCapacity, SameItems}

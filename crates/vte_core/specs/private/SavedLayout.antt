@@ -5,12 +5,12 @@ use Rattle.vte_core.specs.declared.parser.machine.Machine.{Machine}
 use Rattle.vte_core.specs.declared.parser.State.{State}
 use Rattle.vte_core.specs.declared.parser.State.TheVariants.{ControlSequence, DeviceControl, DeviceData, Escape, EscapeIntermediate, IgnoredString, SystemCommand, Text}
 use Rattle.vte_core.specs.declared.parser.saved.Saved.{Saved}
-use Rattle.vte_core.specs.declared.utf8.Unfinished.TheVariants.{Nothing, One, Three, Two}
-use Rattle.vte_core.specs.private.Store.{AreParts, ArePieceEnds}
+use Rattle.vte_core.specs.declared.utf8.Unfinished.TheVariants.{Empty, One, Three, Two}
+use Rattle.vte_core.specs.private.Store.{ArePieceEnds, AreRawParts}
 
 -- The number of a state, and the bytes of an unfinished character.
 abbrev pub state_bytes : State → List ℕ
-state_bytes (Text Nothing) = 0 ∷ 0 ∷ 0 ∷ 0 ∷ []
+state_bytes (Text Empty) = 0 ∷ 0 ∷ 0 ∷ 0 ∷ []
 state_bytes (Text (One a)) = 1 ∷ a ∷ 0 ∷ 0 ∷ []
 state_bytes (Text (Two a b)) = 2 ∷ a ∷ b ∷ 0 ∷ []
 state_bytes (Text (Three a b c)) = 3 ∷ a ∷ b ∷ c ∷ []
@@ -53,7 +53,7 @@ pub record IsRestored {B : Type 0} (saved : Saved) (machine : Machine B) : Type 
   pub too_many_intermediates : HasIntermediates machine.state
       → machine.collected.too_many_intermediates ≡ flag_of saved.too_many_intermediates
   pub params : IsInHead machine.state → (groups : List (List ℕ))
-      → AreParts (take saved.group_count saved.lengths)
+      → AreRawParts (take saved.group_count saved.lengths)
       (take saved.number_count saved.numbers) groups
       → machine.collected.params ≡ groups
   pub number : IsInHead machine.state → machine.collected.number ≡ saved.number

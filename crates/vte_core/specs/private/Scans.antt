@@ -1,13 +1,13 @@
 -- Parts of a call's bytes: data, runs of text, how far a search in them goes, and how few looks
 -- are taken.
 use Rattle.std.specs.Prelude.{Bool, drop, false, length, List, map, min, slice_index, take, ℕ, ◌+◌, ◌-◌, ◌<◌, ◌≡◌, ◌≤◌}
-use Rattle.vte_core.specs.Class.{class_of, ends_body, IsDeviceData}
+use Rattle.vte_core.specs.Class.{class_of, ends_sequence, IsDeviceData}
 use Rattle.std.specs.Str.{chars, IsUtf8}
 use Rattle.vte_core.specs.Event.{after, Event}
 use Rattle.vte_core.specs.Text.{IsRunText, run_event}
 use Rattle.vte_core.specs.declared.reader.Reader.{Reader}
 use Rattle.vte_core.specs.declared.reader.Window.{Window}
-use Rattle.vte_core.specs.Looks.{looked}
+use Rattle.vte_core.specs.Looks.{looks_of}
 
 -- `holds` is true of each byte from `from` up to `to`.
 abbrev pub Each : (ℕ → Type 0) → List ℕ → ℕ → ℕ → Type 0
@@ -21,7 +21,7 @@ ArePut = Each IsDeviceData
 
 -- Any byte other than CAN, SUB and ESC.
 abbrev pub IsIgnored : ℕ → Type 0
-IsIgnored b = ends_body (class_of b) ≡ false
+IsIgnored b = ends_sequence (class_of b) ≡ false
 
 -- From `from` up to `to` each byte is ignored.
 abbrev pub AreIgnored : List ℕ → ℕ → ℕ → Type 0
@@ -61,7 +61,7 @@ pub record PrintsRun {V : Type 0} (layout : Bool) (step : V → Event → V) (ol
 -- ---- searches
 
 -- The positions are in order, and within the bytes.
-pub record IsRange (bytes : List ℕ) (from to : ℕ) : Type 0 where
+pub record ArePositions (bytes : List ℕ) (from to : ℕ) : Type 0 where
   pub in_order : from ≤ to
   pub within : to ≤ length bytes
 
@@ -72,7 +72,7 @@ pub record Scans (Holds : List ℕ → ℕ → ℕ → Type 0) (bytes : List ℕ
   pub low : from ≤ to
   pub high : to ≤ length bytes
   pub passed : Holds bytes from to
-  pub at_least : looked earlier + to ≤ looked later + from
+  pub looks_at_least : looks_of earlier + to ≤ looks_of later + from
 
 -- A search from one position ends at another: at the first byte of which `Holds` isn't true, or at
 -- the end of the bytes. It looks once at each byte up to there, and at the byte there.
@@ -82,12 +82,12 @@ pub record FindsEnd (Holds : ℕ → Type 0) (bytes : List ℕ) (from to : ℕ)
   pub high : to ≤ length bytes
   pub passed : Each Holds bytes from to
   pub ended : to < length bytes → Holds (slice_index bytes to) → ⊥
-  pub count : looked later + from ≡ looked earlier + min (to + 1) (length bytes)
+  pub looks : looks_of later + from ≡ looks_of earlier + min (to + 1) (length bytes)
 
 -- The count of looks grew by at most `most`.
 pub record LooksAtMost (most : ℕ) (earlier later : Reader) : Type 0 where
-  pub at_most : looked later ≤ looked earlier + most
-  pub grows : looked earlier ≤ looked later
+  pub looks_at_most : looks_of later ≤ looks_of earlier + most
+  pub looks_at_least : looks_of earlier ≤ looks_of later
 
 -- The window has the bytes from a position on.
 pub record IsWindow (bytes : List ℕ) (from : ℕ) (window : Window) : Type 0 where

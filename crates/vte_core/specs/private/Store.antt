@@ -3,7 +3,7 @@ use Rattle.std.specs.Prelude.{All, Bool, drop, false, if◌then◌else◌, lengt
 use Rattle.std.specs.List.{filter, slice_range}
 use Rattle.std.specs.List.Sorted.{IsNonDecreasing}
 use Rattle.vte_core.specs.CommandMemory.{Stored}
-use Rattle.vte_core.specs.Parameters.{greatest_number, max_numbers, semicolon}
+use Rattle.vte_core.specs.Parameters.{max_numbers, max_value, semicolon}
 use Rattle.vte_core.specs.SystemCommand.{is_data_item, kept_after, max_pieces, pieces_of}
 
 -- For each `;` of a text, how many data bytes come before it, starting from `count`.
@@ -30,7 +30,7 @@ pub record ReservesCapacity (limit : Option ℕ) (count more had has : ℕ)
   pub suffices : answer ≡ true → HasCapacity limit has count more
   pub unlimited : answer ≡ false → limit ≡ None
   pub some : answer ≡ false → 0 < more
-  pub lacks : answer ≡ false → has < count + more
+  pub lacks_memory : answer ≡ false → has < count + more
 
 -- The data, cut at the ends; the first piece begins at `start`.
 abbrev pub cut_data : ℕ → List ℕ → List ℕ → List (List ℕ)
@@ -90,7 +90,7 @@ pub record AreLengths (lengths numbers : List ℕ) : Type 0 where
   pub filled : All (λ n. 0 < n) lengths
 
 -- Before a number joins a group, the length of that group, which is the last, is removed.
-pub record IsTakenOff (joined : Bool) (lengths rest : List ℕ) (last : Option ℕ) : Type 0 where
+pub record IsLastPopped (joined : Bool) (lengths rest : List ℕ) (last : Option ℕ) : Type 0 where
   pub parts : lengths ≡ rest ++ option_to_list last
   pub found : joined ≡ true → last ≡ None → length lengths ≡ 0
   pub alone : joined ≡ false → last ≡ None
@@ -98,10 +98,10 @@ pub record IsTakenOff (joined : Bool) (lengths rest : List ℕ) (last : Option �
 -- The lengths and numbers of a `Params`: each number is up to 65,535.
 pub record AreFlatGroups (lengths numbers : List ℕ) : Type 0 where
   pub lengths_fit : AreLengths lengths numbers
-  pub small : All (λ number. number ≤ greatest_number) numbers
+  pub small : All (λ number. number ≤ max_value) numbers
 
 -- The groups are stored as these lengths and numbers, at most 32 of each.
-pub record AreParts (lengths numbers : List ℕ) (groups : List (List ℕ)) : Type 0 where
+pub record AreRawParts (lengths numbers : List ℕ) (groups : List (List ℕ)) : Type 0 where
   pub stored : AreFlatGroups lengths numbers
   pub cut : groups ≡ cut_by_lengths lengths numbers
   pub few_groups : length lengths ≤ max_numbers

@@ -3,10 +3,10 @@
 use Rattle.std.specs.Prelude.{List, Option, ℕ, ◌+◌, ◌≡◌, ◌≤◌}
 use Rattle.vte_core.specs.declared.reader.Reader.{Reader}
 use Rattle.vte_core.specs.Event.{after, Event}
-use Rattle.vte_core.specs.Looks.{looked}
+use Rattle.vte_core.specs.Looks.{looks_of}
 use Rattle.vte_core.specs.declared.parser.machine.Machine.{Machine}
 use Rattle.vte_core.specs.declared.parser.State.TheVariants.{Text}
-use Rattle.vte_core.specs.declared.utf8.Unfinished.TheVariants.{Nothing}
+use Rattle.vte_core.specs.declared.utf8.Unfinished.TheVariants.{Empty}
 use Rattle.vte_core.specs.private.Place.{BytesLead, Leads, Place}
 use Rattle.vte_core.specs.private.ParserFields.{IsAtPlace}
 
@@ -14,13 +14,13 @@ use Rattle.vte_core.specs.private.ParserFields.{IsAtPlace}
 pub record Reports {V : Type 0} (step : V → Event → V) (old new : V) (event : Event)
     (earlier later : Reader) : Type 0 where
   pub value : new ≡ step old event
-  pub count : looked later ≡ looked earlier + 1
+  pub looks : looks_of later ≡ looks_of earlier + 1
 
--- The performer received the events, which count `looks` looks.
+-- The performer received the events, for which `count` looks are counted.
 pub record ReportsAll {V : Type 0} (step : V → Event → V) (old new : V) (events : List Event)
-    (looks : ℕ) (earlier later : Reader) : Type 0 where
+    (count : ℕ) (earlier later : Reader) : Type 0 where
   pub value : new ≡ after step old events
-  pub count : looked later ≡ looked earlier + looks
+  pub looks : looks_of later ≡ looks_of earlier + count
 
 -- The performer received the events of the byte, and the parser is at the place to which it
 -- leads.
@@ -37,7 +37,7 @@ pub record TakesByte {V B : Type 0} (step : V → Event → V) (old new : V) (li
 pub record Dispatches {V B : Type 0} (step : V → Event → V) (old new : V) (event : Event)
     (parser next : Machine B) (earlier later : Reader) : Type 0 where
   pub reports : Reports step old new event earlier later
-  pub text : next.state ≡ Text Nothing
+  pub text : next.state ≡ Text Empty
   pub memory : parser.command.capacity ≤ next.command.capacity
 
 -- The performer received the events of the bytes, which may include ESC.
@@ -47,4 +47,4 @@ pub record TakesBytes {V B : Type 0} (step : V → Event → V) (old new : V) (l
   pub next : Place
   pub performed : new ≡ after step old reported
   pub is_at : IsAtPlace limit parser next
-  pub reads : BytesLead limit place bytes reported next
+  pub leads : BytesLead limit place bytes reported next

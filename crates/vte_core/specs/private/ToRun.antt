@@ -2,7 +2,7 @@
 use Rattle.std.specs.Prelude.{drop, Err, false, length, List, map, Ok, Option, Result, slice_index, take, true, ℕ, [], ⊤, ◌++◌, ◌-◌, ◌<◌, ◌≡◌}
 use Rattle.std.specs.Str.{chars}
 use Rattle.vte_core.specs.declared.reader.run.RunKind.{RunKind}
-use Rattle.vte_core.specs.declared.reader.run.RunKind.TheVariants.{Data as DataKind, Nothing as NoKind, Text as TextKind}
+use Rattle.vte_core.specs.declared.reader.run.RunKind.TheVariants.{Data as DataKind, NoRun, Text as TextKind}
 use Rattle.vte_core.specs.declared.reader.run.RunRange.{RunRange}
 use Rattle.vte_core.specs.declared.reader.run.Taken.{Taken}
 use Rattle.vte_core.specs.declared.reader.run.Taken.TheVariants.{Data, Nothing, Text as TakenText}
@@ -14,7 +14,7 @@ use Rattle.vte_core.specs.Class.{class_of, is_device_data, IsDeviceData}
 use Rattle.vte_core.specs.Event.{Event, Print, Put}
 use Rattle.vte_core.specs.private.ParserFields.{HasReadWithLimit}
 use Rattle.vte_core.specs.private.Progress.{ChunkCall, IsAtPosition}
-use Rattle.vte_core.specs.private.Scans.{IsRange, IsUtf8Run}
+use Rattle.vte_core.specs.private.Scans.{ArePositions, IsUtf8Run}
 use Rattle.vte_core.specs.Stream.{added}
 use Rattle.vte_core.specs.Text.{HasNoRunAt}
 
@@ -42,15 +42,15 @@ AreOfKind _ bytes = ⊤
 -- What was taken is a run of this kind, with these bytes.
 abbrev pub IsTaken : RunKind → List ℕ → Taken → Type 0
 IsTaken TextKind bytes (TakenText text) = text.now ≡ bytes
-IsTaken DataKind bytes (Data those) = those.now ≡ bytes
-IsTaken NoKind bytes Nothing = ⊤
+IsTaken DataKind bytes (Data slice) = slice.now ≡ bytes
+IsTaken NoRun bytes Nothing = ⊤
 IsTaken _ bytes _ = ⊥
 
 -- What the bytes of a run add to a stream.
 abbrev pub kind_events : RunKind → List ℕ → List Event
 kind_events TextKind bytes = map Print (chars bytes)
 kind_events DataKind bytes = map Put bytes
-kind_events NoKind bytes = []
+kind_events NoRun bytes = []
 
 -- Nothing of the kind is where the run ends. A run isn't empty.
 abbrev pub IsWholeAt : List ℕ → RunRange → RunKind → Type 0
@@ -58,12 +58,12 @@ IsWholeAt bytes range TextKind = (range.start < range.end) × HasNoRunAt false b
 IsWholeAt bytes range DataKind =
     (range.start < range.end) × (range.end < length bytes
     → IsDeviceData (slice_index bytes range.end) → ⊥)
-IsWholeAt bytes range NoKind = range.start ≡ range.end
+IsWholeAt bytes range NoRun = range.start ≡ range.end
 
 -- A run is there, adds its events to what the parser has read, and leaves the parser as it is.
 pub record HasRun {B : Type 0} (limit : Option ℕ) (bytes : List ℕ) (range : RunRange)
     (parser : Machine B) : Type 0 where
-  pub is_range : IsRange bytes range.start range.end
+  pub is_range : ArePositions bytes range.start range.end
   pub kind : AreOfKind range.kind (bytes_at bytes range)
   pub whole : IsWholeAt bytes range range.kind
   pub adds : (stream : List ℕ) → HasReadWithLimit limit parser stream

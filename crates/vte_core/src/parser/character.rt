@@ -1,19 +1,19 @@
 //! The bytes of a character after the first.
 ghost use Rattle.std.specs.Prelude.{false, length, slice_index, true, [], ◌*◌, ◌+◌, ◌<◌, ◌≡◌, ◌≢◌, ◌≤◌};
-ghost use Rattle.vte_core.specs.private.Prelude.{Advances, BeginsFour, BeginsThree, bytes_of, chunk_call, Completes, HasNoRunAt, looked, MayReadByte, MovesWithin, NoCharacterStops, Nothing, One, SpendsWithin, Text};
+ghost use Rattle.vte_core.specs.private.Prelude.{Advances, ahead, BeginsFour, BeginsThree, bytes_of, chunk_call, Completes, Empty, HasNoRunAt, looks_of, MayReadByte, MovesWithin, NoCharacterStops, One, per_byte, seen, SpendsWithin, Text};
 
 use crate::buffer::Buffer;
 use crate::parser::{Machine, State};
 use crate::reader::{CountedPerform, Granularity, Input, Reader};
 use crate::utf8::{
-    Carried, Unfinished, character_of_four, character_of_three, character_of_two, is_continuation,
+    Extended, Unfinished, character_of_four, character_of_three, character_of_two, is_continuation,
     may_begin_four, may_begin_three,
 };
 
 impl<B: Buffer> Machine<B> {
-    /// Reads the character or the malformed sequence that begins with a lead byte, which was looked
-    /// at. A byte that breaks it is left unread, and U+FFFD is printed for those before it. If text
-    /// is taken in runs, a character of four bytes begins one.
+    /// Reads the character or malformed sequence that begins with a lead byte. A byte that breaks
+    /// it is left unread, and U+FFFD is printed for those before it. If text is taken in runs, a
+    /// character of four bytes begins a run.
     #[inline(always)]
     pub(crate) fn read_character<P: CountedPerform<G>, G: Granularity, const MAY_STOP: bool>(
         &mut self,
@@ -25,7 +25,7 @@ impl<B: Buffer> Machine<B> {
     ) -> usize
         requires may_read { MayReadByte
             (chunk_call MAY_STOP P.step P.is_terminated B.limit input.bytes.now)
-            (P.value_of performer.old) (Text Nothing) self.old from first }
+            (P.value_of performer.old) (Text Empty) self.old from first }
         requires lead { 0xc2 ≤ first }
         requires fits { first < 0xf5 }
         requires no_stop { G.IN_RUNS ≡ true → MAY_STOP ≡ true
@@ -34,15 +34,16 @@ impl<B: Buffer> Machine<B> {
             ((G.IN_RUNS ≡ false) × HasNoRunAt false input.entry.bytes.now from)
             (chunk_call MAY_STOP P.step P.is_terminated B.limit input.entry.bytes.now)
             (P.value_of performer.old) (P.value_of performer.new) from result self.old self.new }
-        ensures text { result < length input.entry.bytes.now → self.new.state ≡ Text Nothing }
-        ensures moves { MovesWithin 5 1 input.entry.bytes.now from result self.old self.new
-            reader.old reader.new }
+        ensures text { result < length input.entry.bytes.now → self.new.state ≡ Text Empty }
+        ensures moves { MovesWithin (per_byte 5) (seen 1)
+            input.entry.bytes.now from result self.old self.new reader.old reader.new }
         // Three are left of 5 per byte: one for the lead byte, and two for a search that found no
         // run.
-        ensures spare { looked reader.new + 5 * from + 3 ≤ looked reader.old + 5 * result }
+        ensures looks_at_most { looks_of reader.new + 5 * from + 3
+            ≤ looks_of reader.old + 5 * result }
         // Without runs 3 per byte are enough, with that for the lead byte.
-        ensures at_most { G.IN_RUNS ≡ false
-            → looked reader.new + 3 * from + 1 ≤ looked reader.old + 3 * result }
+        ensures looks_at_most_by_character { G.IN_RUNS ≡ false
+            → looks_of reader.new + 3 * from + 1 ≤ looks_of reader.old + 3 * result }
     {
         let next = from + 1;
         if next >= input.len() {
@@ -65,8 +66,7 @@ impl<B: Buffer> Machine<B> {
         }
     }
 
-    /// Reads the second and third byte of a character of three. The second, at `next`, was looked
-    /// at.
+    /// Reads the second byte, at `second_position`, and the third of a character of three bytes.
     #[inline(always)]
     pub(crate) fn complete_three<P: CountedPerform<G>, G: Granularity, const MAY_STOP: bool>(
         &mut self,
@@ -75,37 +75,38 @@ impl<B: Buffer> Machine<B> {
         first: u8,
         second: u8,
         input: Input<'_>,
-        next: usize,
+        second_position: usize,
     ) -> usize
         requires may_read { MayReadByte
             (chunk_call MAY_STOP P.step P.is_terminated B.limit input.bytes.now)
-            (P.value_of performer.old) (Text Nothing) self.old next second }
+            (P.value_of performer.old) (Text Empty) self.old second_position second }
         requires lead { BeginsThree first }
         ensures completes { Completes
             (chunk_call MAY_STOP P.step P.is_terminated B.limit input.entry.bytes.now)
-            (P.value_of performer.old) (P.value_of performer.new) next result (One first) self.new }
-        ensures spends { SpendsWithin 2 1 2 input.entry.bytes.now next result self.old self.new
-            reader.old reader.new }
+            (P.value_of performer.old) (P.value_of performer.new) second_position result
+            (One first) self.new }
+        ensures spends { SpendsWithin (per_byte 2) (seen 1) (ahead 2)
+            input.entry.bytes.now second_position result self.old self.new reader.old reader.new }
     {
         if !may_begin_three(first, second) {
             performer.print_char(reader, char::REPLACEMENT_CHARACTER);
-            return next;
+            return second_position;
         }
-        if next + 1 >= input.len() {
+        if second_position + 1 >= input.len() {
             self.state = State::Text(Unfinished::Two(first, second));
-            return next + 1;
+            return second_position + 1;
         }
-        let third = reader.byte_at(input, next + 1);
+        let third = reader.byte_at(input, second_position + 1);
         if !is_continuation(third) {
             performer.print_char(reader, char::REPLACEMENT_CHARACTER);
-            return next + 1;
+            return second_position + 1;
         }
         reader.report_character(performer, character_of_three(first, second, third));
-        next + 2
+        second_position + 2
     }
 
-    /// Reads the character of four bytes that begins at a position, whose first two were looked at.
-    /// If text is taken in runs, it begins one.
+    /// Reads the character of four bytes that begins at `from`. If text is taken in runs, it begins
+    /// a run.
     #[inline(always)]
     // cargo: #[allow(unsafe_code)]
     pub(crate) fn complete_four<P: CountedPerform<G>, G: Granularity, const MAY_STOP: bool>(
@@ -119,7 +120,7 @@ impl<B: Buffer> Machine<B> {
     ) -> usize
         requires may_read { MayReadByte
             (chunk_call MAY_STOP P.step P.is_terminated B.limit input.bytes.now)
-            (P.value_of performer.old) (Text Nothing) self.old from first }
+            (P.value_of performer.old) (Text Empty) self.old from first }
         requires lead { BeginsFour first }
         requires within { from + 1 < length input.bytes.now }
         requires looked_at { second ≡ slice_index input.bytes.now (from + 1) }
@@ -129,13 +130,14 @@ impl<B: Buffer> Machine<B> {
             ((G.IN_RUNS ≡ false) × HasNoRunAt false input.entry.bytes.now from)
             (chunk_call MAY_STOP P.step P.is_terminated B.limit input.entry.bytes.now)
             (P.value_of performer.old) (P.value_of performer.new) from result self.old self.new }
-        ensures text { result < length input.entry.bytes.now → self.new.state ≡ Text Nothing }
-        ensures moves { MovesWithin 5 2 input.entry.bytes.now from result self.old self.new
-            reader.old reader.new }
+        ensures text { result < length input.entry.bytes.now → self.new.state ≡ Text Empty }
+        ensures moves { MovesWithin (per_byte 5) (seen 2)
+            input.entry.bytes.now from result self.old self.new reader.old reader.new }
         // As in `read_character`, with one more for the second byte.
-        ensures spare { looked reader.new + 5 * from + 4 ≤ looked reader.old + 5 * result }
-        ensures at_most { G.IN_RUNS ≡ false
-            → looked reader.new + 3 * from + 2 ≤ looked reader.old + 3 * result }
+        ensures looks_at_most { looks_of reader.new + 5 * from + 4
+            ≤ looks_of reader.old + 5 * result }
+        ensures looks_at_most_by_character { G.IN_RUNS ≡ false
+            → looks_of reader.new + 3 * from + 2 ≤ looks_of reader.old + 3 * result }
     {
         let next = from + 1;
         if !may_begin_four(first, second) {
@@ -172,9 +174,8 @@ impl<B: Buffer> Machine<B> {
         next + 3
     }
 
-    /// Continues a character whose bytes the call may not have whole.
-    // apart from `continue_character`, which as a part of `drive` would take registers from the
-    // loops of text
+    /// Continues a character that may not end in this call.
+    // inlined in cargo's builds, it would take registers from the loops of text
     // cargo instead: #[inline(never)]
     #[inline(always)]
     fn continue_near_end<P: CountedPerform<G>, G: Granularity, const MAY_STOP: bool>(
@@ -186,18 +187,18 @@ impl<B: Buffer> Machine<B> {
         from: usize,
     ) -> usize
         requires in_order { from ≤ length input.bytes.now }
-        requires inside { bytes_of begun ≢ [] }
+        requires some_open { bytes_of begun ≢ [] }
         ensures completes { Completes
             (chunk_call MAY_STOP P.step P.is_terminated B.limit input.entry.bytes.now)
             (P.value_of performer.old) (P.value_of performer.new) from result begun self.new }
-        ensures spends { SpendsWithin 2 0 2 input.entry.bytes.now from result self.old self.new
-            reader.old reader.new }
+        ensures spends { SpendsWithin (per_byte 2) (seen 0) (ahead 2)
+            input.entry.bytes.now from result self.old self.new reader.old reader.new }
     {
         self.continue_character::<P, G, MAY_STOP>(reader, performer, begun, input, from)
     }
 
-    /// Reads the bytes that an unfinished character continues with. A byte that breaks it is left
-    /// unread, and U+FFFD is printed for those before it.
+    /// Reads the bytes that continue an unfinished character. A byte that breaks it is left unread,
+    /// and U+FFFD is printed for those before it.
     #[inline(always)]
     pub(crate) fn continue_character<P: CountedPerform<G>, G: Granularity, const MAY_STOP: bool>(
         &mut self,
@@ -208,25 +209,25 @@ impl<B: Buffer> Machine<B> {
         from: usize,
     ) -> usize
         requires in_order { from ≤ length input.bytes.now }
-        requires inside { bytes_of begun ≢ [] }
+        requires some_open { bytes_of begun ≢ [] }
         ensures completes { Completes
             (chunk_call MAY_STOP P.step P.is_terminated B.limit input.entry.bytes.now)
             (P.value_of performer.old) (P.value_of performer.new) from result begun self.new }
-        ensures spends { SpendsWithin 2 0 2 input.entry.bytes.now from result self.old self.new
-            reader.old reader.new }
+        ensures spends { SpendsWithin (per_byte 2) (seen 0) (ahead 2)
+            input.entry.bytes.now from result self.old self.new reader.old reader.new }
     {
         let mut unfinished = begun;
         for position in from..input.len() {
-            match unfinished.with_continuation(reader.byte_at(input, position)) {
-                Carried::Unfinished(more) => unfinished = more,
-                Carried::Whole(c) => {
+            match unfinished.extended_by(reader.byte_at(input, position)) {
+                Extended::Truncated(more) => unfinished = more,
+                Extended::WellFormed(c) => {
                     reader.report_character(performer, c);
-                    self.state = State::Text(Unfinished::Nothing);
+                    self.state = State::Text(Unfinished::Empty);
                     return position + 1;
                 }
-                Carried::Broken => {
+                Extended::Malformed => {
                     performer.print_char(reader, char::REPLACEMENT_CHARACTER);
-                    self.state = State::Text(Unfinished::Nothing);
+                    self.state = State::Text(Unfinished::Empty);
                     return position;
                 }
             }

@@ -1,16 +1,20 @@
 //! Control sequences.
+//!
+//! Their heads are read in two short ways and a general one: `read_short_head` takes a head of at
+//! most one number, and calls nothing before the dispatch; `read_control_sequence` takes numbers
+//! with `;` between them, and `read_rest_of_head` whatever else a head has.
 ghost use Rattle.std.specs.Prelude.{false, List, true, ℕ, ⊤, ◌+◌, ◌<◌, ◌^◌, ◌≡◌};
-ghost use Rattle.vte_core.specs.private.Prelude.{Advances, chunk_call, class_of, CsiDispatch, Dispatches, HandlesByte, HasReadHead, InControlSequence, is_final, MayRead, MovesWithin, TakesByte};
+ghost use Rattle.vte_core.specs.private.Prelude.{Advances, chunk_call, class_of, CsiDispatch, Dispatches, HandlesByte, HasReadHead, InControlSequence, is_final, MayRead, MovesWithin, per_byte, seen, TakesByte};
 
 use crate::buffer::Buffer;
-use crate::class::{ends_body, is_final, is_plain_control};
+use crate::class::{ends_sequence, is_final, is_plain_control};
 use crate::head::{HeadEnd, HeadProgress};
 use crate::parser::{Machine, State, Unfinished};
 use crate::reader::{CountedPerform, Granularity, Input, Reader};
 
 impl<B: Buffer> Machine<B> {
     /// Reads the first number of a control sequence, if any, and a final byte right after it. Most
-    /// sequences have no more: for them this calls nothing before the dispatch.
+    /// sequences have no more, and for them this calls nothing before the dispatch.
     #[inline(always)]
     pub(crate) fn read_short_head<P: CountedPerform<G>, G: Granularity, const MAY_STOP: bool>(
         &mut self,
@@ -22,17 +26,17 @@ impl<B: Buffer> Machine<B> {
         requires may_read { MayRead
             (chunk_call MAY_STOP P.step P.is_terminated B.limit input.bytes.now)
             (P.value_of performer.old) (State.ControlSequence HeadProgress.Entry) self.old from }
-        requires alone { self.old.collected.joined ≡ false }
+        requires not_joined { self.old.collected.joined ≡ false }
         ensures advances { Advances ⊤
             (chunk_call MAY_STOP P.step P.is_terminated B.limit input.entry.bytes.now)
             (P.value_of performer.old) (P.value_of performer.new) from result self.old self.new }
-        ensures moves { MovesWithin 5 0 input.entry.bytes.now from result self.old self.new
-            reader.old reader.new }
+        ensures moves { MovesWithin (per_byte 5) (seen 0)
+            input.entry.bytes.now from result self.old self.new reader.old reader.new }
     {
         let head = self
             .collected
             .read_numbers(reader, HeadProgress::Entry, false, input, from);
-        if let Some(byte) = head.next {
+        if let Some(byte) = head.next_byte {
             if is_final(byte) {
                 return self.end_control_sequence(reader, performer, head, false, byte);
             }
@@ -58,7 +62,7 @@ impl<B: Buffer> Machine<B> {
         )
     }
 
-    /// Reads further numbers: not inlined, because most sequences have at most one.
+    /// Reads further numbers. Not inlined, because most sequences have at most one (DECISIONS).
     #[inline(never)]
     fn read_more_numbers<P: CountedPerform<G>, G: Granularity, const MAY_STOP: bool>(
         &mut self,
@@ -73,21 +77,17 @@ impl<B: Buffer> Machine<B> {
         ensures advances { Advances ⊤
             (chunk_call MAY_STOP P.step P.is_terminated B.limit input.entry.bytes.now)
             (P.value_of performer.old) (P.value_of performer.new) from result self.old self.new }
-        ensures moves { MovesWithin 4 0 input.entry.bytes.now from result self.old self.new
-            reader.old reader.new }
+        ensures moves { MovesWithin (per_byte 4) (seen 0)
+            input.entry.bytes.now from result self.old self.new reader.old reader.new }
     {
-        self.continue_control_sequence::<P, G, MAY_STOP>(reader, performer, input, reached, from)
+        self.read_control_sequence::<P, G, MAY_STOP>(reader, performer, input, reached, from)
     }
 
-    /// Continues a control sequence, whose head was read up to `reached`. There is a short way for
-    /// numbers with `;` between them and a final byte after them, which most bytes take if each
+    /// Continues a control sequence, whose head was read as far as `reached`. There is a short path
+    /// for numbers with `;` between them and a final byte after them. Most bytes take it if each
     /// call has one byte.
     #[inline(always)]
-    pub(crate) fn continue_control_sequence<
-        P: CountedPerform<G>,
-        G: Granularity,
-        const MAY_STOP: bool,
-    >(
+    pub(crate) fn read_control_sequence<P: CountedPerform<G>, G: Granularity, const MAY_STOP: bool>(
         &mut self,
         reader: &mut Reader,
         performer: &mut P,
@@ -100,8 +100,8 @@ impl<B: Buffer> Machine<B> {
         ensures advances { Advances ⊤
             (chunk_call MAY_STOP P.step P.is_terminated B.limit input.entry.bytes.now)
             (P.value_of performer.old) (P.value_of performer.new) from result self.old self.new }
-        ensures moves { MovesWithin 4 0 input.entry.bytes.now from result self.old self.new
-            reader.old reader.new }
+        ensures moves { MovesWithin (per_byte 4) (seen 0)
+            input.entry.bytes.now from result self.old self.new reader.old reader.new }
     {
         if !reached.may_have_parameters() || self.collected.joined {
             return self.read_rest_of_head::<P, G, MAY_STOP>(
@@ -111,13 +111,13 @@ impl<B: Buffer> Machine<B> {
         let head = self
             .collected
             .read_numbers(reader, reached, true, input, from);
-        if let Some(byte) = head.next {
+        if let Some(byte) = head.next_byte {
             if is_final(byte) {
                 return self.end_control_sequence(reader, performer, head, false, byte);
             }
         }
         self.state = State::ControlSequence(head.progress);
-        if head.next.is_none() {
+        if head.next_byte.is_none() {
             return head.position;
         }
         self.read_rest_of_head::<P, G, MAY_STOP>(
@@ -144,18 +144,18 @@ impl<B: Buffer> Machine<B> {
         ensures advances { Advances ⊤
             (chunk_call MAY_STOP P.step P.is_terminated B.limit input.entry.bytes.now)
             (P.value_of performer.old) (P.value_of performer.new) from result self.old self.new }
-        ensures moves { MovesWithin 3 0 input.entry.bytes.now from result self.old self.new
-            reader.old reader.new }
+        ensures moves { MovesWithin (per_byte 3) (seen 0)
+            input.entry.bytes.now from result self.old self.new reader.old reader.new }
     {
         let head = self.collected.read_head(reader, reached, input, from);
         self.state = State::ControlSequence(head.progress);
-        if let Some(byte) = head.next {
+        if let Some(byte) = head.next_byte {
             if is_final(byte) {
                 let joined = self.collected.joined;
                 return self.end_control_sequence(reader, performer, head, joined, byte);
             }
-            if ends_body(byte) {
-                self.end_body(reader, performer, byte);
+            if ends_sequence(byte) {
+                self.end_sequence(reader, performer, byte);
             } else if is_plain_control(byte) {
                 performer.execute_control(reader, byte);
             }
@@ -166,8 +166,8 @@ impl<B: Buffer> Machine<B> {
     }
 
     /// Ends a control sequence at its final byte, after its head: dispatches it, unless the head is
-    /// ill-shaped. Returns the next position. `joined` is the field: most callers know that it is
-    /// false.
+    /// ill-shaped. Returns the next position. `joined` is the value of the field: most callers know
+    /// that it is false.
     #[inline(always)]
     fn end_control_sequence<P: CountedPerform<G>, G: Granularity>(
         &mut self,
@@ -180,14 +180,14 @@ impl<B: Buffer> Machine<B> {
         requires final_byte { is_final (class_of byte) ≡ true }
         requires joined { self.old.collected.joined ≡ joined }
         requires no_overflow { head.position + 1 < 2 ^ 64 }
-        ensures next { result ≡ head.position + 1 }
+        ensures value { result ≡ head.position + 1 }
         ensures takes { (bytes : List ℕ) → HasReadHead self.old.collected head.progress bytes
             → TakesByte P.step (P.value_of performer.old) (P.value_of performer.new) B.limit
             (InControlSequence bytes) byte self.new }
         ensures handles { HandlesByte 1 self.old self.new reader.old reader.new }
     {
         if let HeadProgress::IllShaped = head.progress {
-            self.state = State::Text(Unfinished::Nothing);
+            self.state = State::Text(Unfinished::Empty);
             return head.position + 1;
         }
         let ignore = self.collected.end_head(joined);
@@ -206,12 +206,12 @@ impl<B: Buffer> Machine<B> {
         position: usize,
     ) -> usize
         requires no_overflow { position + 1 < 2 ^ 64 }
-        ensures next { result ≡ position + 1 }
+        ensures value { result ≡ position + 1 }
         ensures dispatches { Dispatches P.step (P.value_of performer.old) (P.value_of performer.new)
             (CsiDispatch self.old.collected.params self.old.collected.intermediates.items ignore
             byte) self.old self.new reader.old reader.new }
     {
-        self.state = State::Text(Unfinished::Nothing);
+        self.state = State::Text(Unfinished::Empty);
         performer.csi_dispatch(reader, &self.collected, ignore, byte);
         position + 1
     }

@@ -1,9 +1,9 @@
 //! Device control strings.
 ghost use Rattle.std.specs.Prelude.{false, List, true, ℕ, ⊤, ◌≡◌};
-ghost use Rattle.vte_core.specs.private.Prelude.{Advances, chunk_call, class_of, DeviceData, HandlesByte, HasReadHead, InDeviceControl, is_device_data, is_final, MayRead, MayReadByte, MovesWithin, TakesByte};
+ghost use Rattle.vte_core.specs.private.Prelude.{Advances, chunk_call, class_of, DeviceData, HandlesByte, HasReadHead, InDeviceControl, is_device_data, is_final, MayRead, MayReadByte, MovesWithin, per_byte, seen, TakesByte};
 
 use crate::buffer::Buffer;
-use crate::class::{ends_body, is_device_data, is_final};
+use crate::class::{ends_sequence, is_device_data, is_final};
 use crate::head::HeadProgress;
 use crate::parser::{Machine, State, Unfinished};
 use crate::reader::{CountedPerform, Granularity, Input, Reader};
@@ -28,16 +28,16 @@ impl<B: Buffer> Machine<B> {
         ensures advances { Advances ⊤
             (chunk_call MAY_STOP P.step P.is_terminated B.limit input.entry.bytes.now)
             (P.value_of performer.old) (P.value_of performer.new) from result self.old self.new }
-        ensures moves { MovesWithin 5 0 input.entry.bytes.now from result self.old self.new
-            reader.old reader.new }
+        ensures moves { MovesWithin (per_byte 5) (seen 0)
+            input.entry.bytes.now from result self.old self.new reader.old reader.new }
     {
         let head = self.collected.read_head(reader, reached, input, from);
         self.state = State::DeviceControl(head.progress);
-        if let Some(byte) = head.next {
+        if let Some(byte) = head.next_byte {
             if is_final(byte) {
                 self.hook(reader, performer, head.progress, byte);
-            } else if ends_body(byte) {
-                self.end_body(reader, performer, byte);
+            } else if ends_sequence(byte) {
+                self.end_sequence(reader, performer, byte);
             }
             // Plain controls, DEL and 80..FF are dropped.
             return head.position + 1;
@@ -69,7 +69,7 @@ impl<B: Buffer> Machine<B> {
         self.state = State::DeviceData;
     }
 
-    /// Reads the data of a device control string, and the byte that ends them. If data come as
+    /// Reads the data of a device control string, and the byte that ends it. If data comes in
     /// slices and the call can't stop, it reads either a slice, up to the next byte that isn't
     /// data, or that byte.
     pub(crate) fn read_device_data<P: CountedPerform<G>, G: Granularity, const MAY_STOP: bool>(
@@ -84,8 +84,8 @@ impl<B: Buffer> Machine<B> {
         ensures advances { Advances ⊥
             (chunk_call MAY_STOP P.step P.is_terminated B.limit input.entry.bytes.now)
             (P.value_of performer.old) (P.value_of performer.new) from result self.old self.new }
-        ensures moves { MovesWithin 5 0 input.entry.bytes.now from result self.old self.new
-            reader.old reader.new }
+        ensures moves { MovesWithin (per_byte 5) (seen 0)
+            input.entry.bytes.now from result self.old self.new reader.old reader.new }
     {
         for position in from..input.len() {
             let byte = reader.byte_at(input, position);
@@ -107,7 +107,7 @@ impl<B: Buffer> Machine<B> {
         input.len()
     }
 
-    /// Reads a byte among the data that isn't put: it ends them, or is dropped.
+    /// Reads a byte that isn't put: it ends the data, or is dropped.
     #[inline(never)]
     pub(crate) fn read_other_in_data<P: CountedPerform<G>, G: Granularity, const MAY_STOP: bool>(
         &mut self,
@@ -120,19 +120,19 @@ impl<B: Buffer> Machine<B> {
         requires may_read { MayReadByte
             (chunk_call MAY_STOP P.step P.is_terminated B.limit input.bytes.now)
             (P.value_of performer.old) DeviceData self.old from byte }
-        requires other { is_device_data (class_of byte) ≡ false }
+        requires no_data { is_device_data (class_of byte) ≡ false }
         ensures advances { Advances ⊤
             (chunk_call MAY_STOP P.step P.is_terminated B.limit input.entry.bytes.now)
             (P.value_of performer.old) (P.value_of performer.new) from result self.old self.new }
-        ensures moves { MovesWithin 5 1 input.entry.bytes.now from result self.old self.new
-            reader.old reader.new }
+        ensures moves { MovesWithin (per_byte 5) (seen 1)
+            input.entry.bytes.now from result self.old self.new reader.old reader.new }
     {
-        if ends_body(byte) {
+        if ends_sequence(byte) {
             return self.read_end::<P, G, MAY_STOP>(reader, performer, input, from, byte);
         }
         if byte == STRING_TERMINATOR {
             performer.unhook(reader);
-            self.state = State::Text(Unfinished::Nothing);
+            self.state = State::Text(Unfinished::Empty);
         }
         from + 1
     }

@@ -1,6 +1,6 @@
 //! The loop over the bytes of a call.
 ghost use Rattle.std.specs.Prelude.{IfErr, IfOk, length, List, true, ℕ, ◌<◌, ◌≡◌};
-ghost use Rattle.vte_core.specs.private.Prelude.{Advances, chunk_call, Costs, HasReadWithLimit, IsAtPosition, IsOutsideTextAndData, IsSettled, looked, MayReadAt, MovesWithin, NoCharacterStops, read_count, ReadsUntilRefused, ReadsUpTo, Refuses, ReportsOutsideRuns, SpendsWithin};
+ghost use Rattle.vte_core.specs.private.Prelude.{Advances, ahead, chunk_call, Costs, HasReadWithLimit, IsAtPosition, IsOutsideTextAndData, IsRefusedAt, IsSettled, looks_of, MayReadAt, MovesWithin, NoCharacterStops, per_byte, read_count, ReadsUntilRefused, ReadsUpTo, ReportsOutsideRuns, seen, SpendsWithin};
 
 use crate::buffer::Buffer;
 use crate::parser::{Machine, Refused, State};
@@ -10,6 +10,7 @@ impl<B: Buffer> Machine<B> {
     /// Reads the bytes of a call, as many as there is memory for, and returns how many: all of
     /// them, or up to a stop if `MAY_STOP`.
     // inlined into a program's own function, its loops would keep their variables on the stack
+    // (DECISIONS)
     // cargo: #[inline(never)]
     pub(crate) fn drive<P: CountedPerform<G>, G: Granularity, const MAY_STOP: bool>(
         &mut self,
@@ -27,9 +28,9 @@ impl<B: Buffer> Machine<B> {
             (λ refused. ReadsUntilRefused
             (chunk_call MAY_STOP P.step P.is_terminated B.limit input.entry.bytes.now)
             (P.value_of performer.old) (P.value_of performer.new) refused.read self.old self.new) }
-        ensures costs { Costs 5 input.entry.bytes.now result
+        ensures costs { Costs (per_byte 5) input.entry.bytes.now result
             (read_count result) self.old self.new
-            (looked reader.old) (looked reader.new) }
+            (looks_of reader.old) (looks_of reader.new) }
     {
         let mut position = self.finish_character::<P, G, MAY_STOP>(reader, performer, input);
         while position < input.len() {
@@ -52,8 +53,8 @@ impl<B: Buffer> Machine<B> {
             IsAtPosition (chunk_call MAY_STOP P.step P.is_terminated B.limit input.entry.bytes.now)
             (P.value_of performer.old) (P.value_of performer.new) stream result self.new }
         ensures settled { result < length input.entry.bytes.now → IsSettled self.new.state }
-        ensures spends { SpendsWithin 2 0 2 input.entry.bytes.now 0 result self.old self.new
-            reader.old reader.new }
+        ensures spends { SpendsWithin (per_byte 2) (seen 0) (ahead 2)
+            input.entry.bytes.now 0 result self.old self.new reader.old reader.new }
         ensures outside_runs { (stream : List ℕ) → HasReadWithLimit B.limit self.old stream
             → ReportsOutsideRuns B.limit stream input.entry.bytes.now result }
     {
@@ -68,8 +69,8 @@ impl<B: Buffer> Machine<B> {
         }
     }
 
-    /// Reads at least one byte, or none if memory is refused for it. The performer was asked before
-    /// that byte.
+    /// Reads at least one byte, or none if memory is refused for it. The caller has asked the
+    /// performer before that byte.
     #[inline]
     pub(crate) fn read_by_state<P: CountedPerform<G>, G: Granularity, const MAY_STOP: bool>(
         &mut self,
@@ -89,11 +90,11 @@ impl<B: Buffer> Machine<B> {
             (P.value_of performer.old) (P.value_of performer.new) from (read_count result) self.old
             self.new }
         ensures moves { IfOk result
-            (λ read. MovesWithin 5 0 input.entry.bytes.now from read self.old self.new
-            reader.old reader.new) }
+            (λ read. MovesWithin (per_byte 5) (seen 0)
+            input.entry.bytes.now from read self.old self.new reader.old reader.new) }
         ensures refuses { IfErr result
             (λ refused.
-            Refuses (chunk_call MAY_STOP P.step P.is_terminated B.limit input.entry.bytes.now)
+            IsRefusedAt (chunk_call MAY_STOP P.step P.is_terminated B.limit input.entry.bytes.now)
             (P.value_of performer.new) from refused.read self.old self.new reader.old reader.new) }
     {
         // A comparison, because the match jumps by a table, which is hard to predict.
@@ -108,7 +109,7 @@ impl<B: Buffer> Machine<B> {
                 self.read_intermediates::<P, G, MAY_STOP>(reader, performer, input, from)
             }
             State::ControlSequence(progress) => {
-                self.continue_control_sequence::<P, G, MAY_STOP>(
+                self.read_control_sequence::<P, G, MAY_STOP>(
                     reader, performer, input, progress, from,
                 )
             }

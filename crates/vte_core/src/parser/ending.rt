@@ -1,6 +1,6 @@
 //! ESC, CAN and SUB, which end whatever is open, in every state.
 ghost use Rattle.std.specs.Prelude.{true, [], ⊤, ◌∷◌, ◌≡◌};
-ghost use Rattle.vte_core.specs.private.Prelude.{Advances, after, chunk_call, class_of, closing_events_at, ends_body, Escape, HandlesByte, IsAtPlace, IsOutsideRunsInState, IsSettledPlace, LooksAtMost, MayReadByte, MovesWithin, Place, TakesBytes};
+ghost use Rattle.vte_core.specs.private.Prelude.{Advances, after, chunk_call, class_of, closing_events_at, ends_sequence, Escape, HandlesByte, IsAtPlace, IsOutsideRunsInState, IsSettledPlace, LooksAtMost, MayReadByte, MovesWithin, per_byte, Place, seen, TakesBytes};
 
 use crate::buffer::Buffer;
 use crate::class::ESCAPE;
@@ -10,13 +10,13 @@ use crate::reader::{CountedPerform, Granularity, Input, Reader};
 impl<B: Buffer> Machine<B> {
     /// Closes what is open, and then begins an escape sequence, or executes CAN or SUB.
     #[inline(never)]
-    pub(crate) fn end_body<P: CountedPerform<G>, G: Granularity>(
+    pub(crate) fn end_sequence<P: CountedPerform<G>, G: Granularity>(
         &mut self,
         reader: &mut Reader,
         performer: &mut P,
         byte: u8,
     )
-        requires { ends_body (class_of byte) ≡ true }
+        requires { ends_sequence (class_of byte) ≡ true }
         ensures takes { (place : Place) → IsAtPlace B.limit self.old place
             → IsSettledPlace place
             → TakesBytes P.step (P.value_of performer.old)
@@ -26,15 +26,15 @@ impl<B: Buffer> Machine<B> {
     {
         self.report_end(reader, performer);
         if byte == ESCAPE {
-            self.collected.begin_escape();
+            self.collected.clear_intermediates();
             self.state = State::Escape;
             return;
         }
         performer.execute_control(reader, byte);
-        self.state = State::Text(Unfinished::Nothing);
+        self.state = State::Text(Unfinished::Empty);
     }
 
-    /// Reads a byte that ends what is open, which was looked at. After ESC it reads on.
+    /// Reads a byte that ends what is open, and after ESC also the bytes that follow it.
     pub(crate) fn read_end<P: CountedPerform<G>, G: Granularity, const MAY_STOP: bool>(
         &mut self,
         reader: &mut Reader,
@@ -46,15 +46,15 @@ impl<B: Buffer> Machine<B> {
         requires may_read { MayReadByte
             (chunk_call MAY_STOP P.step P.is_terminated B.limit input.bytes.now)
             (P.value_of performer.old) self.old.state self.old from byte }
-        requires ends { ends_body (class_of byte) ≡ true }
-        requires outside { IsOutsideRunsInState self.old.state byte }
+        requires ends { ends_sequence (class_of byte) ≡ true }
+        requires outside_runs { IsOutsideRunsInState self.old.state byte }
         ensures advances { Advances ⊤
             (chunk_call MAY_STOP P.step P.is_terminated B.limit input.entry.bytes.now)
             (P.value_of performer.old) (P.value_of performer.new) from result self.old self.new }
-        ensures moves { MovesWithin 3 1 input.entry.bytes.now from result self.old self.new
-            reader.old reader.new }
+        ensures moves { MovesWithin (per_byte 3) (seen 1)
+            input.entry.bytes.now from result self.old self.new reader.old reader.new }
     {
-        self.end_body(reader, performer, byte);
+        self.end_sequence(reader, performer, byte);
         if byte != ESCAPE || (MAY_STOP && performer.terminated()) {
             return from + 1;
         }
@@ -70,7 +70,7 @@ impl<B: Buffer> Machine<B> {
         ensures reported { (place : Place) → IsAtPlace B.limit self.now place
             → IsSettledPlace place → P.value_of performer.new
             ≡ after P.step (P.value_of performer.old) (closing_events_at B.limit place) }
-        ensures at_most { LooksAtMost 1 reader.old reader.new }
+        ensures looks_at_most { LooksAtMost 1 reader.old reader.new }
     {
         match self.state {
             State::DeviceData => performer.unhook(reader),

@@ -1,11 +1,11 @@
 //! Escape sequences, and what ESC begins.
 ghost use Rattle.std.specs.Prelude.{slice_index, true, [], ⊤, ◌*◌, ◌+◌, ◌<◌, ◌∷◌, ◌≡◌, ◌≢◌, ◌≤◌};
-ghost use Rattle.vte_core.specs.private.Prelude.{Advances, AtEscape, Dispatches, Escape, EscapeIntermediate, EscDispatch, HandlesByte, IsSettledPlace, MayRead, MayReadAt, MovesWithin, Nothing, Place, TakesBytes};
-ghost use Rattle.vte_core.specs.private.Prelude.{chunk_call, class_of, is_final, IsAtPlace, looked, TakesByte, Text};
+ghost use Rattle.vte_core.specs.private.Prelude.{Advances, AtEscape, Dispatches, Empty, Escape, EscapeIntermediate, EscDispatch, HandlesByte, IsSettledPlace, MayRead, MayReadAt, MovesWithin, per_byte, Place, seen, TakesBytes};
+ghost use Rattle.vte_core.specs.private.Prelude.{chunk_call, class_of, is_final, IsAtPlace, looks_of, TakesByte, Text};
 
 use crate::buffer::Buffer;
 use crate::class::{
-    ESCAPE, begins_ignored_string, dispatches_escape, ends_body, is_final, is_head_byte,
+    ESCAPE, begins_ignored_string, dispatches_escape, ends_sequence, is_final, is_head_byte,
     is_intermediate, is_plain_control,
 };
 use crate::head::HeadProgress;
@@ -13,10 +13,9 @@ use crate::parser::{Machine, State, Unfinished};
 use crate::reader::{CountedPerform, Granularity, Input, Reader};
 
 impl<B: Buffer> Machine<B> {
-    /// Begins an escape sequence at an ESC in a text, which was looked at, and reads the bytes
-    /// after it.
+    /// Begins an escape sequence at an ESC in a text, and reads the bytes after the ESC.
     #[inline(never)]
-    pub(crate) fn read_sequence<P: CountedPerform<G>, G: Granularity, const MAY_STOP: bool>(
+    pub(crate) fn read_from_escape<P: CountedPerform<G>, G: Granularity, const MAY_STOP: bool>(
         &mut self,
         reader: &mut Reader,
         performer: &mut P,
@@ -25,21 +24,22 @@ impl<B: Buffer> Machine<B> {
     ) -> usize
         requires may_read { MayReadAt
             (chunk_call MAY_STOP P.step P.is_terminated B.limit input.bytes.now)
-            (P.value_of performer.old) (Text Nothing) self.old from }
+            (P.value_of performer.old) (Text Empty) self.old from }
         requires escape { slice_index input.bytes.now from ≡ 0x1b }
         ensures advances { Advances ⊤
             (chunk_call MAY_STOP P.step P.is_terminated B.limit input.entry.bytes.now)
             (P.value_of performer.old) (P.value_of performer.new) from result self.old self.new }
-        ensures moves { MovesWithin 5 1 input.entry.bytes.now from result self.old self.new
-            reader.old reader.new }
+        ensures moves { MovesWithin (per_byte 5) (seen 1)
+            input.entry.bytes.now from result self.old self.new reader.old reader.new }
         // The caller took one look at ESC; the four others that a byte may cost are left for
-        // `search_text`.
-        ensures count { looked reader.new + 5 * from + 5 ≤ looked reader.old + 5 * result }
+        // `find_text_part_end`.
+        ensures looks_at_most { looks_of reader.new + 5 * from + 5
+            ≤ looks_of reader.old + 5 * result }
     {
-        self.collected.begin_escape();
+        self.collected.clear_intermediates();
         let next = from + 1;
         if next < input.len() && reader.byte_at(input, next) == b'[' {
-            self.collected.begin_head();
+            self.collected.clear_numbers();
             self.state = State::ControlSequence(HeadProgress::Entry);
             return self.read_short_head::<P, G, MAY_STOP>(reader, performer, input, next + 1);
         }
@@ -47,8 +47,8 @@ impl<B: Buffer> Machine<B> {
         self.read_escape::<P, G, MAY_STOP>(reader, performer, input, next)
     }
 
-    /// Reads bytes after ESC, up to the one that says what begins; after `[` the control sequence
-    /// too.
+    /// Reads bytes after ESC, up to the one that says what begins. After `[` it reads the control
+    /// sequence too.
     #[inline(never)]
     pub(crate) fn read_escape<P: CountedPerform<G>, G: Granularity, const MAY_STOP: bool>(
         &mut self,
@@ -62,17 +62,18 @@ impl<B: Buffer> Machine<B> {
         ensures advances { Advances ⊤
             (chunk_call MAY_STOP P.step P.is_terminated B.limit input.entry.bytes.now)
             (P.value_of performer.old) (P.value_of performer.new) from result self.old self.new }
-        ensures moves { MovesWithin 3 0 input.entry.bytes.now from result self.old self.new
-            reader.old reader.new }
+        ensures moves { MovesWithin (per_byte 3) (seen 0)
+            input.entry.bytes.now from result self.old self.new reader.old reader.new }
     {
         for position in from..input.len() {
             let byte = reader.byte_at(input, position);
             // Added before the branches, so that the loop over ESC is shorter.
             let next = position + 1;
             if byte == b'[' {
-                self.collected.begin_head();
+                self.collected.clear_numbers();
                 self.state = State::ControlSequence(HeadProgress::Entry);
-                // `continue_control_sequence` may look at a byte twice.
+                // Not `read_control_sequence`, which may look at a byte twice: 3 looks per byte are
+                // left.
                 return self.read_rest_of_head::<P, G, MAY_STOP>(
                     reader,
                     performer,
@@ -83,7 +84,7 @@ impl<B: Buffer> Machine<B> {
             }
             // Another ESC changes nothing: nothing was collected since the one before.
             if byte != ESCAPE {
-                self.read_after_escape(reader, performer, byte);
+                self.read_byte_after_escape(reader, performer, byte);
                 return next;
             }
         }
@@ -91,14 +92,14 @@ impl<B: Buffer> Machine<B> {
     }
 
     /// Reads a byte after ESC, other than `[`.
-    fn read_after_escape<P: CountedPerform<G>, G: Granularity>(
+    fn read_byte_after_escape<P: CountedPerform<G>, G: Granularity>(
         &mut self,
         reader: &mut Reader,
         performer: &mut P,
         byte: u8,
     )
-        requires begun { self.old.state ≡ Escape }
-        requires other { byte ≢ 0x5b }
+        requires in_state { self.old.state ≡ Escape }
+        requires no_bracket { byte ≢ 0x5b }
         ensures takes { (place : Place) → IsAtPlace B.limit self.old place
             → IsSettledPlace place
             → TakesBytes P.step
@@ -113,16 +114,16 @@ impl<B: Buffer> Machine<B> {
             self.state = State::EscapeIntermediate;
         } else if is_head_byte(byte) {
             self.dispatch_escape(reader, performer, byte);
-        } else if ends_body(byte) {
-            self.end_body(reader, performer, byte);
+        } else if ends_sequence(byte) {
+            self.end_sequence(reader, performer, byte);
         } else if is_plain_control(byte) {
             performer.execute_control(reader, byte);
         }
         // DEL and 80..FF are dropped.
     }
 
-    /// Begins the string that a byte 40..7E other than `[` begins after ESC, or dispatches an
-    /// escape sequence that ends with it.
+    /// Begins the string that a byte after ESC introduces, or dispatches the escape sequence that
+    /// the byte ends. It is one of 40..7E other than `[`.
     #[inline(never)]
     fn begin_or_dispatch<P: CountedPerform<G>, G: Granularity>(
         &mut self,
@@ -131,14 +132,14 @@ impl<B: Buffer> Machine<B> {
         byte: u8,
     )
         requires ends { is_final (class_of byte) ≡ true }
-        requires other { byte ≢ 0x5b }
+        requires no_bracket { byte ≢ 0x5b }
         ensures takes { IsAtPlace B.limit self.old AtEscape
             → TakesByte P.step (P.value_of performer.old) (P.value_of performer.new)
             B.limit AtEscape byte self.new }
         ensures handles { HandlesByte 1 self.old self.new reader.old reader.new }
     {
         if byte == b'P' {
-            self.collected.begin_head();
+            self.collected.clear_numbers();
             self.state = State::DeviceControl(HeadProgress::Entry);
         } else if byte == b']' {
             self.command.clear();
@@ -164,8 +165,8 @@ impl<B: Buffer> Machine<B> {
         ensures advances { Advances ⊤
             (chunk_call MAY_STOP P.step P.is_terminated B.limit input.entry.bytes.now)
             (P.value_of performer.old) (P.value_of performer.new) from result self.old self.new }
-        ensures moves { MovesWithin 5 0 input.entry.bytes.now from result self.old self.new
-            reader.old reader.new }
+        ensures moves { MovesWithin (per_byte 5) (seen 0)
+            input.entry.bytes.now from result self.old self.new reader.old reader.new }
     {
         for position in from..input.len() {
             let byte = reader.byte_at(input, position);
@@ -174,8 +175,8 @@ impl<B: Buffer> Machine<B> {
             } else if dispatches_escape(byte) {
                 self.dispatch_escape(reader, performer, byte);
                 return position + 1;
-            } else if ends_body(byte) {
-                self.end_body(reader, performer, byte);
+            } else if ends_sequence(byte) {
+                self.end_sequence(reader, performer, byte);
                 return position + 1;
             } else if is_plain_control(byte) {
                 performer.execute_control(reader, byte);
@@ -199,6 +200,6 @@ impl<B: Buffer> Machine<B> {
             self.old self.new reader.old reader.new }
     {
         performer.esc_dispatch(reader, &self.collected, byte);
-        self.state = State::Text(Unfinished::Nothing);
+        self.state = State::Text(Unfinished::Empty);
     }
 }

@@ -1,6 +1,6 @@
 //! Ignored strings: SOS, PM, APC, and device control strings with an ill-shaped head.
 ghost use Rattle.std.specs.Prelude.{⊤};
-ghost use Rattle.vte_core.specs.private.Prelude.{Advances, chunk_call, IgnoredString, MayReadAt, MovesWithin};
+ghost use Rattle.vte_core.specs.private.Prelude.{Advances, chunk_call, IgnoredString, MayReadAt, MovesWithin, per_byte, seen};
 
 use crate::buffer::Buffer;
 use crate::parser::machine::Machine;
@@ -20,10 +20,10 @@ impl<B: Buffer> Machine<B> {
         ensures advances { Advances ⊤
             (chunk_call MAY_STOP P.step P.is_terminated B.limit input.entry.bytes.now)
             (P.value_of performer.old) (P.value_of performer.new) from result self.old self.new }
-        ensures moves { MovesWithin 5 0 input.entry.bytes.now from result self.old self.new
-            reader.old reader.new }
+        ensures moves { MovesWithin (per_byte 5) (seen 0)
+            input.entry.bytes.now from result self.old self.new reader.old reader.new }
     {
-        let end = reader.find_string_end(input, from);
+        let end = reader.find_ignored_string_end(input, from);
         match reader.get_byte(input, end) {
             Some(byte) => self.read_end::<P, G, MAY_STOP>(reader, performer, input, end, byte),
             None => end,

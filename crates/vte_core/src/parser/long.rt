@@ -2,11 +2,11 @@
 ghost use Rattle.std.specs.Prelude.{false, IfErr, IfOk, length, List, None, true, ℕ, [], ◌+◌, ◌<◌, ◌≡◌, ◌≤◌};
 ghost use Rattle.vte_core.specs.LongParser.{HasReadLong, LacksMemoryForMore, lost_data_long, memory_of, reading_of_long};
 ghost use Rattle.vte_core.specs.LongParser.{open_command_size};
-ghost use Rattle.vte_core.specs.Parser.{IsCopyOfParser};
+ghost use Rattle.vte_core.specs.Parser.{IsCloneOfParser};
 ghost use Rattle.vte_core.specs.Open.{SaysOpen, SaysWhetherOpen};
 ghost use Rattle.vte_core.specs.Outcome.{SaysLoss};
 ghost use Rattle.vte_core.specs.Stream.{outcome};
-ghost use Rattle.vte_core.specs.private.Prelude.{chunk_call, ComesToRun, Costs, counted, NoCharacterStops, read_before_range, read_count, read_through_range, ReadsUntilRefused, ReadsUpTo, ReportsOutsideRuns};
+ghost use Rattle.vte_core.specs.private.Prelude.{chunk_call, ComesToRun, Costs, NoCharacterStops, per_byte, read_before_range, read_count, read_through_range, ReadsUntilRefused, ReadsUpTo, ReportsOutsideRuns, total_looks};
 
 use crate::parser::{Machine, Open, Refused, State};
 use crate::reader::{ByCharacter, Chunk, CountedPerform, Granularity, Looks, RunRange};
@@ -45,8 +45,9 @@ pub struct LongParser<A: Allocator> {
 
 /// A clone goes on as the parser would. Its looks are counted from 0.
 impl<A: Allocator + Clone> Clone for LongParser<A> {
-    ghost is_clone = { λ parser copy. IsCopyOfParser (reading_of_long parser) (reading_of_long copy)
-        × memory_of parser ≤ memory_of copy };
+    ghost is_clone = { λ parser clone. IsCloneOfParser (reading_of_long parser)
+        (reading_of_long clone)
+        × memory_of parser ≤ memory_of clone };
 
     fn clone(&self) -> Result<Self, AllocError> {
         Ok(LongParser {
@@ -73,7 +74,7 @@ impl<A: Allocator> LongParser<A> {
         }
     }
 
-    /// Returns for how many data bytes of an operating system command it has memory.
+    /// Returns the number of data bytes of an operating system command for which it has memory.
     // cargo lacks: not used
     pub fn memory(&self) -> usize
         ensures { result ≡ memory_of self.now }
@@ -81,7 +82,7 @@ impl<A: Allocator> LongParser<A> {
         self.machine.command.capacity()
     }
 
-    /// Returns how many data bytes it stores of an operating system command: 0 if none is open.
+    /// Returns how many data bytes of an operating system command it stores: 0 if none is open.
     // cargo: #[cfg(any(feature = "__own", feature = "ansi"))]
     // cargo instead: pub(crate) fn stored(&self) -> usize
     pub fn stored(&self) -> usize
@@ -94,8 +95,8 @@ impl<A: Allocator> LongParser<A> {
         }
     }
 
-    /// Returns whether the operating system command that is open lost data bytes, or if none is
-    /// open, the last one: those after the 16th piece.
+    /// Returns whether the open operating system command has lost data bytes, or the last one if
+    /// none is open. It loses those after the 16th piece.
     pub fn command_lost_data(&self) -> bool
         ensures lost { result ≡ lost_data_long self.now }
         ensures open { (stream : List ℕ) → HasReadLong self.now stream
@@ -112,7 +113,7 @@ impl<A: Allocator> LongParser<A> {
             → length self.new.machine.command.bytes ≡ open_command_size stream }
         ensures memory { memory_of self.new ≡ memory_of self.old }
         ensures lost { lost_data_long self.new ≡ lost_data_long self.old }
-        ensures count { counted self.new.looks ≡ counted self.old.looks }
+        ensures looks { total_looks self.new.looks ≡ total_looks self.old.looks }
     {
         if !matches!(self.machine.state, State::SystemCommand) {
             self.machine.command.remove_items();
@@ -126,16 +127,16 @@ impl<A: Allocator> LongParser<A> {
         ensures reads { (stream : List ℕ) → HasReadLong self.old stream
             → HasReadLong self.new stream }
         // The memory is for the bytes of an open command and for those that come.
-        ensures room { result ≡ true → (stream : List ℕ) → HasReadLong self.new stream
+        ensures has_room { result ≡ true → (stream : List ℕ) → HasReadLong self.new stream
             → open_command_size stream + more ≤ memory_of self.new }
         ensures memory { memory_of self.old ≤ memory_of self.new }
-        ensures lacks { result ≡ false → LacksMemoryForMore self.new more }
-        // Memory is refused only if the bytes don't fit: of a command that has ended none count.
+        ensures lacks_memory { result ≡ false → LacksMemoryForMore self.new more }
+        // Memory is refused only if the bytes don't fit. Those of an ended command don't count.
         ensures lacks_open { result ≡ false → (stream : List ℕ) → HasReadLong self.new stream
             → memory_of self.new < open_command_size stream + more }
         // `command_lost_data` answers as before.
         ensures lost { lost_data_long self.new ≡ lost_data_long self.old }
-        ensures count { counted self.new.looks ≡ counted self.old.looks }
+        ensures looks { total_looks self.new.looks ≡ total_looks self.old.looks }
     {
         self.forget_ended_command();
         self.machine.command.reserve(more)
@@ -149,10 +150,10 @@ impl<A: Allocator> LongParser<A> {
         ensures frees { (stream : List ℕ) → HasReadLong self.old stream
             → open_command_size stream ≡ 0
             → memory_of self.new ≡ 0 }
-        ensures less { memory_of self.new ≤ memory_of self.old }
+        ensures grows_no_memory { memory_of self.new ≤ memory_of self.old }
         // `command_lost_data` answers as before.
         ensures lost { lost_data_long self.new ≡ lost_data_long self.old }
-        ensures count { counted self.new.looks ≡ counted self.old.looks }
+        ensures looks { total_looks self.new.looks ≡ total_looks self.old.looks }
     {
         self.forget_ended_command();
         self.machine.command.shrink_to_fit();
@@ -193,8 +194,9 @@ impl<A: Allocator> LongParser<A> {
             (chunk_call MAY_STOP P.step P.is_terminated None chunk.entry.bytes.now)
             (P.value_of performer.old) (P.value_of performer.new) refused.read self.old.machine
             self.new.machine) }
-        ensures costs { Costs 5 chunk.entry.bytes.now result (read_count result) self.old.machine
-            self.new.machine (counted self.old.looks) (counted self.new.looks) }
+        ensures costs { Costs (per_byte 5) chunk.entry.bytes.now result (read_count result)
+            self.old.machine self.new.machine
+            (total_looks self.old.looks) (total_looks self.new.looks) }
     {
         let (mut reader, input) = chunk.into_reader();
         let result = self
@@ -220,8 +222,9 @@ impl<A: Allocator> LongParser<A> {
             (chunk_call true P.step P.is_terminated None chunk.entry.bytes.now)
             (P.value_of performer.old) (P.value_of performer.new) refused.read self.old.machine
             self.new.machine) }
-        ensures costs { Costs 7 chunk.entry.bytes.now result (read_through_range result)
-            self.old.machine self.new.machine (counted self.old.looks) (counted self.new.looks) }
+        ensures costs { Costs (per_byte 7) chunk.entry.bytes.now result (read_through_range result)
+            self.old.machine self.new.machine
+            (total_looks self.old.looks) (total_looks self.new.looks) }
         ensures outside_runs { (stream : List ℕ) → HasReadLong self.old stream
             → ReportsOutsideRuns None stream chunk.entry.bytes.now (read_before_range result) }
     {

@@ -32,7 +32,7 @@ impl State {
         ensures { result ≡ open_in self }
     {
         match self {
-            State::Text(Unfinished::Nothing) => Open::Nothing,
+            State::Text(Unfinished::Empty) => Open::Nothing,
             State::Text(_) => Open::Character,
             State::Escape | State::EscapeIntermediate => Open::EscapeSequence,
             State::ControlSequence(_) => Open::ControlSequence,

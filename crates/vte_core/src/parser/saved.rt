@@ -50,7 +50,7 @@ fn copy_to_front<T: Copy>(elements: &[T], array: &mut [T]) -> usize
 /// Returns the first elements of an array: `count` of them, or all if there are fewer.
 fn first_elements<T: Copy>(array: &[T], count: usize) -> &[T]
     ensures elements { result.now ≡ take count array.now }
-    ensures fit { length result.now ≤ length array.now }
+    ensures fits { length result.now ≤ length array.now }
 {
     &array[..count.min(array.len())]
 }
@@ -73,7 +73,7 @@ fn saved_state(state: State) -> [u8; 4]
     ensures { result ≡ state_bytes state }
 {
     match state {
-        State::Text(Unfinished::Nothing) => [0, 0, 0, 0],
+        State::Text(Unfinished::Empty) => [0, 0, 0, 0],
         State::Text(Unfinished::One(first)) => [1, first, 0, 0],
         State::Text(Unfinished::Two(first, second)) => [2, first, second, 0],
         State::Text(Unfinished::Three(first, second, third)) => [3, first, second, third],
@@ -93,13 +93,13 @@ fn saved_state(state: State) -> [u8; 4]
     }
 }
 
-/// Returns the state with this number. Each number above 16 is that of an ignored string too.
+/// Returns the state with this number. Each number above 16 also stands for an ignored string.
 fn restored_state(saved: [u8; 4]) -> State
     ensures { (state : State) → saved ≡ state_bytes state → result ≡ state }
 {
     let [number, first, second, third] = saved;
     match number {
-        0 => State::Text(Unfinished::Nothing),
+        0 => State::Text(Unfinished::Empty),
         1 => State::Text(Unfinished::One(first)),
         2 => State::Text(Unfinished::Two(first, second)),
         3 => State::Text(Unfinished::Three(first, second, third)),
@@ -155,7 +155,7 @@ impl Parser<MAX_OSC_RAW> {
         ensures { (stream : List ℕ) → HasRead self.now stream → HasReadSaved saved.new stream }
     {
         // Most calls end between characters of a text, where nothing else counts.
-        if let State::Text(Unfinished::Nothing) = self.machine.state {
+        if let State::Text(Unfinished::Empty) = self.machine.state {
             saved.state = [0; 4];
         } else {
             self.save_open(saved);
@@ -171,12 +171,12 @@ impl Parser<MAX_OSC_RAW> {
         // Numbers and commands of earlier sequences don't count.
         match machine.state {
             State::ControlSequence(_) | State::DeviceControl(_) => {
-                let (lengths, numbers) = machine.collected.params.parts();
+                let (lengths, numbers) = machine.collected.params.raw_parts();
                 saved.group_count = copy_to_front(lengths, &mut saved.lengths);
                 saved.number_count = copy_to_front(numbers, &mut saved.numbers);
             }
             State::SystemCommand => {
-                let (bytes, ends, lost) = machine.command.parts();
+                let (bytes, ends, lost) = machine.command.raw_parts();
                 saved.byte_count = copy_to_front(bytes, &mut saved.bytes);
                 saved.end_count = copy_to_front(ends, &mut saved.ends);
                 saved.lost = u8::from(lost);
@@ -200,7 +200,7 @@ impl Parser<MAX_OSC_RAW> {
         ensures { (stream : List ℕ) → HasReadSaved saved.now stream → HasRead self.new stream }
     {
         if saved.state[0] == 0 {
-            self.machine.state = State::Text(Unfinished::Nothing);
+            self.machine.state = State::Text(Unfinished::Empty);
         } else {
             self.restore_open(saved);
         }
@@ -215,7 +215,7 @@ impl Parser<MAX_OSC_RAW> {
         machine.state = restored_state(saved.state);
         match machine.state {
             State::ControlSequence(_) | State::DeviceControl(_) => {
-                machine.collected.params = Params::from_parts(
+                machine.collected.params = Params::from_raw_parts(
                     collect_front(&saved.lengths, saved.group_count),
                     collect_front(&saved.numbers, saved.number_count),
                 );

@@ -1,9 +1,9 @@
 //! Operating system commands.
 ghost use Rattle.std.specs.Prelude.{IfErr, IfOk, ⊤};
-ghost use Rattle.vte_core.specs.private.Prelude.{Advances, chunk_call, MayReadAt, MovesWithin, read_count, Refuses, SystemCommand};
+ghost use Rattle.vte_core.specs.private.Prelude.{Advances, chunk_call, IsRefusedAt, MayReadAt, MovesWithin, per_byte, read_count, seen, SystemCommand};
 
 use crate::buffer::Buffer;
-use crate::class::ends_body;
+use crate::class::ends_sequence;
 use crate::parser::{Machine, Refused, State, Unfinished};
 use crate::reader::{CountedPerform, Granularity, Input, Reader};
 
@@ -28,15 +28,15 @@ impl<B: Buffer> Machine<B> {
             (P.value_of performer.old) (P.value_of performer.new) from (read_count result) self.old
             self.new }
         ensures moves { IfOk result
-            (λ read. MovesWithin 5 0 input.entry.bytes.now from read self.old self.new
-            reader.old reader.new) }
+            (λ read. MovesWithin (per_byte 5) (seen 0)
+            input.entry.bytes.now from read self.old self.new reader.old reader.new) }
         ensures refuses { IfErr result
             (λ refused.
-            Refuses (chunk_call MAY_STOP P.step P.is_terminated B.limit input.entry.bytes.now)
+            IsRefusedAt (chunk_call MAY_STOP P.step P.is_terminated B.limit input.entry.bytes.now)
             (P.value_of performer.new) from refused.read self.old self.new reader.old reader.new) }
     {
         let end = reader.find_command_data_end(input, from);
-        if !self.command.take_memory(end - from) {
+        if !self.command.reserve_if_kept(end - from) {
             return Err(Refused { read: from });
         }
         self.command.push_data(reader, input, from, end);
@@ -44,14 +44,14 @@ impl<B: Buffer> Machine<B> {
             Some(byte) => byte,
             None => return Ok(end),
         };
-        if ends_body(byte) {
+        if ends_sequence(byte) {
             return Ok(self.read_end::<P, G, MAY_STOP>(reader, performer, input, end, byte));
         }
         if byte == b';' {
             self.command.end_piece();
         } else if byte == BELL {
             self.command.dispatch(reader, performer, true);
-            self.state = State::Text(Unfinished::Nothing);
+            self.state = State::Text(Unfinished::Empty);
         }
         Ok(end + 1)
     }

@@ -1,6 +1,6 @@
 //! Text: characters, runs of them, and malformed sequences.
 ghost use Rattle.std.specs.Prelude.{false, IfSome, length, None, slice_index, true, ◌*◌, ◌+◌, ◌<◌, ◌≡◌, ◌≤◌};
-ghost use Rattle.vte_core.specs.private.Prelude.{Advances, chunk_call, IsPrintedAscii, looked, MayReadAt, MayReadByte, MovesWithin, NoCharacterStops, Nothing, PrintsRun, Text};
+ghost use Rattle.vte_core.specs.private.Prelude.{Advances, chunk_call, Empty, IsPrintedAscii, looks_of, MayReadAt, MayReadByte, MovesWithin, NoCharacterStops, per_byte, PrintsRun, seen, Text};
 
 use crate::buffer::Buffer;
 use crate::class::ESCAPE;
@@ -8,19 +8,18 @@ use crate::parser::Machine;
 use crate::reader::{CountedPerform, Granularity, Input, Reader};
 use crate::utf8::{is_lead, is_printed_ascii};
 
-/// The bytes of a text that are read before it is searched for ESC. Shorter texts, and so most,
+/// How many bytes of a text are read before it is searched for ESC. Most texts are shorter, and
 /// cost no search.
 const SHORT_TEXT: usize = 128;
 
-/// Where a run of ASCII ends, and the byte there if it was looked at and isn't printed ASCII.
+/// The end of a run of ASCII, and the byte there if it was read and isn't printed ASCII.
 #[derive(Clone, Copy)]
 struct AsciiRun {
     end: usize,
-    next: Option<u8>,
+    next_byte: Option<u8>,
 }
 
-/// Prints the run of ASCII that is at a position, whose first byte was looked at. If it is
-/// short, that is the first byte alone.
+/// Prints the run of ASCII at a position. If it is short, only its first byte is printed.
 #[inline(always)]
 // cargo: #[allow(unsafe_code)]
 fn print_ascii<P: CountedPerform<G>, G: Granularity>(
@@ -36,32 +35,39 @@ fn print_ascii<P: CountedPerform<G>, G: Granularity>(
     requires printed { IsPrintedAscii first }
     ensures prints { PrintsRun P.layout P.step (P.value_of performer.old)
         (P.value_of performer.new) input.entry.bytes.now from result.end }
-    ensures next { IfSome result.next (λ byte. (result.end < length input.entry.bytes.now)
+    ensures next_is { IfSome result.next_byte (λ byte. (result.end < length input.entry.bytes.now)
         × (byte ≡ slice_index input.entry.bytes.now result.end)) }
-    ensures other { IfSome result.next (λ byte. IsPrintedAscii byte → ⊥) }
+    ensures next_not_printed { IfSome result.next_byte (λ byte. IsPrintedAscii byte → ⊥) }
     ensures progress { from < result.end }
     ensures high { result.end ≤ length input.entry.bytes.now }
-    ensures count { looked reader.new + 5 * from + 1 ≤ looked reader.old + 5 * result.end }
-    ensures at_least { looked reader.old + result.end ≤ looked reader.new + from }
+    ensures looks_at_most { looks_of reader.new + 5 * from + 1
+        ≤ looks_of reader.old + 5 * result.end }
+    ensures looks_at_least { looks_of reader.old + result.end ≤ looks_of reader.new + from }
 {
-    let next = reader.get_byte(input, from + 1);
-    if reader.begins_ascii_run(input, from, next) {
+    let next_byte = reader.get_byte(input, from + 1);
+    if reader.begins_ascii_run(input, from, next_byte) {
         let end = reader.find_ascii_run_end(performer, input, from);
         // cargo: // SAFETY: ASCII is at `from`, and the search passes whole characters.
         reader.report_text(performer, input, from, end);
-        return AsciiRun { end, next: None };
+        return AsciiRun {
+            end,
+            next_byte: None,
+        };
     }
     performer.print_char(reader, char::from(first));
     let end = from + 1;
-    match next {
-        Some(byte) if !is_printed_ascii(byte) => AsciiRun { end, next },
-        _ => AsciiRun { end, next: None },
+    match next_byte {
+        Some(byte) if !is_printed_ascii(byte) => AsciiRun { end, next_byte },
+        _ => AsciiRun {
+            end,
+            next_byte: None,
+        },
     }
 }
 
 impl<B: Buffer> Machine<B> {
     /// Reads text up to an ESC, and then the bytes after that. Each way to take text has a loop of
-    /// its own.
+    /// its own (DECISIONS).
     #[inline(always)]
     pub(crate) fn read_text<P: CountedPerform<G>, G: Granularity, const MAY_STOP: bool>(
         &mut self,
@@ -72,14 +78,14 @@ impl<B: Buffer> Machine<B> {
     ) -> usize
         requires may_read { MayReadAt
             (chunk_call MAY_STOP P.step P.is_terminated B.limit input.bytes.now)
-            (P.value_of performer.old) (Text Nothing) self.old from }
+            (P.value_of performer.old) (Text Empty) self.old from }
         requires no_stop { G.IN_RUNS ≡ true → MAY_STOP ≡ true
             → NoCharacterStops P.layout P.step P.is_terminated }
         ensures advances { Advances ⊥
             (chunk_call MAY_STOP P.step P.is_terminated B.limit input.entry.bytes.now)
             (P.value_of performer.old) (P.value_of performer.new) from result self.old self.new }
-        ensures moves { MovesWithin 5 0 input.entry.bytes.now from result self.old self.new
-            reader.old reader.new }
+        ensures moves { MovesWithin (per_byte 5) (seen 0)
+            input.entry.bytes.now from result self.old self.new reader.old reader.new }
     {
         if G::IN_RUNS {
             self.read_runs::<P, G, MAY_STOP>(reader, performer, input, from)
@@ -90,7 +96,7 @@ impl<B: Buffer> Machine<B> {
         }
     }
 
-    /// Reads text for a performer that takes runs. They are read by words, which find an ESC too.
+    /// Reads text for a performer that takes runs. It is read by words, which find an ESC too.
     // cargo: #[inline]
     fn read_runs<P: CountedPerform<G>, G: Granularity, const MAY_STOP: bool>(
         &mut self,
@@ -102,13 +108,13 @@ impl<B: Buffer> Machine<B> {
         requires in_runs { G.IN_RUNS ≡ true }
         requires may_read { MayReadAt
             (chunk_call MAY_STOP P.step P.is_terminated B.limit input.bytes.now)
-            (P.value_of performer.old) (Text Nothing) self.old from }
+            (P.value_of performer.old) (Text Empty) self.old from }
         requires no_stop { MAY_STOP ≡ true → NoCharacterStops P.layout P.step P.is_terminated }
         ensures advances { Advances ⊥
             (chunk_call MAY_STOP P.step P.is_terminated B.limit input.entry.bytes.now)
             (P.value_of performer.old) (P.value_of performer.new) from result self.old self.new }
-        ensures moves { MovesWithin 5 0 input.entry.bytes.now from result self.old self.new
-            reader.old reader.new }
+        ensures moves { MovesWithin (per_byte 5) (seen 0)
+            input.entry.bytes.now from result self.old self.new reader.old reader.new }
     {
         let mut position = from;
         while position < input.len() {
@@ -116,15 +122,17 @@ impl<B: Buffer> Machine<B> {
             if is_printed_ascii(byte) {
                 let run = print_ascii(reader, performer, input, position, byte);
                 position = run.end;
-                match run.next {
-                    Some(next) => byte = next,
+                match run.next_byte {
+                    Some(next_byte) => byte = next_byte,
                     None => continue,
                 }
             }
             // One comparison tells lead bytes and malformed ones from ESC and controls.
             if byte < 0xa0 {
                 if byte == ESCAPE {
-                    return self.read_sequence::<P, G, MAY_STOP>(reader, performer, input, position);
+                    return self.read_from_escape::<P, G, MAY_STOP>(
+                        reader, performer, input, position,
+                    );
                 }
                 reader.report_lone_byte(performer, byte);
                 position += 1;
@@ -154,15 +162,15 @@ impl<B: Buffer> Machine<B> {
         input: Input<'_>,
         from: usize,
     ) -> usize
-        requires singly { G.IN_RUNS ≡ false }
+        requires by_character { G.IN_RUNS ≡ false }
         requires may_read { MayReadAt
             (chunk_call true P.step P.is_terminated B.limit input.bytes.now)
-            (P.value_of performer.old) (Text Nothing) self.old from }
+            (P.value_of performer.old) (Text Empty) self.old from }
         ensures advances { Advances ⊥
             (chunk_call true P.step P.is_terminated B.limit input.entry.bytes.now)
             (P.value_of performer.old) (P.value_of performer.new) from result self.old self.new }
-        ensures moves { MovesWithin 5 0 input.entry.bytes.now from result self.old self.new
-            reader.old reader.new }
+        ensures moves { MovesWithin (per_byte 5) (seen 0)
+            input.entry.bytes.now from result self.old self.new reader.old reader.new }
     {
         let mut position = from;
         // The length of `prefix` bounds the position, so that the loop has no test of the index.
@@ -182,7 +190,7 @@ impl<B: Buffer> Machine<B> {
                     }
                     continue;
                 } else if byte == ESCAPE {
-                    return self.read_sequence::<P, G, true>(reader, performer, input, position);
+                    return self.read_from_escape::<P, G, true>(reader, performer, input, position);
                 } else {
                     reader.report_lone_byte(performer, byte);
                 }
@@ -192,15 +200,15 @@ impl<B: Buffer> Machine<B> {
                 }
             }
             if position < input.len() {
-                prefix = input.up_to(reader.search_text::<true>(input, from, position));
+                prefix = input.up_to(reader.find_text_part_end::<true>(input, from, position));
             }
         }
         position
     }
 
-    /// Reads text character by character, for a call that can't stop. A round looks at the byte of
-    /// the next one, which takes fewer instructions than each looking at its own. In a call that
-    /// may stop it takes more.
+    /// Reads text character by character, for a call that can't stop. Each round reads the byte of
+    /// the next one, which takes fewer instructions here, but more in a call that may stop
+    /// (DECISIONS).
     #[inline(always)]
     fn read_characters<P: CountedPerform<G>, G: Granularity>(
         &mut self,
@@ -209,15 +217,15 @@ impl<B: Buffer> Machine<B> {
         input: Input<'_>,
         from: usize,
     ) -> usize
-        requires singly { G.IN_RUNS ≡ false }
+        requires by_character { G.IN_RUNS ≡ false }
         requires may_read { MayReadAt
             (chunk_call false P.step P.is_terminated B.limit input.bytes.now)
-            (P.value_of performer.old) (Text Nothing) self.old from }
+            (P.value_of performer.old) (Text Empty) self.old from }
         ensures advances { Advances ⊥
             (chunk_call false P.step P.is_terminated B.limit input.entry.bytes.now)
             (P.value_of performer.old) (P.value_of performer.new) from result self.old self.new }
-        ensures moves { MovesWithin 5 0 input.entry.bytes.now from result self.old self.new
-            reader.old reader.new }
+        ensures moves { MovesWithin (per_byte 5) (seen 0)
+            input.entry.bytes.now from result self.old self.new reader.old reader.new }
     {
         let mut position = from;
         let mut prefix = input.up_to((from + SHORT_TEXT).min(input.len()));
@@ -227,17 +235,17 @@ impl<B: Buffer> Machine<B> {
             if position < prefix.len() {
                 byte = reader.byte_at(prefix, position);
             } else if position < input.len() {
-                prefix = input.up_to(reader.search_text::<false>(input, from, position));
+                prefix = input.up_to(reader.find_text_part_end::<false>(input, from, position));
                 byte = reader.byte_at(input, position);
             } else {
                 return position;
             }
         }
-        self.read_sequence::<P, G, false>(reader, performer, input, position)
+        self.read_from_escape::<P, G, false>(reader, performer, input, position)
     }
 
-    /// Reads what a byte of text begins, which was looked at: a character, a malformed sequence or
-    /// a control. Returns where it ends, or nothing if the byte is ESC, which is left unread.
+    /// Reads the character, malformed sequence or control that begins with a byte of text. Returns
+    /// its end, or `None` if the byte is ESC, which is left unread.
     #[inline(always)]
     fn read_byte_of_text<P: CountedPerform<G>, G: Granularity>(
         &mut self,
@@ -247,21 +255,21 @@ impl<B: Buffer> Machine<B> {
         from: usize,
         first: u8,
     ) -> Option<usize>
-        requires singly { G.IN_RUNS ≡ false }
+        requires by_character { G.IN_RUNS ≡ false }
         requires may_read { MayReadByte
             (chunk_call false P.step P.is_terminated B.limit input.bytes.now)
-            (P.value_of performer.old) (Text Nothing) self.old from first }
+            (P.value_of performer.old) (Text Empty) self.old from first }
         ensures escape { result ≡ None → first ≡ 0x1b }
         ensures unread { result ≡ None → (self.new ≡ self.old)
             × (P.value_of performer.new ≡ P.value_of performer.old)
-            × (looked reader.new ≡ looked reader.old) }
+            × (looks_of reader.new ≡ looks_of reader.old) }
         ensures advances { IfSome result (λ end. Advances ⊥
             (chunk_call false P.step P.is_terminated B.limit input.entry.bytes.now)
             (P.value_of performer.old) (P.value_of performer.new) from end self.old self.new) }
         ensures text { IfSome result (λ end. end < length input.entry.bytes.now
-            → self.new.state ≡ Text Nothing) }
-        ensures moves { IfSome result (λ end. MovesWithin 3 1 input.entry.bytes.now from end
-            self.old self.new reader.old reader.new) }
+            → self.new.state ≡ Text Empty) }
+        ensures moves { IfSome result (λ end. MovesWithin (per_byte 3) (seen 1)
+            input.entry.bytes.now from end self.old self.new reader.old reader.new) }
     {
         if is_printed_ascii(first) {
             performer.print_char(reader, char::from(first));
@@ -279,8 +287,8 @@ impl<B: Buffer> Machine<B> {
         Some(from + 1)
     }
 
-    /// Reads what begins with a lead byte, which was looked at, for a performer that takes runs: a
-    /// run, a character or a malformed sequence.
+    /// Reads the run, character or malformed sequence that begins with a lead byte, for a performer
+    /// that takes runs.
     #[inline(always)]
     // cargo: #[allow(unsafe_code)]
     fn read_run_at_lead<P: CountedPerform<G>, G: Granularity, const MAY_STOP: bool>(
@@ -294,16 +302,16 @@ impl<B: Buffer> Machine<B> {
         requires in_runs { G.IN_RUNS ≡ true }
         requires may_read { MayReadByte
             (chunk_call MAY_STOP P.step P.is_terminated B.limit input.bytes.now)
-            (P.value_of performer.old) (Text Nothing) self.old from first }
+            (P.value_of performer.old) (Text Empty) self.old from first }
         requires lead { 0xc2 ≤ first }
         requires fits { first < 0xf5 }
         requires no_stop { MAY_STOP ≡ true → NoCharacterStops P.layout P.step P.is_terminated }
         ensures advances { Advances ⊥
             (chunk_call MAY_STOP P.step P.is_terminated B.limit input.entry.bytes.now)
             (P.value_of performer.old) (P.value_of performer.new) from result self.old self.new }
-        ensures text { result < length input.entry.bytes.now → self.new.state ≡ Text Nothing }
-        ensures moves { MovesWithin 5 1 input.entry.bytes.now from result self.old self.new
-            reader.old reader.new }
+        ensures text { result < length input.entry.bytes.now → self.new.state ≡ Text Empty }
+        ensures moves { MovesWithin (per_byte 5) (seen 1)
+            input.entry.bytes.now from result self.old self.new reader.old reader.new }
     {
         let end = reader.find_run_end_at_lead(performer, input, from, first);
         if end > from {

@@ -1,7 +1,7 @@
 //! Runs of text and data in the input, for callers that take them from there.
 ghost use Rattle.std.specs.Prelude.{false, IfErr, IfOk, List, Some, true, ℕ, ⊤, ◌*◌, ◌+◌, ◌≤◌};
 ghost use Rattle.vte_core.specs.Parser.{HasRead};
-ghost use Rattle.vte_core.specs.private.Prelude.{Advances, chunk_call, ComesToRun, Costs, counted, HasNoRunAt, HasReadWithLimit, looked, MayReadAt, MovesWithin, Nothing, read_before_range, read_through_range, ReadsUntilRefused, ReportsOutsideRuns, Text};
+ghost use Rattle.vte_core.specs.private.Prelude.{Advances, chunk_call, ComesToRun, Costs, Empty, HasNoRunAt, HasReadWithLimit, looks_of, MayReadAt, MovesWithin, per_byte, read_before_range, read_through_range, ReadsUntilRefused, ReportsOutsideRuns, seen, Text, total_looks};
 
 use crate::buffer::Buffer;
 use crate::class::ESCAPE;
@@ -22,8 +22,10 @@ impl<const OSC_RAW_BUF_SIZE: usize> Parser<OSC_RAW_BUF_SIZE> {
             self.new.machine }
         ensures outside_runs { (stream : List ℕ) → HasRead self.old stream
             → ReportsOutsideRuns (Some OSC_RAW_BUF_SIZE) stream chunk.entry.bytes.now result.start }
-        ensures count { counted self.new.looks ≤ counted self.old.looks + 7 * result.end + 8 }
-        ensures at_least { counted self.old.looks + result.end ≤ counted self.new.looks }
+        ensures looks_at_most { total_looks self.new.looks
+            ≤ total_looks self.old.looks + 7 * result.end + 8 }
+        ensures looks_at_least { total_looks self.old.looks + result.end
+            ≤ total_looks self.new.looks }
     {
         let (mut reader, input) = chunk.into_reader();
         let result = self.machine.drive_to_run(&mut reader, performer, input);
@@ -37,8 +39,8 @@ impl<const OSC_RAW_BUF_SIZE: usize> Parser<OSC_RAW_BUF_SIZE> {
 }
 
 impl<B: Buffer> Machine<B> {
-    /// Reads bytes up to a run, and finds the run. The state stays that of the run: its bytes
-    /// lead back to it.
+    /// Reads bytes up to a run, and finds the run. The state stays as it is before the run, because
+    /// the bytes of the run lead back to it.
     pub(crate) fn drive_to_run<P: CountedPerform<ByCharacter>>(
         &mut self,
         reader: &mut Reader,
@@ -53,9 +55,9 @@ impl<B: Buffer> Machine<B> {
             (λ refused. ReadsUntilRefused
             (chunk_call true P.step P.is_terminated B.limit input.entry.bytes.now)
             (P.value_of performer.old) (P.value_of performer.new) refused.read self.old self.new) }
-        ensures costs { Costs 7 input.entry.bytes.now result
+        ensures costs { Costs (per_byte 7) input.entry.bytes.now result
             (read_through_range result) self.old self.new
-            (looked reader.old) (looked reader.new) }
+            (looks_of reader.old) (looks_of reader.new) }
         ensures outside_runs { (stream : List ℕ) → HasReadWithLimit B.limit self.old stream
             → ReportsOutsideRuns B.limit stream input.entry.bytes.now (read_before_range result) }
     {
@@ -71,7 +73,7 @@ impl<B: Buffer> Machine<B> {
                             kind: RunKind::Text,
                         });
                     }
-                    self.read_unprinted(reader, performer, input, position)
+                    self.read_outside_runs(reader, performer, input, position)
                 }
                 State::DeviceData => {
                     let end = reader.find_device_data_end(input, position);
@@ -95,9 +97,10 @@ impl<B: Buffer> Machine<B> {
         Ok(RunRange::empty(position))
     }
 
-    /// Reads text at which no run begins: what a lead byte begins, or controls and malformed bytes
-    /// up to the next lead byte or printed ASCII, and an escape sequence that follows them.
-    fn read_unprinted<P: CountedPerform<ByCharacter>>(
+    /// Reads text at a position where no run begins: the character or malformed sequence of a lead
+    /// byte, or controls and malformed bytes up to the next lead byte or printed ASCII, and an
+    /// escape sequence that follows them.
+    fn read_outside_runs<P: CountedPerform<ByCharacter>>(
         &mut self,
         reader: &mut Reader,
         performer: &mut P,
@@ -106,15 +109,16 @@ impl<B: Buffer> Machine<B> {
     ) -> usize
         requires may_read { MayReadAt
             (chunk_call true P.step P.is_terminated B.limit input.bytes.now)
-            (P.value_of performer.old) (Text Nothing) self.old from }
-        requires other { HasNoRunAt false input.bytes.now from }
+            (P.value_of performer.old) (Text Empty) self.old from }
+        requires no_run { HasNoRunAt false input.bytes.now from }
         ensures advances { Advances ⊤
             (chunk_call true P.step P.is_terminated B.limit input.entry.bytes.now)
             (P.value_of performer.old) (P.value_of performer.new) from result self.old self.new }
-        ensures moves { MovesWithin 7 0 input.entry.bytes.now from result self.old self.new
-            reader.old reader.new }
+        ensures moves { MovesWithin (per_byte 7) (seen 0)
+            input.entry.bytes.now from result self.old self.new reader.old reader.new }
         // Four are left of 7 per byte, for a search that found no run.
-        ensures spare { looked reader.new + 7 * from + 4 ≤ looked reader.old + 7 * result }
+        ensures looks_at_most { looks_of reader.new + 7 * from + 4
+            ≤ looks_of reader.old + 7 * result }
     {
         let mut position = from;
         let mut byte = reader.byte_at(input, from);
@@ -134,6 +138,6 @@ impl<B: Buffer> Machine<B> {
                 return position;
             }
         }
-        self.read_sequence::<P, ByCharacter, true>(reader, performer, input, position)
+        self.read_from_escape::<P, ByCharacter, true>(reader, performer, input, position)
     }
 }

@@ -33,7 +33,7 @@ impl<const OSC_RAW_BUF_SIZE: usize> Parser<OSC_RAW_BUF_SIZE> {
     /// Reads bytes until the performer is terminated, and returns how many were read.
     ///
     /// A character that an earlier call began is finished first. Then the performer is asked, and
-    /// again after each character, malformed sequence or byte that was reported. Where nothing is
+    /// again after each character, malformed sequence or byte that was reported. While nothing is
     /// reported, many bytes may be read between two questions. An unfinished character at the end
     /// of the bytes counts as read.
     #[must_use = "the bytes after the stop are still to be read"]
@@ -45,8 +45,8 @@ impl<const OSC_RAW_BUF_SIZE: usize> Parser<OSC_RAW_BUF_SIZE> {
     }
 
     /// Reads bytes as [`advance_until_terminated`](Self::advance_until_terminated) does, and passes
-    /// characters to print in [runs](crate::PerformText). Only for performers that nothing in a run
-    /// terminates: they aren't asked there.
+    /// characters to print in [runs](crate::PerformText). No character of a run may terminate the
+    /// performer, which isn't asked inside a run.
     // cargo: #[cfg(any(feature = "__own", feature = "ansi"))]
     // cargo instead: pub(crate) fn advance_text_until_terminated<P: PerformText>(
     pub fn advance_text_until_terminated<P: PerformThroughText>(
@@ -60,12 +60,12 @@ impl<const OSC_RAW_BUF_SIZE: usize> Parser<OSC_RAW_BUF_SIZE> {
         self.drive::<P, InRuns, true>(performer, Chunk::new(bytes))
     }
 
-    /// Reads bytes up to a run of text, or of data of a device control string, and the run itself,
-    /// which it returns instead of performing it.
+    /// Reads bytes up to and including a run of text, or of the data of a device control string.
+    /// Returns the run instead of performing it.
     ///
-    /// Text comes in two ways: by the returned run, and by [`print`](Perform::print) a character
-    /// that was divided between two calls, and U+FFFD for malformed bytes. A performer without
-    /// `print` loses these.
+    /// Most text comes in the returned runs. A character that was divided between two calls, and
+    /// U+FFFD for malformed bytes, come by [`print`](Perform::print), and a performer whose `print`
+    /// does nothing loses them.
     ///
     /// A caller can take text from its own input in this way, with its position and without a copy.
     ///
@@ -77,11 +77,11 @@ impl<const OSC_RAW_BUF_SIZE: usize> Parser<OSC_RAW_BUF_SIZE> {
     /// parser.advance(&mut performer, &bytes[run.end..]); // performs CR and LF
     /// ```
     ///
-    /// A run begins where nothing is open and a character is in the bytes that is printed as it
-    /// is, or at a data byte that is put. It ends before the first control, malformed sequence,
-    /// unfinished character or byte that isn't put. What an earlier call began is performed.
-    /// Without a run the call ends with the bytes, or if the performer is terminated, which is
-    /// asked as by [`advance_until_terminated`](Self::advance_until_terminated).
+    /// A run begins at a whole character that is printed as it is, if nothing is open before it, or
+    /// at a data byte that is put. It ends before the first control, malformed sequence, unfinished
+    /// character or byte that isn't put. What an earlier call began is performed. Without a run,
+    /// the call ends with the bytes, or when the performer is terminated. It is asked as by
+    /// [`advance_until_terminated`](Self::advance_until_terminated).
     #[must_use = "the bytes after the run are still to be read"]
     // cargo: #[allow(unsafe_code)]
     pub fn advance_to_run<'a, P: Perform>(&mut self, performer: &mut P, bytes: &'a [u8]) -> Run<'a>

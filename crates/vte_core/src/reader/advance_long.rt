@@ -6,6 +6,7 @@ ghost use Rattle.vte_core.specs.AdvanceToRun.{ReadsToRun};
 ghost use Rattle.vte_core.specs.LongParser.{HasReadLong};
 ghost use Rattle.vte_core.specs.LongParserCalls.{ReadsLong};
 ghost use Rattle.vte_core.specs.OutsideRuns.{ReportsOutsideRuns};
+ghost use Rattle.vte_core.specs.Looks.{per_byte};
 
 use crate::parser::{LongParser, Refused};
 use crate::perform::{Perform, PerformText, PerformThroughText};
@@ -13,10 +14,10 @@ use crate::reader::{ByCharacter, Chunk, InRuns, Run, take_run};
 use std::alloc::Allocator;
 
 impl<A: Allocator> LongParser<A> {
-    /// Reads the next bytes of the stream, and performs the events that they add to it: all of
-    /// them, or as many as there is memory for.
+    /// Reads the next bytes of the stream, all of them or as many as there is memory for, and
+    /// performs the events that they add to it.
     pub fn advance<P: Perform>(&mut self, performer: &mut P, bytes: &[u8]) -> Result<(), Refused>
-        ensures { ReadsLong 5 P.step (λ _. false) (P.value_of performer.old)
+        ensures { ReadsLong (per_byte 5) P.step (λ _. false) (P.value_of performer.old)
             (P.value_of performer.new) bytes.now self.old self.new result
             (λ _. ReadsBytes P.step) }
     {
@@ -32,7 +33,7 @@ impl<A: Allocator> LongParser<A> {
         performer: &mut P,
         bytes: &[u8],
     ) -> Result<(), Refused>
-        ensures { ReadsLong 5 P.step (λ _. false) (P.value_of performer.old)
+        ensures { ReadsLong (per_byte 5) P.step (λ _. false) (P.value_of performer.old)
             (P.value_of performer.new) bytes.now self.old self.new result
             (λ _. ReadsBytes P.step) }
     {
@@ -51,7 +52,7 @@ impl<A: Allocator> LongParser<A> {
         performer: &mut P,
         bytes: &[u8],
     ) -> Result<usize, Refused>
-        ensures { ReadsLong 5 P.step P.is_terminated (P.value_of performer.old)
+        ensures { ReadsLong (per_byte 5) P.step P.is_terminated (P.value_of performer.old)
             (P.value_of performer.new) bytes.now self.old self.new result
             (ReadsUntilTerminated P.step P.is_terminated) }
     {
@@ -59,8 +60,8 @@ impl<A: Allocator> LongParser<A> {
     }
 
     /// Reads bytes as [`advance_until_terminated`](Self::advance_until_terminated) does, and passes
-    /// characters to print in [runs](crate::PerformText). Only for performers that nothing in a run
-    /// terminates: they aren't asked there.
+    /// characters to print in [runs](crate::PerformText). No character of a run may terminate the
+    /// performer, which isn't asked inside a run.
     // cargo: #[cfg(any(feature = "__own", feature = "ansi"))]
     // cargo instead: pub(crate) fn advance_text_until_terminated<P: PerformText>(
     pub fn advance_text_until_terminated<P: PerformThroughText>(
@@ -68,15 +69,15 @@ impl<A: Allocator> LongParser<A> {
         performer: &mut P,
         bytes: &[u8],
     ) -> Result<usize, Refused>
-        ensures { ReadsLong 5 P.step P.is_terminated (P.value_of performer.old)
+        ensures { ReadsLong (per_byte 5) P.step P.is_terminated (P.value_of performer.old)
             (P.value_of performer.new) bytes.now self.old self.new result
             (ReadsUntilTerminated P.step P.is_terminated) }
     {
         self.drive::<P, InRuns, true>(performer, Chunk::new(bytes))
     }
 
-    /// Reads bytes up to a run of text, or of data of a device control string, and the run itself,
-    /// which it returns instead of performing it, as
+    /// Reads bytes up to and including a run of text, or of the data of a device control string.
+    /// Returns the run instead of performing it, as
     /// [`Parser::advance_to_run`](crate::Parser::advance_to_run) does.
     // cargo: #[allow(unsafe_code)]
     pub fn advance_to_run<'a, P: Perform>(
@@ -84,7 +85,7 @@ impl<A: Allocator> LongParser<A> {
         performer: &mut P,
         bytes: &'a [u8],
     ) -> Result<Run<'a>, Refused>
-        ensures reads { ReadsLong 7 P.step P.is_terminated (P.value_of performer.old)
+        ensures reads { ReadsLong (per_byte 7) P.step P.is_terminated (P.value_of performer.old)
             (P.value_of performer.new) bytes.now self.old self.new result
             (ReadsToRun P.step P.is_terminated) }
         // Characters and data are left to a run if memory is refused too.

@@ -56,7 +56,7 @@ pub(crate) trait CountedPerform<G: Granularity> {
     /// Reports data bytes of the device control string, and counts each.
     fn put_slice(&mut self, reader: &mut Reader, bytes: &[u8])
         requires in_runs { G.IN_RUNS ≡ true }
-        requires some { 0 < length bytes.now }
+        requires not_empty { 0 < length bytes.now }
         ensures { ReportsAll step (value_of self.old) (value_of self.new) (map Put bytes.now)
             (length bytes.now) reader.old reader.new };
 
@@ -83,7 +83,7 @@ pub(crate) trait CountedPerform<G: Granularity> {
             byte)
             reader.old reader.new };
 
-    /// Returns whether a call that may stop ends here. It takes no look.
+    /// Returns whether a call that may stop ends here. The question takes no look.
     fn terminated(&self) -> bool
         ensures { result ≡ is_terminated (value_of self.now) };
 }

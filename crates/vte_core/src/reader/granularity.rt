@@ -9,7 +9,7 @@ use crate::perform::{Perform, PerformText};
 pub(crate) trait Granularity {
     ghost IN_RUNS: { Bool };
 
-    /// Whether it takes runs.
+    /// Whether text and data come in runs, and not by the character and the byte.
     const IN_RUNS: bool;
 }
 
@@ -60,7 +60,7 @@ pub(crate) trait ReceiveAs<G: Granularity>: Perform {
 
     /// Receives data of a device control string, at least one byte.
     fn put_slice(&mut self, bytes: &[u8])
-        requires some { 0 < length bytes.now }
+        requires not_empty { 0 < length bytes.now }
         ensures { Self.value_of self.new
             ≡ after Self.step (Self.value_of self.old) (map Put bytes.now) };
 }

@@ -1,12 +1,14 @@
-//! The looks of a parser. Only contracts read them: at run time they have no bytes.
+//! The looks of a parser. A look is the load of one byte of a call, or one reported event.
+//!
+//! Only contracts read the counts, which take no space at run time.
 ghost use Rattle.std.specs.Prelude.{◌+◌, ◌≡◌};
-ghost use Rattle.vte_core.specs.private.Prelude.{counted, looked};
+ghost use Rattle.vte_core.specs.private.Prelude.{looks_of, total_looks};
 
 use super::Reader;
 use std::mem;
 use std::snapshot::Snapshot;
 
-/// The looks so far, and how many there were each time.
+/// A number of looks: none, those of a tally and some more, or those of two tallies.
 #[derive(Drop)]
 pub(super) enum Tally {
     Start,
@@ -14,7 +16,7 @@ pub(super) enum Tally {
     Both(Snapshot<Tally>, Snapshot<Tally>),
 }
 
-/// The looks of all calls of a parser. It has no bytes at run time.
+/// The looks of all calls of a parser.
 #[derive(Drop)]
 pub(crate) struct Looks {
     tally: Snapshot<Tally>,
@@ -23,16 +25,16 @@ pub(crate) struct Looks {
 impl Looks {
     /// Creates the count of a parser that has read nothing.
     pub(crate) fn none() -> Self
-        ensures { counted result ≡ 0 }
+        ensures { total_looks result ≡ 0 }
     {
         Looks {
             tally: Snapshot::of(&Tally::Start),
         }
     }
 
-    /// Adds the looks of a call, whose reader ends.
+    /// Adds the looks of a call, whose reader it consumes.
     pub(crate) fn add(&mut self, reader: Reader)
-        ensures { counted self.new ≡ counted self.old + looked reader }
+        ensures { total_looks self.new ≡ total_looks self.old + looks_of reader }
     {
         let Reader { tally } = reader;
         let before = mem::replace(&mut self.tally, Snapshot::of(&Tally::Start));

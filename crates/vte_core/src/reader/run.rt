@@ -24,15 +24,15 @@ pub enum Taken<'a> {
     Nothing,
 }
 
-/// What is at the position of a run.
+/// What a call found where it ends or a run begins.
 #[derive(Clone, Copy)]
 pub(crate) enum RunKind {
     /// Text to print.
     Text,
     /// Data of a device control string.
     Data,
-    /// No run, where a call ends.
-    Nothing,
+    /// No run: the call ends there.
+    NoRun,
 }
 
 /// The position of a run in the bytes of a call.
@@ -44,16 +44,16 @@ pub(crate) struct RunRange {
 }
 
 impl RunRange {
-    /// Creates the position of no run, where a call ends.
+    /// Creates the empty range of a call that found no run, at the end of what it read.
     pub(crate) fn empty(end: usize) -> Self
         ensures start { result.start ≡ end }
         ensures end { result.end ≡ end }
-        ensures kind { result.kind ≡ RunKind.Nothing }
+        ensures kind { result.kind ≡ RunKind.NoRun }
     {
         RunRange {
             start: end,
             end,
-            kind: RunKind::Nothing,
+            kind: RunKind::NoRun,
         }
     }
 }

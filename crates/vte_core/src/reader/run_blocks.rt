@@ -1,30 +1,32 @@
 //! Long runs, by blocks.
 //!
-//! Whether a byte fits depends on the three before it alone. So no test waits for another, and
-//! compilers make vector instructions of a block's tests, if they have no `&&` and `||`. But the
-//! block in which a run ends is wasted, so only long runs come here.
+//! Whether a byte fits depends only on the three bytes before it. So no test waits for another, and
+//! compilers turn the tests of a block into vector instructions if they have no `&&` and `||`. But
+//! the block in which a run ends is read in vain, so only long runs come here.
 ghost use Rattle.std.specs.Prelude.{length, slice_index, true, ℕ, ◌*◌, ◌+◌, ◌-◌, ◌<◌, ◌≡◌, ◌≤◌};
-ghost use Rattle.vte_core.specs.private.Automaton.{Follows, FollowsAt, open_count, StaysBetween};
-ghost use Rattle.vte_core.specs.private.Prelude.{Each, IsRun, looked, Scans};
+ghost use Rattle.vte_core.specs.private.Automaton.{Follows, FollowsAt, open_count, StaysBetweenCharacters};
+ghost use Rattle.vte_core.specs.private.Prelude.{Each, IsRun, looks_of, Scans};
 
 use crate::class::is_layout;
 use crate::reader::{Input, Reader, Window};
 use crate::utf8::{is_continuation, is_printed_ascii};
 
-/// The blocks of ASCII, one after another, after which larger ones are tried: in text with a few
-/// other characters they would mostly be wasted. Without line ends, ASCII is read by words before.
+/// How many blocks in a row must be ASCII before larger blocks are tried. In text with a few other
+/// characters, most larger blocks would be read in vain. ASCII without line ends has been read by
+/// words.
 const ASCII_BLOCKS: usize = 4;
 
 impl Reader {
-    /// Skips blocks of a run, and returns where the last character ended. With `layout`, the run
-    /// may hold HT, LF and CR. A block with a byte that fits nowhere, or with another control, is
-    /// wasted.
+    /// Skips blocks of a run, and returns the end of the last whole character in them. With
+    /// `layout`, the run may hold HT, LF and CR. A block with a byte that doesn't fit, or with
+    /// another control, isn't skipped.
     #[inline(never)]
     pub(crate) fn skip_run_blocks(&mut self, input: Input<'_>, from: usize, layout: bool) -> usize
-        requires before { 3 ≤ from }
+        requires has_three_before { 3 ≤ from }
         requires within { from ≤ length input.bytes.now }
         ensures scans { Scans (IsRun layout) input.entry.bytes.now from result self.old self.new }
-        ensures count { 3 * looked self.new + 11 * from ≤ 3 * looked self.old + 11 * result + 66 }
+        ensures looks_at_most { 3 * looks_of self.new + 11 * from
+            ≤ 3 * looks_of self.old + 11 * result + 66 }
     {
         if self.count_open_bytes(input, from) > 0 {
             return from;
@@ -57,17 +59,17 @@ impl Reader {
     /// Skips blocks of printed ASCII, HT, LF and CR from a position on, if no character is open.
     #[inline(always)]
     fn skip_ascii_blocks(&mut self, input: Input<'_>, from: usize) -> usize
-        requires before { 3 ≤ from }
+        requires has_three_before { 3 ≤ from }
         requires within { from ≤ length input.bytes.now }
         ensures low { from ≤ result }
         ensures high { result ≤ length input.entry.bytes.now }
-        ensures closed { from < result
+        ensures none_open { from < result
             → open_count (slice_index input.entry.bytes.now (from - 3))
             (slice_index input.entry.bytes.now (from - 2))
             (slice_index input.entry.bytes.now (from - 1)) ≡ 0 }
-        ensures plain { Each StaysBetween input.entry.bytes.now from result }
-        ensures count { looked self.new + from ≤ looked self.old + result + 35 }
-        ensures at_least { looked self.old + result ≤ looked self.new + from }
+        ensures stays_between { Each StaysBetweenCharacters input.entry.bytes.now from result }
+        ensures looks_at_most { looks_of self.new + from ≤ looks_of self.old + result + 35 }
+        ensures looks_at_least { looks_of self.old + result ≤ looks_of self.new + from }
     {
         if self.count_open_bytes(input, from) > 0 {
             return from;
@@ -82,17 +84,17 @@ impl Reader {
         end
     }
 
-    /// Returns how many of the three bytes before a position are those of a character that they
-    /// leave open.
+    /// Returns how many bytes before a position belong to a character that is open there, at most
+    /// three.
     #[inline(always)]
     fn count_open_bytes(&mut self, input: Input<'_>, position: usize) -> usize
-        requires before { 3 ≤ position }
+        requires has_three_before { 3 ≤ position }
         requires within { position ≤ length input.bytes.now }
         ensures value { result ≡ open_count (slice_index input.entry.bytes.now (position - 3))
             (slice_index input.entry.bytes.now (position - 2))
             (slice_index input.entry.bytes.now (position - 1)) }
-        ensures at_most { looked self.new ≤ looked self.old + 3 }
-        ensures at_least { looked self.old ≤ looked self.new }
+        ensures looks_at_most { looks_of self.new ≤ looks_of self.old + 3 }
+        ensures looks_at_least { looks_of self.old ≤ looks_of self.new }
     {
         if self.byte_at(input, position - 1) >= 0xc0 {
             1
@@ -106,7 +108,7 @@ impl Reader {
     }
 }
 
-/// Returns whether 16 bytes are ASCII. It decides only what is tried next.
+/// Returns whether 16 bytes are ASCII. The answer decides only which blocks are tried next.
 #[inline(always)]
 fn is_ascii(block: &[u8; 16]) -> bool {
     let mut all = true;
@@ -119,7 +121,7 @@ fn is_ascii(block: &[u8; 16]) -> bool {
 /// Returns whether 32 bytes are printed ASCII, HT, LF or CR.
 #[inline(always)]
 fn are_printed_or_layout(block: &[u8; 32]) -> bool
-    ensures { result ≡ true → Each StaysBetween block.now 0 32 }
+    ensures { result ≡ true → Each StaysBetweenCharacters block.now 0 32 }
 {
     let mut all = true;
     for byte in block {
@@ -128,7 +130,7 @@ fn are_printed_or_layout(block: &[u8; 32]) -> bool
     all
 }
 
-/// Returns whether 16 bytes go on with a run, after the three before them.
+/// Returns whether the 16 bytes of a window continue a run, after the three bytes before them.
 #[inline(always)]
 fn continues_run(window: &Window, layout: bool) -> bool
     ensures { result ≡ true → (k : ℕ) → k < 16 → FollowsAt layout window.now k }
@@ -158,8 +160,8 @@ fn may_follow(three_back: u8, two_back: u8, one_back: u8, byte: u8, layout: bool
     let is_open = one_back.saturating_sub(0xbf).max(wanted) > 0;
     let is_unused = (byte == 0xc0) | (byte == 0xc1);
     let is_other = ((byte < 0x20) | (byte >= 0xf5)) & !(is_layout(byte) & layout);
-    // The second bytes of overlong forms, surrogates, numbers past the last character's (Unicode,
-    // table 3-7) and controls.
+    // These exclude the second bytes of overlong forms, surrogates, numbers above U+10FFFF
+    // (Unicode, table 3-7) and controls.
     let is_low = (byte >= 0x80) & (byte < 0xa0);
     let is_lowest = (byte >= 0x80) & (byte < 0x90);
     let is_excluded = (((one_back == 0xe0) | (one_back == 0xc2)) & is_low)

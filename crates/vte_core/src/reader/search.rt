@@ -1,17 +1,17 @@
 //! Searches for the byte that ends data, a text or a string.
 //!
-//! Ignored strings may hold megabytes, so blocks are taken. No block is tried before a string has
-//! begun with single bytes, so that no byte is read often.
+//! Ignored strings may hold megabytes, so they are searched by blocks. Their first bytes are read
+//! one by one before any block is tried, so that no byte is read often.
 ghost use Rattle.std.specs.Prelude.{IsTrue, length, min, slice_index, true, ℕ, ◌*◌, ◌+◌, ◌<◌, ◌≡◌, ◌≢◌, ◌≤◌};
-ghost use Rattle.vte_core.specs.private.Prelude.{AreIgnored, class_of, ends_body, FindsEnd, IsCommandData, IsDeviceData, IsRange, looked, Scans};
+ghost use Rattle.vte_core.specs.private.Prelude.{AreIgnored, ArePositions, class_of, ends_sequence, FindsEnd, IsCommandData, IsDeviceData, looks_of, Scans};
 
-use crate::class::{ESCAPE, cannot_end, ends_body, is_command_data, is_device_data};
+use crate::class::{ESCAPE, cannot_end, ends_sequence, is_command_data, is_device_data};
 use crate::reader::{Input, Reader};
 use memchr::memchr;
 
 impl Reader {
-    /// Finds where the data bytes of an operating system command end that start at a position:
-    /// before `;` or a control, or with the input.
+    /// Returns the end of the data of an operating system command that starts at `from`: the
+    /// position of the next `;` or control, or the length of the input.
     pub(crate) fn find_command_data_end(&mut self, input: Input<'_>, from: usize) -> usize
         requires { from ≤ length input.bytes.now }
         ensures { FindsEnd IsCommandData input.entry.bytes.now from result self.old self.new }
@@ -24,8 +24,8 @@ impl Reader {
         end
     }
 
-    /// Finds where the data of a device control string end that start at a position: before a byte
-    /// that isn't put, or with the input.
+    /// Returns the end of the data of a device control string that starts at `from`: the position
+    /// of the next byte that isn't put, or the length of the input.
     pub(crate) fn find_device_data_end(&mut self, input: Input<'_>, from: usize) -> usize
         requires { from ≤ length input.bytes.now }
         ensures { FindsEnd IsDeviceData input.entry.bytes.now from result self.old self.new }
@@ -57,42 +57,43 @@ impl Reader {
         }
     }
 
-    /// Returns where the part of a text ends that is read next: after the next ESC, or where the
-    /// search for it ended.
+    /// Returns the end of the bytes of a text that are read next: the position after the next ESC,
+    /// or the end of the search if it found none.
     // inlined, it would make the loop over bytes longer
     // cargo: #[inline(never)]
-    pub(crate) fn search_text<const MAY_STOP: bool>(
+    pub(crate) fn find_text_part_end<const MAY_STOP: bool>(
         &mut self,
         input: Input<'_>,
+        text_start: usize,
         from: usize,
-        at: usize,
     ) -> usize
-        requires in_order { from < at }
-        requires within { at < length input.bytes.now }
-        ensures progress { at < result }
+        requires in_order { text_start < from }
+        requires within { from < length input.bytes.now }
+        ensures progress { from < result }
         ensures high { result ≤ length input.entry.bytes.now }
-        ensures first { (k : ℕ) → at ≤ k → k + 1 < result
+        ensures no_escape { (k : ℕ) → from ≤ k → k + 1 < result
             → slice_index input.entry.bytes.now k ≢ 0x1b }
-        ensures count { looked self.new + at ≡ looked self.old + result }
-        ensures near { MAY_STOP ≡ true → result + from ≤ at + at }
+        ensures looks { looks_of self.new + from ≡ looks_of self.old + result }
+        ensures unread_at_most_read { MAY_STOP ≡ true → result + text_start ≤ from + from }
     {
         let to = if MAY_STOP {
-            // A stop leaves bytes unread that were searched: no more than were read.
-            at + (at - from).min(input.len() - at)
+            // After a stop, searched bytes may be unread, so no more are searched than were read.
+            from + (from - text_start).min(input.len() - from)
         } else {
             input.len()
         };
-        let escape = self.find_escape(input.up_to(to), at);
+        let escape = self.find_escape(input.up_to(to), from);
         escape + usize::from(escape < to)
     }
 
-    /// Finds the CAN, SUB or ESC that ends an ignored string, from a position on.
-    pub(crate) fn find_string_end(&mut self, input: Input<'_>, from: usize) -> usize
+    /// Returns the position of the CAN, SUB or ESC that ends an ignored string, or the length of
+    /// the input if it has none from `from` on.
+    pub(crate) fn find_ignored_string_end(&mut self, input: Input<'_>, from: usize) -> usize
         requires { from ≤ length input.bytes.now }
         ensures scans { Scans AreIgnored input.entry.bytes.now from result self.old self.new }
         ensures ended { result < length input.entry.bytes.now
-            → ends_body (class_of (slice_index input.entry.bytes.now result)) ≡ true }
-        ensures count { looked self.new + 4 * from ≤ looked self.old + 4 * result + 1 }
+            → ends_sequence (class_of (slice_index input.entry.bytes.now result)) ≡ true }
+        ensures looks_at_most { looks_of self.new + 4 * from ≤ looks_of self.old + 4 * result + 1 }
     {
         let near = input.len().min(from + 8);
         let mut end = self.find_ending_byte(input, from, near);
@@ -108,19 +109,20 @@ impl Reader {
         self.find_ending_byte(input, end, input.len())
     }
 
-    /// Finds the first CAN, SUB or ESC from one position up to another.
+    /// Returns the position of the first CAN, SUB or ESC from `from` on, or `to` if there is none
+    /// before it.
     #[inline(always)]
     fn find_ending_byte(&mut self, input: Input<'_>, from: usize, to: usize) -> usize
-        requires range { IsRange input.bytes.now from to }
+        requires range { ArePositions input.bytes.now from to }
         ensures low { from ≤ result }
         ensures high { result ≤ to }
         ensures ignored { AreIgnored input.entry.bytes.now from result }
         ensures ended { result < to
-            → ends_body (class_of (slice_index input.entry.bytes.now result)) ≡ true }
-        ensures count { looked self.new + from ≡ looked self.old + min (result + 1) to }
+            → ends_sequence (class_of (slice_index input.entry.bytes.now result)) ≡ true }
+        ensures looks { looks_of self.new + from ≡ looks_of self.old + min (result + 1) to }
     {
         for end in from..to {
-            if ends_body(self.byte_at(input, end)) {
+            if ends_sequence(self.byte_at(input, end)) {
                 return end;
             }
         }

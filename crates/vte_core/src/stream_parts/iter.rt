@@ -59,7 +59,7 @@ impl<'a> FusedIterator for Parts<'a> {}
 
 /// Returns the position of the first ESC from a position on, or the length if there is none.
 fn find_escape(stream: &[u8], from: usize) -> usize
-    ensures first { result ≡ next_escape from stream.now }
+    ensures value { result ≡ next_escape from stream.now }
     ensures within { result ≤ length stream.now }
 {
     let from = from.min(stream.len());

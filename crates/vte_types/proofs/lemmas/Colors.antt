@@ -72,8 +72,8 @@ bright_of-dim DimForeground other = cc
 bright_of-dim color other = refl
 
 -- Each number has its colour.
-color_rows : List (Row NamedColor)
-color_rows =
+color_table : List (Row NamedColor)
+color_table =
     (0, Black) ∷ (1, Red) ∷ (2, Green) ∷ (3, Yellow) ∷ (4, Blue) ∷ (5, Magenta) ∷ (6, Cyan) ∷ (7, White)
     ∷ (8, BrightBlack) ∷
     (9, BrightRed) ∷ (10, BrightGreen) ∷ (11, BrightYellow) ∷ (12, BrightBlue) ∷ (13, BrightMagenta) ∷ (14, BrightCyan)
@@ -82,11 +82,11 @@ color_rows =
     ∷ (262, DimYellow) ∷ (263, DimBlue) ∷
     (264, DimMagenta) ∷ (265, DimCyan) ∷ (266, DimWhite) ∷ (267, BrightForeground) ∷ (268, DimForeground) ∷ []
 
-row_of : (color : NamedColor) → entry_of color_rows (number_of_color color) ≡ Some color
-unfolding number_of_color color_rows
+row_of : (color : NamedColor) → entry_of color_table (number_of_color color) ≡ Some color
+unfolding number_of_color color_table
 row_of Black = refl
 row_of color = refl
 
 pub number_decides : (a b : NamedColor) → number_of_color a ≡ number_of_color b → a ≡ b
 number_decides a b same_number =
-    let row_a = row_of a in let row_b = row_of b in let same_row = ap (entry_of color_rows) same_number in cc
+    let row_a = row_of a in let row_b = row_of b in let same_row = ap (entry_of color_table) same_number in cc

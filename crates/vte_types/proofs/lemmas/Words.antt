@@ -53,19 +53,19 @@ after_word-is word text (Some rest) text_is = sym (ap (after_word word) text_is 
 -- ---- a table of words
 
 -- A table in code has references to its words, and one in a definition has the words.
-abbrev pub rows_of : {A : Type 0} → List (Bor (List ℕ) × A) → List (List ℕ × A)
-rows_of rows = map (λ row. (row.0.now, row.1)) rows
+abbrev pub table_of : {A : Type 0} → List (Bor (List ℕ) × A) → List (List ℕ × A)
+table_of rows = map (λ row. (row.0.now, row.1)) rows
 
 -- From a row on, a text has that row's entry, or the one that it has from the next row on.
 pub entry-from_row : {A : Type 0} (rows : List (Bor (List ℕ) × A)) (i : ℕ) (d : Bor (List ℕ) × A) (text : List ℕ)
     (t : Bool) → i < length rows → t ≡ bytes_eq text (get_or rows i d).0.now
-    → entry_of_word (rows_of (drop i rows)) text
-    ≡ cond t (Some (get_or rows i d).1) (entry_of_word (rows_of (drop (i + 1) rows)) text)
+    → entry_of_word (table_of (drop i rows)) text
+    ≡ cond t (Some (get_or rows i d).1) (entry_of_word (table_of (drop (i + 1) rows)) text)
 entry-from_row rows i d text t within test =
     let next : suc i ≡ i + 1 = omega arith in
-    ap (λ rows. entry_of_word (rows_of rows) text)
+    ap (λ rows. entry_of_word (table_of rows) text)
     (drop-cons rows i d within ∙ ap (λ n. get_or rows i d ∷ drop n rows) next)
-    ∙ ap (λ t. cond t (Some (get_or rows i d).1) (entry_of_word (rows_of (drop (i + 1) rows)) text))
+    ∙ ap (λ t. cond t (Some (get_or rows i d).1) (entry_of_word (table_of (drop (i + 1) rows)) text))
     (sym test)
 
 -- ---- keywords

@@ -8,7 +8,7 @@ use super::Rgb;
 use std::fmt;
 use std::str::FromStr;
 
-/// Writes `#` and two lowercase hex digits per part.
+/// Writes `#` and two lowercase hex digits per component.
 impl fmt::Display for Rgb {
     ghost output = { λ color. Some (shown_color color) };
 
@@ -41,7 +41,7 @@ fn strip_word<'a>(text: &'a [u8], word: &[u8]) -> Option<&'a [u8]>
     text.strip_prefix(word)
 }
 
-/// Returns the colour of six hex digits, two per part.
+/// Returns the colour of six hex digits, two per component.
 fn six_digits(digits: &[u8]) -> Option<Rgb>
     ensures { result ≡ color_of_six digits.now }
 {

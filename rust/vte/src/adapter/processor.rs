@@ -44,9 +44,9 @@ macro_rules! processor {
                 self.0.sync_bytes_count()
             }
 
-            /// Returns whether the operating system command that is open lost data bytes, or if
-            /// none is open, the last one: those after the 16th piece, and if there is a limit
-            /// those after it. Bytes that are held back don't count.
+            /// Returns whether the open operating system command has lost data bytes, or the last
+            /// one if none is open. It loses those after the 16th piece, and those after the limit
+            /// if there is one. Bytes that are held back don't count.
             pub fn command_lost_data(&self) -> bool {
                 self.0.command_lost_data()
             }

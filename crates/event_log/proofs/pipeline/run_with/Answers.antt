@@ -1,6 +1,6 @@
 -- All that was read is written (`HasReadPart`), so a run that ends has written the text of a prefix of the input, or of
 -- all of it (`Progress`).
-use Rattle.event_log.proofs.Common.{arith, Err, false, inl, inr, is_err, length, length-take-le, Ok, OnOk, refl, Result, sym, take, usual_limit, ◌<◌, ◌∙◌, ◌≡◌}
+use Rattle.event_log.proofs.Common.{arith, default_limit, Err, false, inl, inr, is_err, length, length-take-le, Ok, OnOk, refl, Result, sym, take, ◌<◌, ◌∙◌, ◌≡◌}
 use Rattle.event_log.proofs.lemmas.Progress.{run-begins, run-reads_more, run_ends-at_prefix, run_ends-with_all}
 use Rattle.event_log.proofs.pipeline.run_with.Goals as goal
 
@@ -12,11 +12,11 @@ ok-without_error (Err error) works holds = absurd (let impossible : ⊥ = cc in 
 -- Before the first read, nothing was read.
 pub loop-init : goal.loop-init
 loop-init g c = record {
-  reads = record { since = _; parsed = c.new-parser.ensures };
-  empty = c.requires.empty;
+  reads = record { already_read = _; parsed = c.new-parser.ensures };
+  empty = c.requires.holds_nothing;
   reads_part =
       λ input held input_known held_known.
-      run-begins (c.empty_stream.ensures usual_limit) input_known held_known c.new-parser.ensures;
+      run-begins (c.empty_stream.ensures default_limit) input_known held_known c.new-parser.ensures;
 }
 
 -- A read has failed.
@@ -29,8 +29,8 @@ returns-in_default-clause-texts g c = λ input held input_known held_known.
 pub returns-then-count-eq0-clause-texts : goal.returns-then-count-eq0-clause-texts
 returns-then-count-eq0-clause-texts g c = λ input held input_known held_known.
     let none_read = rw c.if-count-eq0.true at c.in-Ok.ensures.moves in
-    let none_to_come = c.in-Ok.ensures.end c.if-count-eq0.true (omega arith) in
-    run_ends-with_all (c.loop.invariant.reads_part input held input_known held_known) none_read none_to_come
+    let none_remaining = c.in-Ok.ensures.end c.if-count-eq0.true (omega arith) in
+    run_ends-with_all (c.loop.invariant.reads_part input held input_known held_known) none_read none_remaining
 
 -- A chunk was read, and is written.
 pub loop-preserved : goal.loop-preserved

@@ -1,14 +1,14 @@
 -- After this many reads all that was read is written (`HasReadPart`), and the collector is empty.
-use Rattle.event_log.proofs.Common.{empty_record, HasReadSome, List, Some, ℕ, ◌≡◌}
+use Rattle.event_log.proofs.Common.{empty_text, HasReadSome, List, Some, ℕ, ◌≡◌}
 use Rattle.event_log.proofs.lemmas.Progress.{HasReadPart}
 use Rattle.event_log.proofs.pipeline.run_with.Given as goal
 
 abbrev pub invariant-loop : goal.invariant-loop
 invariant-loop g l = record {
   reads : HasReadSome l.parser;
-  empty : g.C.Collector.record_of l.collector ≡ empty_record;
-  reads_part : (input held : List ℕ) → g.R.Source.to_come l.fn.reader ≡ Some input
-      → g.W.Sink.taken l.fn.writer ≡ Some held →
-      HasReadPart g.C.Collector.text_of input held l.counter l.parser (g.R.Source.to_come l.reader)
-      (g.W.Sink.taken l.writer);
+  empty : g.C.Collector.held_text_of l.collector ≡ empty_text;
+  reads_part : (input held : List ℕ) → g.R.Source.remaining l.fn.reader ≡ Some input
+      → g.W.Sink.contents l.fn.writer ≡ Some held →
+      HasReadPart g.C.Collector.text_of input held l.counter l.parser (g.R.Source.remaining l.reader)
+      (g.W.Sink.contents l.writer);
 }

@@ -7,7 +7,7 @@ use Rattle.event_log.proofs.pipeline.write_chunk.Goals as goal
 pub loop-unread-init : goal.loop-unread-init
 loop-unread-init g c = record {
   reads = c.requires.parsed;
-  empty = c.requires.empty;
+  empty = c.requires.holds_nothing;
   written = λ whole_text has_written. written-before_chunk c.args.chunk.now has_written;
 }
 

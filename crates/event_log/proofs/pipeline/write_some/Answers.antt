@@ -1,12 +1,12 @@
 -- What the collector collected is appended to what was written (`written-more`).
-use Rattle.event_log.proofs.lemmas.Records.{adds_up-at_first}
+use Rattle.event_log.proofs.lemmas.HeldTexts.{adds_up-at_first}
 use Rattle.event_log.proofs.lemmas.Progress.{written-more}
 use Rattle.event_log.proofs.pipeline.write_some.Goals as goal
 
 pub returns-clause-reads : goal.returns-clause-reads
 returns-clause-reads g c =
     let adds_up = (c.collect-unread.ensures.collects _ (adds_up-at_first c.requires.parsed c.args.bytes.now)).adds_up in
-    record { since = adds_up.since; parsed = adds_up.parsed }
+    record { already_read = adds_up.already_read; parsed = adds_up.parsed }
 
 pub returns-clause-writes : goal.returns-clause-writes
 returns-clause-writes g c = λ whole_text has_written.

@@ -18,6 +18,6 @@ pub returns-in-Ok : goal.returns-in-Ok
 returns-in-Ok c =
     let input =
     tells (is_some c.new-2.result.error) c.new-2.result.inner c.args.stream
-    c.new-2.ensures.works c.new-2.ensures.same in
+    c.new-2.ensures.not_failed c.new-2.ensures.inner_is in
     are_told c.run.new.writer.refused c.run.new.writer.bytes.items _
     (c.in-Ok.ensures.lines c.args.stream.now [] input (ap (λ items. Some items) c.new.ensures.items)).written

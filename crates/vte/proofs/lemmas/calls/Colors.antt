@@ -30,8 +30,8 @@ module _ {A : Type 0} (number : A → ℕ) where
       → drop 1 (drop 1 (drop 1 left)) ≡ drop (kind_reading 2 (map number left)).used left
   after_blue left red green has_red has_green missing = grind (arith, nat_tests)
 
-pub themselves : (numbers : List ℕ) → map (λ number. number) numbers ≡ numbers
-themselves numbers = map-id numbers
+pub map_identity : (numbers : List ℕ) → map (λ number. number) numbers ≡ numbers
+map_identity numbers = map-id numbers
 
 -- ---- colours by texts
 

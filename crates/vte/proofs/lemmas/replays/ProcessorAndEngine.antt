@@ -1,11 +1,12 @@
--- The contracts of the three processors, from `EngineReads` and `EngineStops` of their engine: a processor agrees where
+-- The contracts of the three processors, from `EngineAdvances` and `EngineStopsSync` of their engine: a processor
+-- agrees where
 -- its engine does. They differ in whether a call may be refused memory.
-use Rattle.vte.proofs.Common.{AdvancesLong, ap, arith, Bor, bounded_engine_view, counts_data, drop, engine_view, EngineHasParsedAndHolds, EngineReads, EngineStops, EngineView, Err, HasAdvanced, HasMemory, HasParsedAndHolds, HasParsedAndHoldsBounded, HasParsedAndHoldsLong, HasTaken, HasTextMemory, IsAt, LacksMemoryLong, length, length-append, length-drop, limited_parser_view, List, long_engine_view, Meaning, Ok, ProcessorPredicate, ReadsInTurns, refl, Refused, Result, rules, State, stop, StopsSync, usual_limit, ℕ, [], ◌++◌, ◌+◌, ◌-◌, ◌<◌, ◌≡◌}
+use Rattle.vte.proofs.Common.{AdvancesInTurns, AdvancesLong, ap, arith, Bor, bounded_engine_view, counts_data, default_limit, drop, engine_view, EngineAdvances, EngineHasParsedAndHolds, EngineStopsSync, EngineView, Err, HasAdvanced, HasAdvancedPart, HasMemoryLong, HasParsedAndHolds, HasParsedAndHoldsBounded, HasParsedAndHoldsLong, HasTextMemory, IsAt, LacksMemoryLong, length, length-append, length-drop, limited_parser_view, List, long_engine_view, Meaning, Ok, ProcessorPredicate, refl, Refused, Result, rules, State, stop, StopsSync, ℕ, [], ◌++◌, ◌+◌, ◌-◌, ◌<◌, ◌≡◌}
 use Rattle.vte_core.specs.declared.parser.Parser.{Parser}
 use Rattle.vte.proofs.lemmas.replays.WithoutUpdates.{plain_call}
 use Rattle.vte.proofs.lemmas.turns.EngineTurns.{has_advanced, taken-to}
 use Rattle.vte.specs.declared.ansi.processor.Processor.{Processor}
-use Rattle.vte.specs.declared.ansi.calls.joined_text.TheConstants.{TEXT_SIZE}
+use Rattle.vte.specs.declared.ansi.calls.joined_text.TheConstants.{TEXT_CAPACITY}
 use Rattle.vte.specs.declared.ansi.bounded_processor.BoundedProcessor.{BoundedProcessor}
 use Rattle.vte.specs.declared.ansi.long_processor.LongProcessor.{LongProcessor}
 use Rattle.vte.proofs.lemmas.turns.RefusedTurns.{progresses-until_refused}
@@ -15,7 +16,7 @@ use Rattle.vte.proofs.lemmas.turns.RefusedTurns.{progresses-until_refused}
 -- With a limit, there is always memory.
 
 abbrev limited : {B T W : Type 0} → (T → W) → EngineView (Parser 1024) B T W
-limited timeout_of = engine_view usual_limit limited_parser_view (λ text. TEXT_SIZE) timeout_of
+limited timeout_of = engine_view default_limit limited_parser_view (λ text. TEXT_CAPACITY) timeout_of
 
 module _ {T A V W : Type 0} {timeout_of : T → W} {processor : Processor T A} {value : V} (state : State V W) where
   is_at-engine : IsAt (HasParsedAndHolds timeout_of processor) value state
@@ -30,26 +31,29 @@ module _ {T A V W : Type 0} {timeout_of : T → W} {processor : Processor T A} {
   }
 
 -- What a call of any processor ensures if it has read all its bytes.
-module _ {V W : Type 0} {m : Meaning V W} {Before After : ProcessorPredicate W} {old new : V}
+module _ {V W : Type 0} {meaning : Meaning V W} {Before After : ProcessorPredicate W} {old new : V}
     (bytes : Bor (List ℕ)) {read : ℕ}
-    (takes : (state : State V W) → IsAt Before old state → HasTaken m state bytes.now read (IsAt After new))
+    (takes : (state : State V W) → IsAt Before old state
+    → HasAdvancedPart meaning state bytes.now read (IsAt After new))
     (all_read : read ≡ length bytes.now) where
-  reads-advances : (state : State V W) → IsAt Before old state → HasAdvanced m state bytes.now (IsAt After new)
-  reads-advances state is_at = has_advanced m state bytes.now (takes state is_at) (omega (arith, all_read))
+  reads-advances : (state : State V W) → IsAt Before old state → HasAdvanced meaning state bytes.now (IsAt After new)
+  reads-advances state is_at = has_advanced meaning state bytes.now (takes state is_at) (omega (arith, all_read))
 
-  reads_in_turns : ReadsInTurns m Before After old new bytes.now
-  reads_in_turns = record { advances = reads-advances; plain = plain_call m bytes reads-advances }
+  advances_in_turns : AdvancesInTurns meaning Before After old new bytes.now
+  advances_in_turns = record { advances = reads-advances; if_never_pending = plain_call meaning bytes reads-advances }
 
-pub refused-never : {T A V W : Type 0} {timeout_of : T → W} {m : Meaning V W} {processor next : Processor T A}
+pub refused-never : {T A V W : Type 0} {timeout_of : T → W} {meaning : Meaning V W} {processor next : Processor T A}
     {old new : V} (bytes : Bor (List ℕ)) (result : Result (Unit {0}) Refused)
-    → EngineReads (limited timeout_of) m processor.engine next.engine old new bytes.now result
-    → ReadsInTurns m (HasParsedAndHolds timeout_of processor) (HasParsedAndHolds timeout_of next) old new bytes.now
+    → EngineAdvances (limited timeout_of) meaning processor.engine next.engine old new bytes.now result
+    → AdvancesInTurns meaning (HasParsedAndHolds timeout_of processor)
+    (HasParsedAndHolds timeout_of next) old new bytes.now
 refused-never bytes (Ok _) reads =
-    reads_in_turns bytes (λ state is_at. taken-to is_at-processor (reads.takes state (is_at-engine state is_at))) refl
+    advances_in_turns bytes (λ state is_at. taken-to is_at-processor (reads.takes state
+    (is_at-engine state is_at))) refl
 refused-never bytes (Err refused) reads =
-    reads_in_turns bytes {read = length bytes.now} (λ state is_at. absurd (
+    advances_in_turns bytes {read = length bytes.now} (λ state is_at. absurd (
     let taken = reads.takes state (is_at-engine state is_at) in
-    reads.lacks.lacks taken.next.parsed taken.is_at.agrees.has_read (omega arith))) refl
+    reads.lacks_memory.lacks_memory taken.next.parsed taken.is_at.agrees.has_read (omega arith))) refl
 
 -- ---- with a limit of its own
 
@@ -66,13 +70,14 @@ module _ {T A V W : Type 0} {N : ℕ} {timeout_of : T → W} {processor : Bounde
       → IsAt (HasParsedAndHoldsBounded timeout_of processor) value state
   is_at-bounded memory is_at = search (rules, arith)
 
-module _ {T A V W : Type 0} {N : ℕ} {timeout_of : T → W} {m : Meaning V W} {old new : BoundedProcessor T A N}
+module _ {T A V W : Type 0} {N : ℕ} {timeout_of : T → W} {meaning : Meaning V W} {old new : BoundedProcessor T A N}
     {before value : V} where
-  pub stops_within : EngineStops (bounded_engine_view timeout_of) m old.engine new.engine before value
-      → StopsSync m (HasParsedAndHoldsBounded timeout_of old) (HasParsedAndHoldsBounded timeout_of new) before value
+  pub stops_within : EngineStopsSync (bounded_engine_view timeout_of) meaning old.engine new.engine before value
+      → StopsSync meaning (HasParsedAndHoldsBounded timeout_of old)
+      (HasParsedAndHoldsBounded timeout_of new) before value
   stops_within stops = record {
     stops = λ state is_at.
-        is_at-bounded (stop m state)
+        is_at-bounded (stop meaning state)
         (stops.keeps_memory state (is_at-bounded_engine state is_at) [] 0 is_at.agrees.has_memory)
         (stops.stops.stops state (is_at-bounded_engine state is_at));
     each_once = stops.stops.each_once;
@@ -80,18 +85,19 @@ module _ {T A V W : Type 0} {N : ℕ} {timeout_of : T → W} {m : Meaning V W} {
   }
 
   pub refused-never-within : (bytes : Bor (List ℕ)) (result : Result (Unit {0}) Refused)
-      → EngineReads (bounded_engine_view timeout_of) m old.engine new.engine before value bytes.now result
-      → ReadsInTurns m (HasParsedAndHoldsBounded timeout_of old) (HasParsedAndHoldsBounded timeout_of new) before value
+      → EngineAdvances (bounded_engine_view timeout_of) meaning old.engine new.engine before value bytes.now result
+      → AdvancesInTurns meaning (HasParsedAndHoldsBounded timeout_of old)
+      (HasParsedAndHoldsBounded timeout_of new) before value
       bytes.now
   refused-never-within bytes (Ok _) reads =
-      reads_in_turns bytes (λ state is_at.
+      advances_in_turns bytes (λ state is_at.
       taken-to (λ next. is_at-bounded next
       (reads.keeps_memory state (is_at-bounded_engine state is_at) [] 0 is_at.agrees.has_memory))
       (reads.takes state (is_at-bounded_engine state is_at))) refl
   refused-never-within bytes (Err refused) reads =
-      reads_in_turns bytes {read = length bytes.now} (λ state is_at. absurd (
+      advances_in_turns bytes {read = length bytes.now} (λ state is_at. absurd (
       let taken = reads.takes state (is_at-bounded_engine state is_at) in
-      reads.lacks.lacks taken.next.parsed taken.is_at.agrees.has_read
+      reads.lacks_memory.lacks_memory taken.next.parsed taken.is_at.agrees.has_read
       (reads.keeps_memory state (is_at-bounded_engine state is_at) [] 0 is_at.agrees.has_memory))) refl
 
 -- ---- without a limit
@@ -99,15 +105,15 @@ module _ {T A V W : Type 0} {N : ℕ} {timeout_of : T → W} {m : Meaning V W} {
 -- A call is refused no memory that was there for all its bytes: enough for the held and the given bytes at the start
 -- leaves enough for what is left, turn by turn.
 
-module _ {T A V W : Type 0} {timeout_of : T → W} {m : Meaning V W} {new : LongProcessor T A} {value : V}
+module _ {T A V W : Type 0} {timeout_of : T → W} {meaning : Meaning V W} {new : LongProcessor T A} {value : V}
     {state : State V W} {bytes : List ℕ} where
   had_memory : (read : ℕ) → read < length bytes
-      → HasTaken m state bytes read (IsAt (HasParsedAndHoldsLong timeout_of new) value)
+      → HasAdvancedPart meaning state bytes read (IsAt (HasParsedAndHoldsLong timeout_of new) value)
       → LacksMemoryLong timeout_of new (length bytes - read)
-      → HasMemory new state.parsed (length state.held + length bytes) → ⊥
+      → HasMemoryLong new state.parsed (length state.held + length bytes) → ⊥
   had_memory read bytes_left taken lacks had =
       let next = taken.next in
-      let progress = progresses-until_refused m taken.takes in
+      let progress = progresses-until_refused meaning taken.takes in
       let counts = counts_data state.parsed progress.more in
       let left = rw (← progress.parsed_is) at counts.left in
       let sum : length progress.more + length next.held ≡ length state.held + read =
@@ -122,26 +128,26 @@ module _ {T A V W : Type 0} {timeout_of : T → W} {m : Meaning V W} {new : Long
         length-drop read bytes,
       ) in
       let held = ap length taken.is_at.agrees.holds in
-      lacks.lacks next.parsed taken.is_at.agrees.has_read (record {
+      lacks.lacks_memory next.parsed taken.is_at.agrees.has_read (record {
         kept = omega (arith, left, had.kept, lacks.within, bytes_left, sum, held);
         joined = omega (arith, left, had.joined, lacks.within, bytes_left, sum, held);
         counted = omega (arith, left, had.counted, lacks.within, bytes_left, sum, held);
       })
 
-pub advances_long : {T A V W : Type 0} {timeout_of : T → W} {m : Meaning V W} {old new : LongProcessor T A}
+pub advances_long : {T A V W : Type 0} {timeout_of : T → W} {meaning : Meaning V W} {old new : LongProcessor T A}
     {before value : V} (bytes : Bor (List ℕ)) (result : Result (Unit {0}) Refused)
-    → EngineReads (long_engine_view timeout_of) m old.engine new.engine before value bytes.now result
-    → AdvancesLong timeout_of m old new before value bytes.now result
+    → EngineAdvances (long_engine_view timeout_of) meaning old.engine new.engine before value bytes.now result
+    → AdvancesLong timeout_of meaning old new before value bytes.now result
 advances_long bytes (Ok _) reads = record {
   reads = reads;
-  all = reads_in_turns bytes reads.takes refl;
-  enough = λ state is_at had. refl;
+  reads_all = advances_in_turns bytes reads.takes refl;
+  not_refused = λ state is_at had. refl;
 }
 advances_long bytes (Err refused) reads = record {
   reads = reads;
-  all = tt;
-  enough = λ state is_at had.
+  reads_all = tt;
+  not_refused = λ state is_at had.
       absurd
-      (had_memory refused.read reads.within (reads.takes state is_at) reads.lacks
+      (had_memory refused.read reads.within (reads.takes state is_at) reads.lacks_memory
       (reads.keeps_memory state is_at _ _ had));
 }

@@ -54,7 +54,7 @@ module _ (limit : Option ℕ) (parsed prefix : List ℕ) where
 -- `delivers-X`: what the handler receives from the state after X on, it receives from the state before on, after the
 -- calls of X.
 
-module _ {V W : Type 0} (m : Meaning V W) (end : State V W) where
+module _ {V W : Type 0} (meaning : Meaning V W) (end : State V W) where
   -- What the handler still receives if bytes were parsed, with these stops, and its value is this.
   pub record HasStillToDeliver (parsed stops : List ℕ) (value : V) : Type 0 where
     pub more : List ℕ
@@ -62,7 +62,8 @@ module _ {V W : Type 0} (m : Meaning V W) (end : State V W) where
     pub positions : List ℕ
     pub stops_are : end.stops ≡ stops ++ positions
     pub in_order : AreInOrder (length parsed) positions (length end.parsed)
-    pub handler_is : end.handler ≡ after m.step value (calls_with_stops m.limit end.parsed (length parsed) positions)
+    pub handler_is : end.handler
+        ≡ after meaning.step value (calls_with_stops meaning.limit end.parsed (length parsed) positions)
 
   abbrev DeliversAt : State V W → Type 0
   DeliversAt state = HasStillToDeliver state.parsed state.stops state.handler
@@ -78,7 +79,7 @@ module _ {V W : Type 0} (m : Meaning V W) (end : State V W) where
   }
 
   delivers-parse : {parsed : List ℕ} (prefix : List ℕ) {stops : List ℕ} {value : V}
-      → HasStillToDeliver (parsed ++ prefix) stops (after m.step value (added_calls m.limit parsed prefix))
+      → HasStillToDeliver (parsed ++ prefix) stops (after meaning.step value (added_calls meaning.limit parsed prefix))
       → HasStillToDeliver parsed stops value
   delivers-parse {parsed} prefix rest = record {
     more = prefix ++ rest.more;
@@ -88,12 +89,12 @@ module _ {V W : Type 0} (m : Meaning V W) (end : State V W) where
     in_order = in_order-sooner parsed prefix rest.positions _ rest.in_order;
     handler_is =
         rw (
-          calls_with_stops-later m.limit parsed prefix rest.more rest.positions rest.parsed_is rest.in_order,
+          calls_with_stops-later meaning.limit parsed prefix rest.more rest.positions rest.parsed_is rest.in_order,
           after_calls-append,
         ) rest.handler_is;
   }
 
-  delivers-stop : (state : State V W) → DeliversAt (stop m state) → DeliversAt state
+  delivers-stop : (state : State V W) → DeliversAt (stop meaning state) → DeliversAt state
   delivers-stop state rest =
       let position = length (state.parsed ++ state.held) in
       delivers-parse state.held (record {
@@ -105,62 +106,66 @@ module _ {V W : Type 0} (m : Meaning V W) (end : State V W) where
         handler_is = rw calls_between-none rest.handler_is;
       })
 
-  delivers-parsing : (state : State V W) (bytes : List ℕ) → DeliversAt (parsing_turn m state bytes).state
+  delivers-parsing : (state : State V W) (bytes : List ℕ) → DeliversAt (parsing_turn meaning state bytes).state
       → DeliversAt state
-  delivers-parsing state bytes = delivers-parse (prefix_to_begin m.limit state.parsed bytes)
+  delivers-parsing state bytes = delivers-parse (prefix_to_begin meaning.limit state.parsed bytes)
 
-  delivers-release : (state : State V W) (kept : List ℕ) → DeliversAt (release m state kept) → DeliversAt state
+  delivers-release : (state : State V W) (kept : List ℕ) → DeliversAt (release meaning state kept) → DeliversAt state
   delivers-release state [] = delivers-stop state
   delivers-release state (byte ∷ kept) = delivers-parse _
 
-  delivers-hold : (state : State V W) (bytes : List ℕ) → DeliversAt (hold_turn m state bytes) → DeliversAt state
+  delivers-hold : (state : State V W) (bytes : List ℕ) → DeliversAt (hold_turn meaning state bytes) → DeliversAt state
   delivers-hold state bytes = elim (cases_Option (after_last_end (state.held ++ bytes))) [
-    | inl no_end ↦ rw (hold_turn-all m state bytes no_end) (λ rest. rest)
+    | inl no_end ↦ rw (hold_turn-all meaning state bytes no_end) (λ rest. rest)
     | inr last_end ↦
-        rw (hold_turn-rest m state bytes last_end.1)
-        (delivers-release (extend m state bytes) (from_begin_update last_end.0))
+        rw (hold_turn-rest meaning state bytes last_end.1)
+        (delivers-release (extend meaning state bytes) (from_begin_update last_end.0))
   ]
 
-  delivers-due : (pending : Bool) (state : State V W) → DeliversAt (stop_if_due m pending state) → DeliversAt state
+  delivers-due : (pending : Bool) (state : State V W) → DeliversAt (stop_if_due meaning pending state)
+      → DeliversAt state
   delivers-due pending state = elim (cases_Bool (is_stopped pending state)) [
     | inl stopped ↦ rw stopped (delivers-stop state)
     | inr not_stopped ↦ rw not_stopped (λ rest. rest)
   ]
 
-  delivers-turn : (pending : Bool) (state : State V W) (bytes : List ℕ) → DeliversAt (turn m pending state bytes).state
+  delivers-turn : (pending : Bool) (state : State V W) (bytes : List ℕ)
+      → DeliversAt (turn meaning pending state bytes).state
       → DeliversAt state
   delivers-turn pending state bytes = elim (cases_Bool (is_held pending state bytes)) [
-    | inl held ↦ rw (turn-holds m pending state bytes held) (delivers-hold state bytes)
+    | inl held ↦ rw (turn-holds meaning pending state bytes held) (delivers-hold state bytes)
     | inr not_held ↦
-        rw (turn-parses m pending state bytes not_held)
-        (λ rest. delivers-due pending state (delivers-parsing (stop_if_due m pending state) bytes rest))
+        rw (turn-parses meaning pending state bytes not_held)
+        (λ rest. delivers-due pending state (delivers-parsing (stop_if_due meaning pending state) bytes rest))
   ]
 
-  delivers-turns : (state next : State V W) (bytes left : List ℕ) → TakesTurns m state bytes next left → DeliversAt next
+  delivers-turns : (state next : State V W) (bytes left : List ℕ) → TakesTurns meaning state bytes next left
+      → DeliversAt next
       → DeliversAt state
   delivers-turns state next bytes left done rest = rest
   delivers-turns state next (byte ∷ bytes) left (turns pending allowed takes) rest =
       delivers-turn pending state (byte ∷ bytes) (delivers-turns _ next _ left takes rest)
 
-  delivers-steps : (state next : State V W) (steps : List Step) → TakesSteps m state steps next → DeliversAt next
+  delivers-steps : (state next : State V W) (steps : List Step) → TakesSteps meaning state steps next → DeliversAt next
       → DeliversAt state
   delivers-steps state next [] same = rw same (λ rest. rest)
   delivers-steps state next (Advance bytes ∷ steps) (reached, (advances, takes)) =
       λ rest. delivers-turns state reached bytes.now [] advances (delivers-steps reached next steps takes rest)
   delivers-steps state next (StopSync ∷ steps) takes =
-      λ rest. delivers-stop state (delivers-steps (stop m state) next steps takes rest)
+      λ rest. delivers-stop state (delivers-steps (stop meaning state) next steps takes rest)
 
-  pub delivers-replay : (state : State V W) (steps : List Step) → TakesSteps m state steps end → DeliversAt state
+  pub delivers-replay : (state : State V W) (steps : List Step) → TakesSteps meaning state steps end → DeliversAt state
   delivers-replay state steps takes = delivers-steps state end steps takes delivers-nothing
 
   -- `DeliversAt` also holds if the last call was refused memory.
   pub delivers-refused : (state reached : State V W) (steps : List Step) (bytes left : List ℕ)
-      → TakesSteps m state steps reached → TakesTurnsUntilRefused m reached bytes end left → DeliversAt state
+      → TakesSteps meaning state steps reached → TakesTurnsUntilRefused meaning reached bytes end left
+      → DeliversAt state
   delivers-refused state reached steps bytes left takes (between_turns takes_left) =
       delivers-steps state reached steps takes (delivers-turns reached end bytes left takes_left delivers-nothing)
   delivers-refused state reached steps bytes left takes
       (inside_turn {reached = before} {rest} takes_left pending _ refused) =
-      let parsed = (refused-parses m pending before end rest left refused).1 in
+      let parsed = (refused-parses meaning pending before end rest left refused).1 in
       delivers-steps state reached steps takes
       (delivers-turns reached before bytes rest takes_left
       (delivers-due pending before

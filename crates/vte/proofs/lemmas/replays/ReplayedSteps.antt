@@ -1,7 +1,7 @@
 -- A list of calls, made call by call (`advance_taken`, `stop_taken`): a loop over calls makes `TakesSteps`, and the
 -- handler has received their calls. A steady timeout allows one answer in each state, so where the list leads is then a
 -- function of its calls (`replay-only_one`).
-use Rattle.vte.proofs.Common.{Advance, ap, append-nil, append_assoc, append_cancel_right, arith, Bool, Bor, done, drop, drop_more, get_or, given_bytes, HasAdvanced, HasDelivered, HasReplayed, HasTaken, HoldsWellAt, IsSteady, length, List, Meaning, refl, rules, State, Step, stop, StopSync, sym, take, take-append-drop, take_more, TakesAllTurns, TakesSteps, TakesTurnsUntilRefused, turns, ℕ, [], ◌++◌, ◌+◌, ◌-◌, ◌<◌, ◌∙◌, ◌∷◌, ◌≡◌}
+use Rattle.vte.proofs.Common.{Advance, ap, append-nil, append_assoc, append_cancel_right, arith, Bool, Bor, done, drop, drop_more, get_or, given_bytes, HasAdvanced, HasAdvancedPart, HasDelivered, HasReplayed, HoldsWellAt, IsSteady, length, List, Meaning, refl, rules, State, Step, stop, StopSync, sym, take, take-append-drop, take_more, TakesAllTurns, TakesSteps, TakesTurnsUntilRefused, turns, ℕ, [], ◌++◌, ◌+◌, ◌-◌, ◌<◌, ◌∙◌, ◌∷◌, ◌≡◌}
 use Rattle.vte.proofs.lemmas.turns.EachOnce.{progresses-before, progresses-replay, progresses-then}
 use Rattle.vte.proofs.lemmas.turns.HoldFacts.{stop-well, turn-well, turns-well}
 use Rattle.vte.specs.Refusal.{IsFirstRefused}
@@ -17,57 +17,60 @@ first_lacks {i} {bytes} lacks steps missing read inside step_is lacking =
 
 -- ---- for a timeout that is steady, a list of calls leads to one state
 
-module _ {V W : Type 0} (m : Meaning V W) (steady : IsSteady m.timeout) where
-  answers-only_one : (state : State V W) (answer other : Bool) → HoldsWellAt m state
-      → m.timeout.allows state.timeout answer
-      → m.timeout.allows state.timeout other → answer ≡ other
+module _ {V W : Type 0} (meaning : Meaning V W) (steady : IsSteady meaning.timeout) where
+  answers-only_one : (state : State V W) (answer other : Bool) → HoldsWellAt meaning state
+      → meaning.timeout.allows state.timeout answer
+      → meaning.timeout.allows state.timeout other → answer ≡ other
   answers-only_one state answer other well allowed allowed_too = search (rules, arith)
 
-  advances-only_one : (state end other : State V W) (bytes : List ℕ) → HoldsWellAt m state
-      → TakesAllTurns m state bytes end
-      → TakesAllTurns m state bytes other → other ≡ end
+  advances-only_one : (state end other : State V W) (bytes : List ℕ) → HoldsWellAt meaning state
+      → TakesAllTurns meaning state bytes end
+      → TakesAllTurns meaning state bytes other → other ≡ end
   advances-only_one state end other [] well done done = refl
   advances-only_one state end other (b ∷ bytes) well (turns pending allowed takes) (turns also allowed_too takes_too) =
-      advances-only_one _ end other _ (turn-well m pending state (b ∷ bytes) allowed well) takes
+      advances-only_one _ end other _ (turn-well meaning pending state (b ∷ bytes) allowed well) takes
       (rw (answers-only_one state also pending well allowed_too allowed) at takes_too)
 
-  pub replay-only_one : (state end other : State V W) (steps : List Step) → HoldsWellAt m state
-      → TakesSteps m state steps end
-      → TakesSteps m state steps other → other ≡ end
+  pub replay-only_one : (state end other : State V W) (steps : List Step) → HoldsWellAt meaning state
+      → TakesSteps meaning state steps end
+      → TakesSteps meaning state steps other → other ≡ end
   replay-only_one state end other [] well takes takes_too = sym takes_too ∙ takes
   replay-only_one state end other (Advance bytes ∷ steps) well (reached, (advances, takes))
       (reached_too, (advances_too, takes_too)) =
-      replay-only_one reached end other steps (turns-well m advances well) takes
+      replay-only_one reached end other steps (turns-well meaning advances well) takes
       (rw (advances-only_one state reached reached_too bytes.now well advances advances_too) at takes_too)
   replay-only_one state end other (StopSync ∷ steps) well takes takes_too =
-      replay-only_one (stop m state) end other steps (stop-well m state) takes takes_too
+      replay-only_one (stop meaning state) end other steps (stop-well meaning state) takes takes_too
 
 -- ---- calls one by one
 
 -- Lists of calls compose (`replay-append`), so a loop keeps `HasReplayed`.
 
-module _ {V W : Type 0} (m : Meaning V W) where
-  pub replay-well : (state next : State V W) (steps : List Step) → TakesSteps m state steps next → HoldsWellAt m state
-      → HoldsWellAt m next
+module _ {V W : Type 0} (meaning : Meaning V W) where
+  pub replay-well : (state next : State V W) (steps : List Step) → TakesSteps meaning state steps next
+      → HoldsWellAt meaning state
+      → HoldsWellAt meaning next
   replay-well state next [] same well = rw (← same) well
   replay-well state next (Advance bytes ∷ steps) (reached, (advances, takes)) well =
-      replay-well reached next steps takes (turns-well m advances well)
-  replay-well state next (StopSync ∷ steps) takes well = replay-well (stop m state) next steps takes (stop-well m state)
+      replay-well reached next steps takes (turns-well meaning advances well)
+  replay-well state next (StopSync ∷ steps) takes well =
+      replay-well (stop meaning state) next steps takes (stop-well meaning state)
 
   -- Steps that lead to a state and further steps from there are one list of steps.
-  pub replay-append : (state reached next : State V W) (steps others : List Step) → TakesSteps m state steps reached
-      → TakesSteps m reached others next
-      → TakesSteps m state (steps ++ others) next
+  pub replay-append : (state reached next : State V W) (steps others : List Step)
+      → TakesSteps meaning state steps reached
+      → TakesSteps meaning reached others next
+      → TakesSteps meaning state (steps ++ others) next
   replay-append state reached next [] others same takes_others = rw same takes_others
   replay-append state reached next (Advance bytes ∷ steps) others (mid, (advances, takes)) takes_others =
       (mid, (advances, replay-append mid reached next steps others takes takes_others))
   replay-append state reached next (StopSync ∷ steps) others takes takes_others =
-      replay-append (stop m state) reached next steps others takes takes_others
+      replay-append (stop meaning state) reached next steps others takes takes_others
 
   -- `HasDelivered` says what the handler has received, and what became of the bytes.
   has_delivered : {state next : State V W} {bytes : List ℕ} (more : List ℕ) → next.parsed ≡ state.parsed ++ more
-      → state.held ++ bytes ≡ more ++ next.held → HasStillToDeliver m next state.parsed state.stops state.handler
-      → HasDelivered m state bytes next
+      → state.held ++ bytes ≡ more ++ next.held → HasStillToDeliver meaning next state.parsed state.stops state.handler
+      → HasDelivered meaning state bytes next
   has_delivered more parsed_is each_once still = record {
     more = more;
     positions = still.positions;
@@ -78,23 +81,23 @@ module _ {V W : Type 0} (m : Meaning V W) where
     handler_is = still.handler_is;
   }
 
-  pub steps_delivered : (state next : State V W) (steps : List Step) → TakesSteps m state steps next
-      → HasDelivered m state (given_bytes steps) next
+  pub steps_delivered : (state next : State V W) (steps : List Step) → TakesSteps meaning state steps next
+      → HasDelivered meaning state (given_bytes steps) next
   steps_delivered state next steps takes =
-      let progress = progresses-replay m state next steps takes in
+      let progress = progresses-replay meaning state next steps takes in
       has_delivered progress.more progress.parsed_is
       (progress.each_once ∙ ap (λ held. progress.more ++ held) (append-nil next.held))
-      (delivers-replay m next state steps takes)
+      (delivers-replay meaning next state steps takes)
 
   -- If the last call was refused memory, the calls of the bytes read so far were delivered.
   pub refused_delivered : (state reached next : State V W) (steps : List Step) (bytes : List ℕ) (read : ℕ)
-      → TakesSteps m state steps reached
-      → TakesTurnsUntilRefused m reached bytes next (drop read bytes)
-      → HasDelivered m state (given_bytes steps ++ take read bytes) next
+      → TakesSteps meaning state steps reached
+      → TakesTurnsUntilRefused meaning reached bytes next (drop read bytes)
+      → HasDelivered meaning state (given_bytes steps ++ take read bytes) next
   refused_delivered state reached next steps bytes read takes until_refused =
       let progress =
-      progresses-then (progresses-before (progresses-replay m state reached steps takes) bytes)
-      (progresses-until_refused m until_refused) in
+      progresses-then (progresses-before (progresses-replay meaning state reached steps takes) bytes)
+      (progresses-until_refused meaning until_refused) in
       has_delivered progress.more progress.parsed_is
       (append_cancel_right _ _ (drop read bytes)
       (append_assoc state.held (given_bytes steps ++ take read bytes) (drop read bytes)
@@ -102,29 +105,31 @@ module _ {V W : Type 0} (m : Meaning V W) where
       (append_assoc (given_bytes steps) (take read bytes) (drop read bytes)
       ∙ ap (λ all. given_bytes steps ++ all) (take-append-drop read bytes))
       ∙ progress.each_once ∙ sym (append_assoc progress.more next.held (drop read bytes))))
-      (delivers-refused m next state reached steps bytes (drop read bytes) takes until_refused)
+      (delivers-refused meaning next state reached steps bytes (drop read bytes) takes until_refused)
 
   pub has_replayed : {state : State V W} (next : State V W) {steps : List Step} {IsNowAt : State V W → Type 0}
-      → TakesSteps m state steps next
-      → IsNowAt next → HasReplayed m state steps IsNowAt
+      → TakesSteps meaning state steps next
+      → IsNowAt next → HasReplayed meaning state steps IsNowAt
   has_replayed {state} next {steps} takes is_at = record {
     next = next;
     takes = takes;
     delivers = steps_delivered state next steps takes;
     holds_well = replay-well state next steps takes;
-    only = λ steady well other takes_other. replay-only_one m steady state next other steps well takes takes_other;
+    unique_state = λ steady well other takes_other. replay-only_one meaning steady state next other steps well takes
+        takes_other;
     is_at = is_at;
   }
 
   -- A call of `advance` is a list of one step.
   pub advance_runs : {state : State V W} {bytes : Bor (List ℕ)} {IsNowAt : State V W → Type 0}
-      → HasAdvanced m state bytes.now IsNowAt → HasReplayed m state (Advance bytes ∷ []) IsNowAt
+      → HasAdvanced meaning state bytes.now IsNowAt → HasReplayed meaning state (Advance bytes ∷ []) IsNowAt
   advance_runs advanced = has_replayed advanced.next (advanced.next, (advanced.advances, refl)) advanced.is_at
 
   module _ (state : State V W) (steps : List Step) {i : ℕ} (missing : Step) {old : State V W → Type 0}
-      (new : State V W → Type 0) (inside : i < length steps) (before : HasReplayed m state (take i steps) old) where
-    step_taken : HasReplayed m before.next (get_or steps i missing ∷ []) new
-        → HasReplayed m state (take (i + 1) steps) new
+      (new : State V W → Type 0) (inside : i < length steps) (before : HasReplayed meaning state
+      (take i steps) old) where
+    step_taken : HasReplayed meaning before.next (get_or steps i missing ∷ []) new
+        → HasReplayed meaning state (take (i + 1) steps) new
     step_taken replayed_step =
         has_replayed replayed_step.next
         (rw (take_more steps i missing inside)
@@ -133,17 +138,17 @@ module _ {V W : Type 0} (m : Meaning V W) where
 
     -- The next step is taken, or refused.
     pub advance_taken : {bytes : Bor (List ℕ)} → get_or steps i missing ≡ Advance bytes
-        → HasAdvanced m before.next bytes.now new
-        → HasReplayed m state (take (i + 1) steps) new
+        → HasAdvanced meaning before.next bytes.now new
+        → HasReplayed meaning state (take (i + 1) steps) new
     advance_taken {bytes} step_is advanced = step_taken (rw step_is (advance_runs advanced))
 
-    pub stop_taken : get_or steps i missing ≡ StopSync → new (stop m before.next)
-        → HasReplayed m state (take (i + 1) steps) new
-    stop_taken step_is is_at = step_taken (rw step_is (has_replayed (stop m before.next) refl is_at))
+    pub stop_taken : get_or steps i missing ≡ StopSync → new (stop meaning before.next)
+        → HasReplayed meaning state (take (i + 1) steps) new
+    stop_taken step_is is_at = step_taken (rw step_is (has_replayed (stop meaning before.next) refl is_at))
 
     pub advance_refused : {bytes : Bor (List ℕ)} {read : ℕ} → get_or steps i missing ≡ Advance bytes
         → read < length bytes.now
-        → HasTaken m before.next bytes.now read new
-        → HasReplayed m state (take i steps) (λ reached. IsFirstRefused m reached (drop i steps) read new)
+        → HasAdvancedPart meaning before.next bytes.now read new
+        → HasReplayed meaning state (take i steps) (λ reached. IsFirstRefused meaning reached (drop i steps) read new)
     advance_refused step_is bytes_left taken =
         has_replayed before.next before.takes (rw (drop_more steps i missing inside, step_is) (bytes_left, taken))

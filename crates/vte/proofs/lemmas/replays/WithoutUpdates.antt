@@ -12,20 +12,20 @@ record IsPlain {V W : Type 0} (state next : State V W) : Type 0 where
   pub none_held : next.held ≡ []
   pub no_stop : next.stops ≡ state.stops
 
-module _ {V W : Type 0} (m : Meaning V W) (never : IsNeverPending m.timeout.allows) where
-  plain_advances : (state next : State V W) (bytes : List ℕ) → TakesAllTurns m state bytes next → state.held ≡ []
+module _ {V W : Type 0} (meaning : Meaning V W) (never : IsNeverPending meaning.timeout.allows) where
+  plain_advances : (state next : State V W) (bytes : List ℕ) → TakesAllTurns meaning state bytes next → state.held ≡ []
       → IsPlain state next
   plain_advances state next [] done none_held = record { none_held = none_held; no_stop = refl }
   plain_advances state next (b ∷ bytes) (turns true allowed takes) none_held =
       absurd (let same : true ≡ false = never state.timeout true allowed in cc)
   plain_advances state next (b ∷ bytes) (turns false allowed takes) none_held =
-      let reached = (turn m false state (b ∷ bytes)).state in
+      let reached = (turn meaning false state (b ∷ bytes)).state in
       let still_none_held : reached.held ≡ [] = rw none_held refl in
       let no_stop : reached.stops ≡ state.stops = rw none_held refl in
       let rest = plain_advances _ next _ takes still_none_held in
       record { none_held = rest.none_held; no_stop = rest.no_stop ∙ no_stop }
 
-  plain_run : (state end : State V W) (steps : List Step) → TakesSteps m state steps end → AreAdvances steps
+  plain_run : (state end : State V W) (steps : List Step) → TakesSteps meaning state steps end → AreAdvances steps
       → state.held ≡ []
       → IsPlain state end
   plain_run state end [] same are_advances none_held = rw (← same) (record { none_held = none_held; no_stop = refl })
@@ -39,17 +39,18 @@ module _ {V W : Type 0} (m : Meaning V W) (never : IsNeverPending m.timeout.allo
 
 module _ {V W : Type 0} {Before : ProcessorPredicate W} (old : V) {stream : List ℕ}
     (has_parsed : HasParsedAll Before stream) where
-  abbrev here : State V W
-  here = record { parsed = stream; stops = []; held = []; timeout = has_parsed.timeout; handler = old }
+  abbrev start_state : State V W
+  start_state = record { parsed = stream; stops = []; held = []; timeout = has_parsed.timeout; handler = old }
 
-  is_here : IsAt Before old here
-  is_here = record { agrees = has_parsed.agrees; handler_is = refl }
+  is_at_start : IsAt Before old start_state
+  is_at_start = record { agrees = has_parsed.agrees; handler_is = refl }
 
-  module _ (m : Meaning V W) (never : IsNeverPending m.timeout.allows) {After : ProcessorPredicate W} {new : V}
+  module _ (meaning : Meaning V W)
+      (never : IsNeverPending meaning.timeout.allows) {After : ProcessorPredicate W} {new : V}
       (steps : List Step) (are_advances : AreAdvances steps)
-      (replayed : HasReplayed m here steps (IsAt After new)) where
-    is_plain : IsPlain here replayed.next
-    is_plain = plain_run m never here replayed.next steps replayed.takes are_advances refl
+      (replayed : HasReplayed meaning start_state steps (IsAt After new)) where
+    is_plain : IsPlain start_state replayed.next
+    is_plain = plain_run meaning never start_state replayed.next steps replayed.takes are_advances refl
 
     more_is : replayed.delivers.more ≡ given_bytes steps
     more_is =
@@ -59,8 +60,8 @@ module _ {V W : Type 0} {Before : ProcessorPredicate W} (old : V) {stream : List
     parsed_all : replayed.next.parsed ≡ stream ++ given_bytes steps
     parsed_all = replayed.delivers.parsed_is ∙ ap (λ more. stream ++ more) more_is
 
-    plain_follows : (start : V) → old ≡ after m.step start (calls (events m.limit stream))
-        → new ≡ after m.step start (calls (events m.limit (stream ++ given_bytes steps)))
+    plain_follows : (start : V) → old ≡ after meaning.step start (calls (events meaning.limit stream))
+        → new ≡ after meaning.step start (calls (events meaning.limit (stream ++ given_bytes steps)))
     plain_follows start old_is =
         replayed.is_at.handler_is
         ∙ replayed.delivers.handler_is
@@ -68,13 +69,13 @@ module _ {V W : Type 0} {Before : ProcessorPredicate W} (old : V) {stream : List
           ← replayed.delivers.stops_are,
           is_plain.no_stop,
           parsed_all,
-          calls_between-whole m.limit stream (given_bytes steps),
+          calls_between-whole meaning.limit stream (given_bytes steps),
           old_is,
         )
         (sym
-        (after_calls-append m.step start (calls (events m.limit stream))
-        (added_calls m.limit stream (given_bytes steps))))
-        ∙ ap (after m.step start) (sym (calls_whole m.limit stream (given_bytes steps)))
+        (after_calls-append meaning.step start (calls (events meaning.limit stream))
+        (added_calls meaning.limit stream (given_bytes steps))))
+        ∙ ap (after meaning.step start) (sym (calls_whole meaning.limit stream (given_bytes steps)))
 
     plain_parses : HasParsedAll After (stream ++ given_bytes steps)
     plain_parses = record {
@@ -84,26 +85,28 @@ module _ {V W : Type 0} {Before : ProcessorPredicate W} (old : V) {stream : List
 
 -- ---- the clauses of a list of calls, and of one call
 
-module _ {V W : Type 0} (m : Meaning V W) {Before After : ProcessorPredicate W} {old new : V} where
+module _ {V W : Type 0} (meaning : Meaning V W) {Before After : ProcessorPredicate W} {old new : V} where
   plain_calls : (steps : List Step)
-      → ((state : State V W) → IsAt Before old state → HasReplayed m state steps (IsAt After new))
-      → IsNeverPending m.timeout.allows → AreAdvances steps → ParsesAll m Before After old new (given_bytes steps)
+      → ((state : State V W) → IsAt Before old state → HasReplayed meaning state steps (IsAt After new))
+      → IsNeverPending meaning.timeout.allows → AreAdvances steps
+      → ParsesAll meaning Before After old new (given_bytes steps)
   plain_calls steps replayed never are_advances = record {
     follows = λ start stream has_parsed.
-        plain_follows old has_parsed m never steps are_advances (replayed _ (is_here old has_parsed)) start;
+        plain_follows old has_parsed meaning never steps are_advances (replayed _ (is_at_start old has_parsed)) start;
     parses_all = λ stream has_parsed.
-        plain_parses old has_parsed m never steps are_advances (replayed _ (is_here old has_parsed));
+        plain_parses old has_parsed meaning never steps are_advances (replayed _ (is_at_start old has_parsed));
   }
 
   pub replays_all : {steps : List Step}
-      → ((state : State V W) → IsAt Before old state → HasReplayed m state steps (IsAt After new))
-      → Replays m Before After old new steps
-  replays_all {steps} replayed = record { replays = replayed; plain = plain_calls steps replayed }
+      → ((state : State V W) → IsAt Before old state → HasReplayed meaning state steps (IsAt After new))
+      → Replays meaning Before After old new steps
+  replays_all {steps} replayed = record { replays = replayed; if_never_pending = plain_calls steps replayed }
 
   -- A single call is a list of one step.
   pub plain_call : (bytes : Bor (List ℕ))
-      → ((state : State V W) → IsAt Before old state → HasAdvanced m state bytes.now (IsAt After new))
-      → IsNeverPending m.timeout.allows → ParsesAll m Before After old new bytes.now
+      → ((state : State V W) → IsAt Before old state → HasAdvanced meaning state bytes.now (IsAt After new))
+      → IsNeverPending meaning.timeout.allows → ParsesAll meaning Before After old new bytes.now
   plain_call bytes advances never =
-      let replays = replays_all {steps = Advance bytes ∷ []} (λ state is_at. advance_runs m (advances state is_at)) in
-      rw append-nil at (replays.plain never tt)
+      let replays = replays_all {steps =
+      Advance bytes ∷ []} (λ state is_at. advance_runs meaning (advances state is_at)) in
+      rw append-nil at (replays.if_never_pending never tt)

@@ -34,68 +34,68 @@ pub progresses-before : {V W : Type 0} {state next : State V W} {bytes : List �
     → Progresses state next (bytes ++ left) left
 progresses-before {state} {next} {bytes} progress left = search (rules, arith, append-nil, append_assoc)
 
-module _ {V W : Type 0} (m : Meaning V W) where
+module _ {V W : Type 0} (meaning : Meaning V W) where
   progresses-nothing : {state : State V W} {bytes : List ℕ} → Progresses state state bytes bytes
   progresses-nothing {state} = search (rules, arith)
 
-  progresses-stop : {state : State V W} {bytes : List ℕ} → Progresses state (stop m state) bytes bytes
+  progresses-stop : {state : State V W} {bytes : List ℕ} → Progresses state (stop meaning state) bytes bytes
   progresses-stop {state} = record { more = state.held; parsed_is = refl; each_once = refl }
 
   -- After `stop_if_due`, nothing is held.
-  pub stop_if_due-holds_nothing : (pending : Bool) (state : State V W) → (stop_if_due m pending state).held ≡ []
+  pub stop_if_due-holds_nothing : (pending : Bool) (state : State V W) → (stop_if_due meaning pending state).held ≡ []
   stop_if_due-holds_nothing pending state = search (rules, arith, nil_from_length)
 
   pub progresses-stop_if_due : (pending : Bool) {state : State V W} {bytes : List ℕ}
-      → Progresses state (stop_if_due m pending state) bytes bytes
+      → Progresses state (stop_if_due meaning pending state) bytes bytes
   progresses-stop_if_due pending {state} = search (rules, arith)
 
   pub progresses-parse : {state : State V W} (prefix : List ℕ) {left bytes : List ℕ} → state.held ≡ []
       → prefix ++ left ≡ bytes
-      → Progresses state (parse m state prefix) bytes left
+      → Progresses state (parse meaning state prefix) bytes left
   progresses-parse prefix none_held bytes_are = search (rules, arith)
 
   progresses-release : {state : State V W} {kept : List ℕ} → drop (length state.held - length kept) state.held ≡ kept
-      → Progresses state (release m state kept) [] []
+      → Progresses state (release meaning state kept) [] []
   progresses-release kept_is = search (rules, arith, append-nil, take-append-drop)
 
-  progresses-hold : (state : State V W) (bytes : List ℕ) → Progresses state (hold_turn m state bytes) bytes []
+  progresses-hold : (state : State V W) (bytes : List ℕ) → Progresses state (hold_turn meaning state bytes) bytes []
   progresses-hold state bytes =
-      let held : Progresses state (extend m state bytes) bytes [] =
+      let held : Progresses state (extend meaning state bytes) bytes [] =
       record {
         more = [];
         parsed_is = sym (append-nil state.parsed);
         each_once = sym (append-nil (state.held ++ bytes));
       } in
       elim (cases_Option (after_last_end (state.held ++ bytes))) [
-        | inl no_end ↦ rw (hold_turn-all m state bytes no_end) held
+        | inl no_end ↦ rw (hold_turn-all meaning state bytes no_end) held
         | inr last_end ↦
-            rw (hold_turn-rest m state bytes last_end.1)
+            rw (hold_turn-rest meaning state bytes last_end.1)
             (progresses-then held (progresses-release
             (rw last_end.1 at (stays-is (state.held ++ bytes)))))
       ]
 
   progresses-turn : (pending : Bool) (state : State V W) (bytes : List ℕ)
-      → Progresses state (turn m pending state bytes).state bytes (turn m pending state bytes).rest
+      → Progresses state (turn meaning pending state bytes).state bytes (turn meaning pending state bytes).rest
   progresses-turn pending state bytes = elim (cases_Bool (is_held pending state bytes)) [
-    | inl held ↦ rw (turn-holds m pending state bytes held) (progresses-hold state bytes)
+    | inl held ↦ rw (turn-holds meaning pending state bytes held) (progresses-hold state bytes)
     | inr not_held ↦
-        rw (turn-parses m pending state bytes not_held)
+        rw (turn-parses meaning pending state bytes not_held)
         (progresses-then (progresses-stop_if_due pending)
         (progresses-parse _ (stop_if_due-holds_nothing pending state)
-        (prefix-rest m.limit (stop_if_due m pending state).parsed bytes)))
+        (prefix-rest meaning.limit (stop_if_due meaning pending state).parsed bytes)))
   ]
 
-  pub progresses-turns : {state next : State V W} {bytes left : List ℕ} → TakesTurns m state bytes next left
+  pub progresses-turns : {state next : State V W} {bytes left : List ℕ} → TakesTurns meaning state bytes next left
       → Progresses state next bytes left
   progresses-turns done = progresses-nothing
   progresses-turns {state} {next} {bytes = b ∷ bytes} {left} (turns pending allowed takes) =
       progresses-then (progresses-turn pending state (b ∷ bytes)) (progresses-turns takes)
 
-  pub progresses-replay : (state next : State V W) (steps : List Step) → TakesSteps m state steps next
+  pub progresses-replay : (state next : State V W) (steps : List Step) → TakesSteps meaning state steps next
       → Progresses state next (given_bytes steps) []
   progresses-replay state next [] takes = rw takes progresses-nothing
   progresses-replay state next (Advance bytes ∷ steps) (reached, (advances, takes)) =
       progresses-then (progresses-before (progresses-turns advances) (given_bytes steps))
       (progresses-replay reached next steps takes)
   progresses-replay state next (StopSync ∷ steps) takes =
-      progresses-then progresses-stop (progresses-replay (stop m state) next steps takes)
+      progresses-then progresses-stop (progresses-replay (stop meaning state) next steps takes)

@@ -1,6 +1,6 @@
 -- From turns to a call: what the private functions ensure of parser, hold and handler is put together into `HasTurned`
 -- and `HasBeenRefused`, and the loop over turns into `TakesTurns` and `TakesTurnsUntilRefused`.
-use Rattle.vte.proofs.Common.{all_bytes, ap, append_assoc, append_cancel_right, ArePartsAt, ArePartsAtKeepingMemory, ArePartsAtWithMemory, arith, between_turns, Bool, done, drop, drop-drop, drop_all, EndsParsingTurn, EndsTurn, Engine, EngineHasMemory, EngineIsAt, EngineIsAtKeepingMemory, EngineReads, EngineStops, EngineView, Err, false, HasAdvanced, HasBeenRefused, HasParsedPrefix, HasParsedWithoutBegin, HasTaken, HasTurned, held_of, hold_turn, inside_turn, KeepsMemory, LacksMemoryForSome, length, length-drop, List, MatchResult, Meaning, Ok, parse, ProcessorState, refl, Refused, Reserves, Result, rules, State, stop, sym, take, take-append-drop, take_all, TakesTurns, TakesTurnsUntilRefused, true, turn, ℕ, [], ◌++◌, ◌+◌, ◌-◌, ◌<◌, ◌∙◌, ◌≡◌, ◌≤◌}
+use Rattle.vte.proofs.Common.{all_bytes, ap, append_assoc, append_cancel_right, arith, between_turns, Bool, done, drop, drop-drop, drop_all, EndsParsingTurn, EndsTurn, Engine, EngineAdvances, EngineHasMemory, EngineIsAt, EngineIsAtKeepingMemory, EngineLacksMemory, EngineReserves, EngineStopsSync, EngineView, Err, false, HasAdvanced, HasAdvancedPart, HasBeenRefused, HasParsedPrefix, HasParsedWithoutBegin, HasTurned, held_of, hold_turn, inside_turn, KeepsMemory, length, length-drop, List, MatchResult, Meaning, Ok, parse, PartsAreAt, PartsAreAtKeepingMemory, PartsAreAtWithMemory, ProcessorState, refl, Refused, Result, rules, State, stop, sym, take, take-append-drop, take_all, TakesTurns, TakesTurnsUntilRefused, true, turn, ℕ, [], ◌++◌, ◌+◌, ◌-◌, ◌<◌, ◌∙◌, ◌≡◌, ◌≤◌}
 use Rattle.vte.proofs.lemmas.turns.TurnKinds.{is_held, refused-by_parsing, stop_if_due, turn-holds, turn-parses}
 use Rattle.vte.proofs.lemmas.turns.EachOnce.{all_bytes-grown}
 use Rattle.vte.proofs.lemmas.turns.Slices.{parsing-refused}
@@ -10,11 +10,11 @@ use Rattle.std.proofs.lemmas.List.{take_rest}
 -- If an engine is at a state, so are its parts.
 module _ {P B T A V W : Type 0} {view : EngineView P B T W} {engine : Engine P B T A} {value : V} {state : State V W}
   where
-    pub parts-at : EngineIsAt view engine value state → ArePartsAt view engine.parser engine.state value state
+    pub parts-at : EngineIsAt view engine value state → PartsAreAt view engine.parser engine.state value state
     parts-at is_at = search rules
 
     -- If its parts are at a state and nothing is held, the engine is at that state.
-    pub engine-at : ArePartsAt view engine.parser engine.state value state → held_of engine.hold ≡ state.held
+    pub engine-at : PartsAreAt view engine.parser engine.state value state → held_of engine.hold ≡ state.held
         → state.held ≡ []
         → EngineIsAt view engine value state
     engine-at parts_at holds none_held = record {
@@ -42,35 +42,36 @@ module _ {P B T A V W : Type 0} {view : EngineView P B T W} {value : V} {state :
 
   -- A reservation, whatever its result, changes neither the state nor the handler.
   pub keeping_memory-reserved : {old mid new : Engine P B T A} {more : ℕ} {result : Bool}
-      → Reserves view mid new more result
+      → EngineReserves view mid new more result
       → EngineIsAtKeepingMemory view old mid value state → EngineIsAtKeepingMemory view old new value state
   keeping_memory-reserved reserves is_at = record {
     engine_at = record {
-      agrees = reserves.same state.parsed state.held state.timeout is_at.engine_at.agrees;
+      agrees = reserves.stays state.parsed state.held state.timeout is_at.engine_at.agrees;
       handler_is = is_at.engine_at.handler_is;
     };
     keeps_memory = λ stream count had. reserves.keeps_memory stream count (is_at.keeps_memory stream count had);
   }
 
 -- A slice is parsed with the memory that was reserved for it.
-module _ {P B T A V W : Type 0} {view : EngineView P B T W} {m : Meaning V W} {start : State V W} {bytes slice : List ℕ}
+module _ {P B T A V W : Type 0} {view : EngineView P B T W} {meaning : Meaning V W} {start : State V W} {bytes slice :
+    List ℕ}
     {read count n : ℕ} {begins : Bool}
     {first old taken : Engine P B T A} {parser : P} {state : ProcessorState T B} {before value : V} where
-  pub slice-parsed : HasParsedWithoutBegin m start bytes read (EngineIsAtKeepingMemory view first old before)
-      → Reserves view old taken count true
+  pub slice-parsed : HasParsedWithoutBegin meaning start bytes read (EngineIsAtKeepingMemory view first old before)
+      → EngineReserves view old taken count true
       → length slice ≡ count → start.held ≡ []
       → ((next : State V W) (spare : ℕ)
-      → ArePartsAtWithMemory view taken.parser taken.state before next (length slice + spare)
-      → HasParsedPrefix m next slice n begins
-      (ArePartsAtKeepingMemory view taken.parser taken.state parser state value))
-      → HasParsedPrefix m (parse m start (take read bytes)) slice n begins
+      → PartsAreAtWithMemory view taken.parser taken.state before next (length slice + spare)
+      → HasParsedPrefix meaning next slice n begins
+      (PartsAreAtKeepingMemory view taken.parser taken.state parser state value))
+      → HasParsedPrefix meaning (parse meaning start (take read bytes)) slice n begins
       (EngineIsAtKeepingMemory view first (record taken { parser = parser; state = state }) value)
   slice-parsed parsed reserves size_is none_held parses =
       let here : EngineIsAtKeepingMemory view first taken before
-      (parse m start (take read bytes)) = keeping_memory-reserved reserves parsed.is_at in
+      (parse meaning start (take read bytes)) = keeping_memory-reserved reserves parsed.is_at in
       let sum : length slice + 0 ≡ length start.held + count = omega (arith, size_is, ap length none_held) in
       let parsed_slice =
-      parses (parse m start (take read bytes)) 0
+      parses (parse meaning start (take read bytes)) 0
       (record {
         parts_at = parts-at here.engine_at;
         memory = rw sum (reserves.memory refl _ _ _ here.engine_at.agrees);
@@ -89,72 +90,75 @@ module _ {P B T A V W : Type 0} {view : EngineView P B T W} {m : Meaning V W} {s
       }
 
 -- A stop ends the update if the engine comes to the stopped state and keeps its memory.
-pub stops_update : {P B T A V W : Type 0} {view : EngineView P B T W} {m : Meaning V W}
+pub stops_update : {P B T A V W : Type 0} {view : EngineView P B T W} {meaning : Meaning V W}
     {old mid new : Engine P B T A}
     {before value : V} → KeepsMemory (EngineHasMemory view old) (EngineHasMemory view mid)
     → ((state : State V W) → EngineIsAt view old before state
-    → EngineIsAtKeepingMemory view mid new value (stop m state))
-    → EngineStops view m old new before value
-stops_update {m} keeps ends = search (rules, arith)
+    → EngineIsAtKeepingMemory view mid new value (stop meaning state))
+    → EngineStopsSync view meaning old new before value
+stops_update {meaning} keeps ends = search (rules, arith)
 
-pub engine-at_stop : {P B T A V W : Type 0} {view : EngineView P B T W} {m : Meaning V W} {old new : Engine P B T A}
-    {before value : V} {state : State V W} → EngineStops view m old new before value
-    → EngineIsAt view old before state → EngineIsAtKeepingMemory view old new value (stop m state)
+pub engine-at_stop : {P B T A V W : Type 0} {view : EngineView P B T W} {meaning : Meaning V W} {old new : Engine P B T
+    A}
+    {before value : V} {state : State V W} → EngineStopsSync view meaning old new before value
+    → EngineIsAt view old before state → EngineIsAtKeepingMemory view old new value (stop meaning state)
 engine-at_stop stops is_at = search (rules, arith)
 
 -- A turn whose bytes aren't held parses them, after a stop if one is due.
-pub ends_turn : {P B T A V W : Type 0} {view : EngineView P B T W} {m : Meaning V W} {old mid new : Engine P B T A}
+pub ends_turn : {P B T A V W : Type 0} {view : EngineView P B T W} {meaning : Meaning V W} {old mid new : Engine P B T
+    A}
     {value : V} {state : State V W} {bytes : List ℕ} (pending : Bool)
-    → m.timeout.allows state.timeout pending → is_held pending state bytes ≡ false
+    → meaning.timeout.allows state.timeout pending → is_held pending state bytes ≡ false
     → KeepsMemory (EngineHasMemory view old) (EngineHasMemory view mid) → (result : Result ℕ Refused)
     → MatchResult result (λ read. read ≤ length bytes) (λ refused. refused.read < length bytes)
-    → EndsParsingTurn m (stop_if_due m pending state) bytes result (EngineIsAtKeepingMemory view mid new value)
-    → EndsTurn m state bytes result (EngineIsAtKeepingMemory view old new value)
-ends_turn {m} {state} {bytes} pending allowed not_held keeps (Ok read) within ends = record {
+    → EndsParsingTurn meaning (stop_if_due meaning pending state) bytes result
+    (EngineIsAtKeepingMemory view mid new value)
+    → EndsTurn meaning state bytes result (EngineIsAtKeepingMemory view old new value)
+ends_turn {meaning} {state} {bytes} pending allowed not_held keeps (Ok read) within ends = record {
   turned =
       record {
         pending = pending;
         allowed = allowed;
         progress = ends.parsed.progress;
-        rest = rw (turn-parses m pending state bytes not_held) ends.parsed.rest;
-        is_at = rw (turn-parses m pending state bytes not_held) (keeping_memory-then keeps ends.parsed.is_at);
+        rest = rw (turn-parses meaning pending state bytes not_held) ends.parsed.rest;
+        is_at = rw (turn-parses meaning pending state bytes not_held) (keeping_memory-then keeps ends.parsed.is_at);
       };
   refused = tt;
 }
-ends_turn {m} {state} {bytes} pending allowed not_held keeps (Err refused) within ends = record {
+ends_turn {meaning} {state} {bytes} pending allowed not_held keeps (Err refused) within ends = record {
   turned = tt;
   refused = record {
-    next = parse m (stop_if_due m pending state) (take refused.read bytes);
+    next = parse meaning (stop_if_due meaning pending state) (take refused.read bytes);
     takes = inside_turn done pending allowed
-        (refused-by_parsing m pending state _ bytes _
-        (not_held, parsing-refused m (stop_if_due m pending state) bytes ends.refused within));
+        (refused-by_parsing meaning pending state _ bytes _
+        (not_held, parsing-refused meaning (stop_if_due meaning pending state) bytes ends.refused within));
     is_at = keeping_memory-then keeps ends.refused.is_at;
   };
 }
 
 -- ---- one turn
 
-module _ {V W : Type 0} (m : Meaning V W) {state : State V W} {bytes : List ℕ} {n : ℕ}
+module _ {V W : Type 0} (meaning : Meaning V W) {state : State V W} {bytes : List ℕ} {n : ℕ}
     {IsNowAt : State V W → Type 0} where
-  pub turned_hold : {pending : Bool} → m.timeout.allows state.timeout pending → is_held pending state bytes ≡ true
-      → n ≡ length bytes → IsNowAt (hold_turn m state bytes) → HasTurned m state bytes n IsNowAt
+  pub turned_hold : {pending : Bool} → meaning.timeout.allows state.timeout pending → is_held pending state bytes ≡ true
+      → n ≡ length bytes → IsNowAt (hold_turn meaning state bytes) → HasTurned meaning state bytes n IsNowAt
   turned_hold {pending} allowed held all_read is_at = search (rules, arith, turn-holds, drop_all)
 
 -- ---- the turns of a call
 
--- The loop keeps `HasReached`, and at its end or at refused memory has `HasTaken`, which gives `EngineReads`.
+-- The loop keeps `HasReached`, and at its end or at refused memory has `HasAdvancedPart`, which gives `EngineAdvances`.
 
 -- As many bytes are left as weren't read.
 pub rest-size : (bytes : List ℕ) (read : ℕ) → read ≤ length bytes
     → length (take (length bytes - read) (drop read bytes)) ≡ length bytes - read
 rest-size bytes read inside = rw (take_rest bytes read, length-drop)
 
-module _ {V W : Type 0} (m : Meaning V W) (state : State V W) (bytes : List ℕ) where
+module _ {V W : Type 0} (meaning : Meaning V W) (state : State V W) (bytes : List ℕ) where
   -- `count` turns have read `read` bytes, at least one each.
   pub record HasReached (count read : ℕ) (IsNowAt : State V W → Type 0) : Type 0 where
     pub here : State V W
     pub enough : count ≤ read
-    pub takes : TakesTurns m state bytes here (drop read bytes)
+    pub takes : TakesTurns meaning state bytes here (drop read bytes)
     pub is_at : IsNowAt here
 
   pub reaches-nothing : {IsNowAt : State V W → Type 0} → IsNowAt state → HasReached 0 0 IsNowAt
@@ -164,40 +168,40 @@ module _ {V W : Type 0} (m : Meaning V W) (state : State V W) (bytes : List ℕ)
       {before value : V}
       {count read n : ℕ}
       → (reached : HasReached count read (EngineIsAtKeepingMemory view first mid before)) → read < length bytes
-      → HasTurned m reached.here (take (length bytes - read) (drop read bytes)) n
+      → HasTurned meaning reached.here (take (length bytes - read) (drop read bytes)) n
       (EngineIsAtKeepingMemory view mid new value)
       → HasReached (count + 1) (read + n) (EngineIsAtKeepingMemory view first new value)
   reaches-more {count} {read} {n} reached bytes_left turned =
       let slice = take (length bytes - read) (drop read bytes) in
       let slice_is : slice ≡ drop read bytes = take_rest bytes read in
       let some_bytes : 0 < length slice = rw (slice_is, length-drop read bytes) (omega arith) in
-      let rest_is : (turn m turned.pending reached.here slice).rest ≡ drop (read + n) bytes =
+      let rest_is : (turn meaning turned.pending reached.here slice).rest ≡ drop (read + n) bytes =
       turned.rest ∙ rw (slice_is, drop-drop n read bytes) in
       record {
-        here = (turn m turned.pending reached.here slice).state;
+        here = (turn meaning turned.pending reached.here slice).state;
         enough = omega (arith, reached.enough, turned.progress some_bytes);
         takes = rw rest_is at
-            (taken_on m state reached.here _ bytes slice _ (rw slice_is reached.takes)
-            (takes-one m turned.pending some_bytes turned.allowed));
+            (taken_on meaning state reached.here _ bytes slice _ (rw slice_is reached.takes)
+            (takes-one meaning turned.pending some_bytes turned.allowed));
         is_at = keeping_memory-then reached.is_at.keeps_memory turned.is_at;
       }
 
   has_taken-turns : {read : ℕ} {IsNowAt : State V W → Type 0} (next : State V W)
-      → TakesTurnsUntilRefused m state bytes next (drop read bytes)
-      → IsNowAt next → HasTaken m state bytes read IsNowAt
+      → TakesTurnsUntilRefused meaning state bytes next (drop read bytes)
+      → IsNowAt next → HasAdvancedPart meaning state bytes read IsNowAt
   has_taken-turns {read} next takes is_at = record {
     next = next;
     takes = takes;
     each_once = append_cancel_right _ _ (drop read bytes)
-        (all_bytes-grown (progresses-until_refused m takes)
+        (all_bytes-grown (progresses-until_refused meaning takes)
         ∙ ap (λ bytes. all_bytes state ++ bytes) (sym (take-append-drop read bytes))
         ∙ sym (append_assoc (all_bytes state) (take read bytes) (drop read bytes)));
-    holds_well = until_refused-well m takes;
+    holds_well = until_refused-well meaning takes;
     is_at = is_at;
   }
 
   has_taken-reached : {count read : ℕ} {IsNowAt : State V W → Type 0} → HasReached count read IsNowAt
-      → HasTaken m state bytes read IsNowAt
+      → HasAdvancedPart meaning state bytes read IsNowAt
   has_taken-reached reached = has_taken-turns reached.here (between_turns reached.takes) reached.is_at
 
   -- If a turn was refused memory after n bytes, its call has taken `read + n` of them.
@@ -205,68 +209,68 @@ module _ {V W : Type 0} (m : Meaning V W) (state : State V W) (bytes : List ℕ)
       {before value : V}
       {count read n : ℕ}
       → (reached : HasReached count read (EngineIsAtKeepingMemory view first mid before)) → read ≤ length bytes
-      → HasBeenRefused m reached.here (take (length bytes - read) (drop read bytes)) n
+      → HasBeenRefused meaning reached.here (take (length bytes - read) (drop read bytes)) n
       (EngineIsAtKeepingMemory view mid new value)
-      → HasTaken m state bytes (read + n) (EngineIsAtKeepingMemory view first new value)
+      → HasAdvancedPart meaning state bytes (read + n) (EngineIsAtKeepingMemory view first new value)
   reached-refused {read} {n} reached within refused =
       let slice = take (length bytes - read) (drop read bytes) in
       let slice_is : slice ≡ drop read bytes = take_rest bytes read in
       let rest_is : drop n slice ≡ drop (read + n) bytes = rw (slice_is, drop-drop n read bytes) in
       has_taken-turns refused.next
       (rw rest_is at
-      (until_refused-on m state reached.here refused.next bytes slice (drop n slice)
+      (until_refused-on meaning state reached.here refused.next bytes slice (drop n slice)
       (rw slice_is reached.takes) refused.takes))
       (keeping_memory-then reached.is_at.keeps_memory refused.is_at)
 
   -- A call that has read all its bytes ensures `HasAdvanced`.
-  pub has_advanced : {read : ℕ} {IsNowAt : State V W → Type 0} → HasTaken m state bytes read IsNowAt
+  pub has_advanced : {read : ℕ} {IsNowAt : State V W → Type 0} → HasAdvancedPart meaning state bytes read IsNowAt
       → length bytes ≤ read
-      → HasAdvanced m state bytes IsNowAt
+      → HasAdvanced meaning state bytes IsNowAt
   has_advanced {read} taken all_read = record {
     next = taken.next;
-    advances = until_refused-all m (rw (drop_all read bytes all_read) at taken.takes);
+    advances = until_refused-all meaning (rw (drop_all read bytes all_read) at taken.takes);
     each_once = rw (take_all read bytes all_read) at taken.each_once;
     holds_well = taken.holds_well;
     is_at = taken.is_at;
   }
 
--- `HasTaken` may promise less about the state that a call reaches.
-module _ {V W : Type 0} {m : Meaning V W} {state : State V W} {bytes : List ℕ} {read : ℕ} where
+-- `HasAdvancedPart` may promise less about the state that a call reaches.
+module _ {V W : Type 0} {meaning : Meaning V W} {state : State V W} {bytes : List ℕ} {read : ℕ} where
   pub taken-to : {IsNowAt other : State V W → Type 0} → ((state : State V W) → IsNowAt state → other state)
-      → HasTaken m state bytes read IsNowAt → HasTaken m state bytes read other
+      → HasAdvancedPart meaning state bytes read IsNowAt → HasAdvancedPart meaning state bytes read other
   taken-to follows taken = search (rules, arith)
 
   taken-at : {P B T A : Type 0} {view : EngineView P B T W} {old new : Engine P B T A} {value : V}
-      → HasTaken m state bytes read (EngineIsAtKeepingMemory view old new value)
-      → HasTaken m state bytes read (EngineIsAt view new value)
+      → HasAdvancedPart meaning state bytes read (EngineIsAtKeepingMemory view old new value)
+      → HasAdvancedPart meaning state bytes read (EngineIsAt view new value)
   taken-at = taken-to (λ state next. next.engine_at)
 
 -- What a call ensures follows from its turns.
-module _ {P B T A V W : Type 0} {view : EngineView P B T W} {m : Meaning V W} {old new : Engine P B T A}
+module _ {P B T A V W : Type 0} {view : EngineView P B T W} {meaning : Meaning V W} {old new : Engine P B T A}
     {before value : V} (bytes : List ℕ) where
   pub engine_reads-all : {count read : ℕ}
       → ((state : State V W) → EngineIsAt view old before state
-      → HasReached m state bytes count read (EngineIsAtKeepingMemory view old new value))
+      → HasReached meaning state bytes count read (EngineIsAtKeepingMemory view old new value))
       → ((state : State V W) → EngineIsAt view old before state → read ≡ length bytes)
-      → EngineReads view m old new before value bytes (Ok tt)
+      → EngineAdvances view meaning old new before value bytes (Ok tt)
   engine_reads-all reaches all_read = record {
     takes =
         λ state is_at.
-        rw (all_read state is_at) at (taken-at (has_taken-reached m state bytes (reaches state is_at)));
+        rw (all_read state is_at) at (taken-at (has_taken-reached meaning state bytes (reaches state is_at)));
     within = tt;
-    lacks = tt;
+    lacks_memory = tt;
     keeps_memory = λ state is_at. (reaches state is_at).is_at.keeps_memory;
   }
 
   pub engine_reads-until : {refused : Refused}
       → ((state : State V W) → EngineIsAt view old before state
-      → HasTaken m state bytes refused.read (EngineIsAtKeepingMemory view old new value))
-      → refused.read < length bytes → LacksMemoryForSome view new (length bytes - refused.read)
-      → EngineReads view m old new before value bytes (Err refused)
+      → HasAdvancedPart meaning state bytes refused.read (EngineIsAtKeepingMemory view old new value))
+      → refused.read < length bytes → EngineLacksMemory view new (length bytes - refused.read)
+      → EngineAdvances view meaning old new before value bytes (Err refused)
   engine_reads-until taken bytes_left lacks =
       record {
         takes = λ state is_at. taken-at (taken state is_at);
         within = bytes_left;
-        lacks = lacks;
+        lacks_memory = lacks;
         keeps_memory = λ state is_at. (taken state is_at).is_at.keeps_memory;
       }

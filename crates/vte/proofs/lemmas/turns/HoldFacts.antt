@@ -1,6 +1,6 @@
 -- Turns and stops keep `HoldsWell`: by cases of the timeout's answer and of what a hold turn keeps, which is all, or
 -- starts with a begin-update, or is nothing.
-use Rattle.vte.proofs.Common.{added, after_last_end, AllowsOnly, ap, append-nil, arith, begin_count, begin_update, begins_ending_in_last, Bool, cases_Bool, cases_lt, done, extend, from_begin_update, hold_turn, HoldsWellAt, inl, inr, IsInsideUpdate, IsOutsideUpdate, IsSteady, length, length-append, List, max_held, Meaning, nat_tests, parsing_turn, part_after_last_end, prefix_to_begin, refl, release, rules, set_times, State, stop, suc, take, TakesTurns, TimeoutMeaning, true, turn, turns, update_nanos, zero, ℕ, [], ◌++◌, ◌-◌, ◌<◌, ◌∷◌, ◌≡◌, ◌≤◌}
+use Rattle.vte.proofs.Common.{added, after_last_end, AllowsOnly, ap, append-nil, arith, begin_count, begin_update, begins_ending_in_last, Bool, cases_Bool, cases_lt, done, extend, from_begin_update, hold_turn, HoldsWellAt, inl, inr, IsInsideUpdate, IsOutsideUpdate, IsSteady, length, length-append, List, max_held, Meaning, nat_tests, parsing_turn, part_after_last_end, prefix_to_begin, refl, release, rules, State, stop, suc, take, TakesTurns, timeout_set_times, TimeoutMeaning, true, turn, turns, update_nanos, zero, ℕ, [], ◌++◌, ◌-◌, ◌<◌, ◌∷◌, ◌≡◌, ◌≤◌}
 use Rattle.vte.proofs.lemmas.updates.Prefixes.{prefix-is}
 use Rattle.vte.proofs.lemmas.updates.Sequences.{begins_with-append, cases_Option, stays_held, StaysHeld, suffix-length}
 use Rattle.vte.proofs.lemmas.turns.TurnKinds.{hold_turn-all, hold_turn-rest, is_held, stop_if_due, turn-holds, turn-parses}
@@ -8,45 +8,47 @@ use Rattle.vte.proofs.lemmas.turns.EachOnce.{stop_if_due-holds_nothing}
 
 -- ---- a steady timeout is pending once it is set, and stays so when it is set again
 
-module _ {W : Type 0} (m : TimeoutMeaning W) (steady : IsSteady m) where
-  allows-still_pending : (n : ℕ) (value : W) → AllowsOnly m value true → AllowsOnly m (set_times m n value) true
+module _ {W : Type 0} (meaning : TimeoutMeaning W) (steady : IsSteady meaning) where
+  allows-still_pending : (n : ℕ) (value : W) → AllowsOnly meaning value true
+      → AllowsOnly meaning (timeout_set_times meaning n value) true
   allows-still_pending zero value allows = allows
   allows-still_pending (suc n) value allows =
-      allows-still_pending n (m.set value update_nanos) (steady.set value update_nanos)
+      allows-still_pending n (meaning.set value update_nanos) (steady.set value update_nanos)
 
-  allows-pending : (n : ℕ) (value : W) → 0 < n → AllowsOnly m (set_times m n value) true
+  allows-pending : (n : ℕ) (value : W) → 0 < n → AllowsOnly meaning (timeout_set_times meaning n value) true
   allows-pending zero value some_times = absurd (omega arith)
   allows-pending (suc n) value some_times =
-      allows-still_pending n (m.set value update_nanos) (steady.set value update_nanos)
+      allows-still_pending n (meaning.set value update_nanos) (steady.set value update_nanos)
 
 -- ---- a stop
 
-module _ {V W : Type 0} (m : Meaning V W) where
-  stop-outside : (state : State V W) → IsSteady m.timeout → IsOutsideUpdate m.timeout [] (stop m state).timeout
+module _ {V W : Type 0} (meaning : Meaning V W) where
+  stop-outside : (state : State V W) → IsSteady meaning.timeout
+      → IsOutsideUpdate meaning.timeout [] (stop meaning state).timeout
   stop-outside state steady = record { not_pending = steady.clear _; none_held = refl }
 
-  pub stop-well : (state : State V W) → HoldsWellAt m (stop m state)
+  pub stop-well : (state : State V W) → HoldsWellAt meaning (stop meaning state)
   stop-well state = record { no_end = refl; fits = omega arith; steady = λ steady. inl (stop-outside state steady) }
 
   -- ---- a parsing turn
 
   parsing_turn-well : (state : State V W) (bytes : List ℕ) → state.held ≡ []
-      → (IsSteady m.timeout → IsOutsideUpdate m.timeout state.held state.timeout)
-      → HoldsWellAt m (parsing_turn m state bytes).state
+      → (IsSteady meaning.timeout → IsOutsideUpdate meaning.timeout state.held state.timeout)
+      → HoldsWellAt meaning (parsing_turn meaning state bytes).state
   parsing_turn-well state bytes none_held outside =
-      let prefix = prefix_to_begin m.limit state.parsed bytes in
-      let found = prefix-is m.limit state.parsed bytes in
+      let prefix = prefix_to_begin meaning.limit state.parsed bytes in
+      let found = prefix-is meaning.limit state.parsed bytes in
       record {
         no_end = rw none_held refl;
         fits = rw none_held (omega arith);
-        steady = λ steady. elim (cases_lt 0 (begin_count (added m.limit state.parsed prefix))) [
+        steady = λ steady. elim (cases_lt 0 (begin_count (added meaning.limit state.parsed prefix))) [
           | inl some_begin ↦
               inr (record {
-                pending = allows-pending m.timeout steady _ state.timeout some_begin;
+                pending = allows-pending meaning.timeout steady _ state.timeout some_begin;
                 begun = inl (rw found.prefix_is (found.ends (rw found.prefix_is at some_begin)));
               })
           | inr no_begin ↦
-              let none_begin : begin_count (added m.limit state.parsed prefix) ≡ 0 = omega arith in
+              let none_begin : begin_count (added meaning.limit state.parsed prefix) ≡ 0 = omega arith in
               inl (record { not_pending = rw none_begin (outside steady).not_pending; none_held = none_held })
         ];
       }
@@ -54,16 +56,16 @@ module _ {V W : Type 0} (m : Meaning V W) where
   -- ---- a turn that holds
 
   release-well : (state : State V W) (kept : List ℕ) → StaysHeld state.held kept → length state.held ≤ max_held
-      → (IsSteady m.timeout → IsInsideUpdate m.limit m.timeout state.parsed state.held state.timeout)
-      → HoldsWellAt m (release m state kept)
+      → (IsSteady meaning.timeout → IsInsideUpdate meaning.limit meaning.timeout state.parsed state.held state.timeout)
+      → HoldsWellAt meaning (release meaning state kept)
   release-well state [] stays fits inside = stop-well state
   release-well state (b ∷ kept) stays fits inside = record {
     no_end = stays.no_end;
     fits = omega (arith, suffix-length stays.suffix);
     steady = λ steady. inr (record {
       pending =
-          allows-still_pending m.timeout steady
-          (begin_count (added m.limit state.parsed (take (length state.held - suc (length kept)) state.held)))
+          allows-still_pending meaning.timeout steady
+          (begin_count (added meaning.limit state.parsed (take (length state.held - suc (length kept)) state.held)))
           state.timeout
           (inside steady).pending;
       begun = elim stays.begins [
@@ -75,23 +77,27 @@ module _ {V W : Type 0} (m : Meaning V W) where
     });
   }
 
-  inside-pending : (state : State V W) → HoldsWellAt m state → m.timeout.allows state.timeout true → IsSteady m.timeout
-      → IsInsideUpdate m.limit m.timeout state.parsed state.held state.timeout
+  inside-pending : (state : State V W) → HoldsWellAt meaning state → meaning.timeout.allows state.timeout true
+      → IsSteady meaning.timeout
+      → IsInsideUpdate meaning.limit meaning.timeout state.parsed state.held state.timeout
   inside-pending state well allowed steady = search (rules, arith)
 
-  pub stop_if_due-outside : (pending : Bool) (state : State V W) → m.timeout.allows state.timeout pending
-      → HoldsWellAt m state
-      → IsSteady m.timeout
-      → IsOutsideUpdate m.timeout (stop_if_due m pending state).held (stop_if_due m pending state).timeout
+  pub stop_if_due-outside : (pending : Bool) (state : State V W) → meaning.timeout.allows state.timeout pending
+      → HoldsWellAt meaning state
+      → IsSteady meaning.timeout
+      → IsOutsideUpdate meaning.timeout (stop_if_due meaning pending state).held
+      (stop_if_due meaning pending state).timeout
   stop_if_due-outside pending state allowed well steady = search (rules, arith)
 
-  hold_turn-well : (state : State V W) (bytes : List ℕ) → HoldsWellAt m state → m.timeout.allows state.timeout true
-      → length (state.held ++ bytes) ≤ max_held → HoldsWellAt m (hold_turn m state bytes)
+  hold_turn-well : (state : State V W) (bytes : List ℕ) → HoldsWellAt meaning state
+      → meaning.timeout.allows state.timeout true
+      → length (state.held ++ bytes) ≤ max_held → HoldsWellAt meaning (hold_turn meaning state bytes)
   hold_turn-well state bytes well allowed fits =
-      let inside : IsSteady m.timeout
-      → IsInsideUpdate m.limit m.timeout state.parsed (state.held ++ bytes) (extend m state bytes).timeout =
+      let inside : IsSteady meaning.timeout
+      → IsInsideUpdate meaning.limit meaning.timeout state.parsed (state.held ++ bytes)
+      (extend meaning state bytes).timeout =
       λ steady. (let is_inside = inside-pending state well allowed steady in record {
-        pending = allows-still_pending m.timeout steady
+        pending = allows-still_pending meaning.timeout steady
             (begins_ending_in_last (length bytes)
             (part_after_last_end (state.held ++ bytes))) state.timeout is_inside.pending;
         begun = elim is_inside.begun [
@@ -101,34 +107,34 @@ module _ {V W : Type 0} (m : Meaning V W) where
       }) in
       elim (cases_Option (after_last_end (state.held ++ bytes))) [
         | inl no_end ↦
-            rw (hold_turn-all m state bytes no_end)
+            rw (hold_turn-all meaning state bytes no_end)
             (record { no_end = no_end; fits = fits; steady = λ steady. inr (inside steady) })
         | inr last_end ↦
-            rw (hold_turn-rest m state bytes last_end.1)
-            (release-well (extend m state bytes) (from_begin_update last_end.0)
+            rw (hold_turn-rest meaning state bytes last_end.1)
+            (release-well (extend meaning state bytes) (from_begin_update last_end.0)
             (rw last_end.1 at (stays_held (state.held ++ bytes))) fits inside)
       ]
 
   -- ---- a turn, and turns of a call
 
-  pub turn-well : (pending : Bool) (state : State V W) (bytes : List ℕ) → m.timeout.allows state.timeout pending
-      → HoldsWellAt m state
-      → HoldsWellAt m (turn m pending state bytes).state
+  pub turn-well : (pending : Bool) (state : State V W) (bytes : List ℕ) → meaning.timeout.allows state.timeout pending
+      → HoldsWellAt meaning state
+      → HoldsWellAt meaning (turn meaning pending state bytes).state
   turn-well pending state bytes allowed well = elim (cases_Bool (is_held pending state bytes)) [
     | inl held ↦ let is_pending : pending ≡ true =
         grind (arith, nat_tests) in
-        rw (turn-holds m pending state bytes held)
+        rw (turn-holds meaning pending state bytes held)
         (hold_turn-well state bytes well (rw is_pending at allowed)
         (grind (arith, nat_tests, length-append state.held bytes)))
     | inr not_held ↦
-        rw (turn-parses m pending state bytes not_held)
-        (parsing_turn-well (stop_if_due m pending state) bytes (stop_if_due-holds_nothing m pending state)
+        rw (turn-parses meaning pending state bytes not_held)
+        (parsing_turn-well (stop_if_due meaning pending state) bytes (stop_if_due-holds_nothing meaning pending state)
         (stop_if_due-outside pending state allowed well))
   ]
 
-  pub turns-well : {state next : State V W} {bytes left : List ℕ} → TakesTurns m state bytes next left
-      → HoldsWellAt m state
-      → HoldsWellAt m next
+  pub turns-well : {state next : State V W} {bytes left : List ℕ} → TakesTurns meaning state bytes next left
+      → HoldsWellAt meaning state
+      → HoldsWellAt meaning next
   turns-well done well = well
   turns-well {state} {next} {bytes = b ∷ bytes} {left} (turns pending allowed takes) well =
       turns-well takes (turn-well pending state (b ∷ bytes) allowed well)

@@ -5,12 +5,13 @@ use Rattle.std.specs.Prelude.{if◌then◌else◌, ◌&&◌}
 
 -- ---- hold turns
 
-module _ {V W : Type 0} (m : Meaning V W) (state : State V W) (bytes : List ℕ) where
-  pub hold_turn-all : after_last_end (state.held ++ bytes) ≡ None → hold_turn m state bytes ≡ extend m state bytes
+module _ {V W : Type 0} (meaning : Meaning V W) (state : State V W) (bytes : List ℕ) where
+  pub hold_turn-all : after_last_end (state.held ++ bytes) ≡ None
+      → hold_turn meaning state bytes ≡ extend meaning state bytes
   hold_turn-all no_end = rw no_end refl
 
   pub hold_turn-rest : {rest : List ℕ} → after_last_end (state.held ++ bytes) ≡ Some rest
-      → hold_turn m state bytes ≡ release m (extend m state bytes) (from_begin_update rest)
+      → hold_turn meaning state bytes ≡ release meaning (extend meaning state bytes) (from_begin_update rest)
   hold_turn-rest last_end = rw last_end refl
 
 -- ---- whether bytes are held, and what is stopped before they are parsed
@@ -22,28 +23,29 @@ abbrev pub is_stopped : {V W : Type 0} → Bool → State V W → Bool
 is_stopped pending state = pending || nat_lt 0 (length state.held)
 
 abbrev pub stop_if_due : {V W : Type 0} → Meaning V W → Bool → State V W → State V W
-stop_if_due m pending state = if is_stopped pending state then stop m state else state
+stop_if_due meaning pending state = if is_stopped pending state then stop meaning state else state
 
 -- A parsing turn, after a stop if need be, was refused memory.
 abbrev pub ParsesUntilRefused : {V W : Type 0} → Meaning V W → Bool → State V W → List ℕ → State V W → List ℕ → Type 0
-ParsesUntilRefused m pending state bytes next left =
-    (is_held pending state bytes ≡ false) × ParsingTurnIsRefused m (stop_if_due m pending state) bytes next left
+ParsesUntilRefused meaning pending state bytes next left =
+    (is_held pending state bytes ≡ false)
+    × ParsingTurnIsRefused meaning (stop_if_due meaning pending state) bytes next left
 
-module _ {V W : Type 0} (m : Meaning V W) where
+module _ {V W : Type 0} (meaning : Meaning V W) where
   pub turn-holds : (pending : Bool) (state : State V W) (bytes : List ℕ) → is_held pending state bytes ≡ true
-      → turn m pending state bytes ≡ record { state = hold_turn m state bytes; rest = [] }
+      → turn meaning pending state bytes ≡ record { state = hold_turn meaning state bytes; rest = [] }
   turn-holds pending state bytes held = search (rules, arith)
 
   pub turn-parses : (pending : Bool) (state : State V W) (bytes : List ℕ) → is_held pending state bytes ≡ false
-      → turn m pending state bytes ≡ parsing_turn m (stop_if_due m pending state) bytes
+      → turn meaning pending state bytes ≡ parsing_turn meaning (stop_if_due meaning pending state) bytes
   turn-parses pending state bytes not_held = search (rules, arith)
 
   pub refused-parses : (pending : Bool) (state next : State V W) (bytes left : List ℕ)
-      → TurnIsRefused m pending state bytes next left
-      → ParsesUntilRefused m pending state bytes next left
+      → TurnIsRefused meaning pending state bytes next left
+      → ParsesUntilRefused meaning pending state bytes next left
   refused-parses pending state next bytes left refused = search (rules, arith)
 
   pub refused-by_parsing : (pending : Bool) (state next : State V W) (bytes left : List ℕ)
-      → ParsesUntilRefused m pending state bytes next left
-      → TurnIsRefused m pending state bytes next left
+      → ParsesUntilRefused meaning pending state bytes next left
+      → TurnIsRefused meaning pending state bytes next left
   refused-by_parsing pending state next bytes left refused = search (rules, arith)

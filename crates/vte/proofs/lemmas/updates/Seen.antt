@@ -2,22 +2,22 @@
 -- what is unread starts. Only a position with ESC can change it (`seen-skipped`, `last_escape`), and the older bytes
 -- matter only by their last seven. A round of the search reads the last ESC (`seen-round`), and at the front the whole
 -- hold is seen (`seen-all`).
-use Rattle.vte.proofs.Common.{add-zero, Adds, after_last_end, after_word, ap, arith, begin_update, begins_ending_in_last, begins_with, cases_Bool, drop, drop-drop, drop_all, drop_more, end_update, eqb, false, from_begin_update, get_or, get_or-drop, get_or-take, inl, inr, IsHeldTail, length, length-append, length-drop, length-take-le, List, nat_tests, None, refl, rules, Some, subst, suc, take, true, zero, ℕ, [], ◌++◌, ◌+◌, ◌-◌, ◌<◌, ◌∙◌, ◌∷◌, ◌≡◌, ◌≤◌}
+use Rattle.vte.proofs.Common.{add-zero, after_last_end, after_word, ap, arith, begin_update, begins_ending_in_last, begins_with, cases_Bool, drop, drop-drop, drop_all, drop_more, end_update, eqb, false, FindsRelease, from_begin_update, get_or, get_or-drop, get_or-take, inl, inr, IsHeldTail, length, length-append, length-drop, length-take-le, List, nat_tests, None, refl, rules, Some, subst, suc, take, true, zero, ℕ, [], ◌++◌, ◌+◌, ◌-◌, ◌<◌, ◌∙◌, ◌∷◌, ◌≡◌, ◌≤◌}
 use Rattle.std.specs.Prelude.{nat_lt, ◌&&◌}
 use Rattle.memchr.specs.Find.{is_byte, NoneAfter, Nowhere, Passes}
-use Rattle.vte.specs.private.Hold.{HasNoPrivateSequence, IsNeither, NoneBetween}
+use Rattle.vte.specs.private.Hold.{HasNoPrivateSequence, HasNoSequenceAt, HasNoSequenceBetween}
 use Rattle.vte.proofs.lemmas.updates.Sequences.{after_last_end-tail, after_word-whole, begins_ending_in_last-tail, begins_with-further, begins_with-is, begins_with-length, from_begin-end_skipped, none_from_is_some}
 use Rattle.std.proofs.lemmas.List.{take_rest}
 
 -- Neither sequence begins at a byte other than ESC, or if fewer than eight bytes are left.
 neither-plain : (text : List ℕ) (position : ℕ) → position < length text → eqb (get_or text position 0) 0x1b ≡ false
-    → IsNeither text position
+    → HasNoSequenceAt text position
 neither-plain text position within no_escape = grind (arith, nat_tests, drop_more)
 
 begins_with-short : (sequence text : List ℕ) → length text < length sequence → begins_with sequence text ≡ false
 begins_with-short sequence text short = search (rules, arith, begins_with-length)
 
-neither-short : (text : List ℕ) (position : ℕ) → length text < position + 8 → IsNeither text position
+neither-short : (text : List ℕ) (position : ℕ) → length text < position + 8 → HasNoSequenceAt text position
 neither-short text position short =
     let at_most : length (drop position text) < 8 = rw length-drop (omega arith) in
     record {
@@ -41,7 +41,7 @@ neither-pair byte rest text position not_both =
 
 -- Neither sequence begins in a block, if no ESC of the block has `?` as the second byte after it.
 pub neither-block : (text : List ℕ) (from n : ℕ) → HasNoPrivateSequence (take (n + 2) (drop from text)) n
-    → NoneBetween text from (from + n)
+    → HasNoSequenceBetween text from (from + n)
 neither-block text from n no_private_sequence k low high =
     let i = k - from in
     let here : from + i ≡ k = omega arith in
@@ -79,7 +79,7 @@ no_escape-within (a ∷ sequence) (b ∷ text) (suc i) no_escape inside is_escap
 
 neither-before : (text : List ℕ) (position escape : ℕ) → position < escape → escape < position + 8
     → escape < length text
-    → eqb (get_or text escape 0) 0x1b ≡ true → IsNeither text position
+    → eqb (get_or text escape 0) 0x1b ≡ true → HasNoSequenceAt text position
 neither-before text position escape before near inside is_escape =
     let cut = drop_more text position 0 (omega arith) in
     let i = escape - (position + 1) in
@@ -112,7 +112,7 @@ pub record HasSeen (text : List ℕ) (new unread begin begins : ℕ) : Type 0 wh
 
 module _ {text : List ℕ} {new position begin begins : ℕ} (within : position < length text)
     (seen : HasSeen text new (position + 1) begin begins) where
-  seen-other : IsNeither text position → HasSeen text new position begin begins
+  seen-other : HasNoSequenceAt text position → HasSeen text new position begin begins
   seen-other neither = let cut = drop_more text position 0 within in
       let no_begin = none_from_is_some _ (rw cut at neither.no_begin) in
       let no_end = none_from_is_some _ (rw cut at neither.no_end) in
@@ -138,7 +138,7 @@ module _ {text : List ℕ} {new position begin begins : ℕ} (within : position 
       }
 
   pub seen-end : begins_with end_update (drop position text) ≡ true
-      → Adds text new (record { begins = begins; released = begin })
+      → FindsRelease text new (record { begins = begins; released = begin })
   seen-end is_end =
       let cut = drop_more text position 0 within in
       let here = rw cut at is_end in
@@ -161,7 +161,7 @@ module _ {text : List ℕ} {new position begin begins : ℕ} (within : position 
 -- ---- many positions more, at which no sequence begins
 
 seen-further : {text : List ℕ} {new : ℕ} (n : ℕ) {position begin begins : ℕ} → position + n ≤ length text
-    → ((k : ℕ) → position ≤ k → k < position + n → IsNeither text k)
+    → ((k : ℕ) → position ≤ k → k < position + n → HasNoSequenceAt text k)
     → HasSeen text new (position + n) begin begins → HasSeen text new position begin begins
 seen-further zero within neither seen = rw add-zero at seen
 seen-further {text} {new} (suc n) {position} {begin} {begins} within neither seen =
@@ -171,7 +171,7 @@ seen-further {text} {new} (suc n) {position} {begin} {begins} within neither see
 
 -- What was seen from `unread` on was also seen from an earlier position on, if no sequence begins in between.
 seen-down : {text : List ℕ} {new position unread begin begins : ℕ} → position ≤ unread → unread ≤ length text
-    → ((k : ℕ) → position ≤ k → k < unread → IsNeither text k)
+    → ((k : ℕ) → position ≤ k → k < unread → HasNoSequenceAt text k)
     → HasSeen text new unread begin begins → HasSeen text new position begin begins
 seen-down {position} {unread} below within neither seen =
     let same : unread ≡ position + (unread - position) = omega arith in
@@ -223,7 +223,7 @@ module _ {held more text : List ℕ} {start : ℕ} (held_tail : IsHeldTail held 
 
   neither-between : (from low unread : ℕ) → start + from ≡ low → unread ≤ length text
       → Nowhere (Passes (is_byte 0x1b) (take unread text)) from (length (take unread text))
-      → (k : ℕ) → low ≤ k → k < start + unread → IsNeither all k
+      → (k : ℕ) → low ≤ k → k < start + unread → HasNoSequenceAt all k
   neither-between from low unread low_is within nowhere k above high =
       let i = k - start in
       let position : start + i ≡ k = omega arith in
@@ -233,7 +233,7 @@ module _ {held more text : List ℕ} {start : ℕ} (held_tail : IsHeldTail held 
 
   -- Blocks in which neither sequence begins change nothing.
   pub seen-skipped : (unread before : ℕ) {begin begins : ℕ} → unread ≤ before → before ≤ length text
-      → NoneBetween text unread before → HasSeen all (length more) (start + before) begin begins
+      → HasNoSequenceBetween text unread before → HasSeen all (length more) (start + before) begin begins
       → HasSeen all (length more) (start + unread) begin begins
   seen-skipped unread before at_most within none_between seen =
       seen-down (omega arith) (omega (arith, tail-size))
@@ -281,7 +281,7 @@ module _ {held more text : List ℕ} {start : ℕ} (held_tail : IsHeldTail held 
   pub seen-all : (unread begin begins : ℕ) → after_last_end held ≡ None → unread ≤ length text
       → Nowhere (Passes (is_byte 0x1b) (take unread text)) 0 (length (take unread text))
       → HasSeen all (length more) (start + unread) begin begins
-      → Adds all (length more) (record { begins = begins; released = 0 })
+      → FindsRelease all (length more) (record { begins = begins; released = 0 })
   seen-all unread begin begins held_no_end within nowhere seen =
       -- Without ESC no sequence begins in what is unread, so all of the tail is seen.
       let rest =
@@ -312,7 +312,7 @@ module _ (text : List ℕ) {unread before next : ℕ} (position : ℕ) (within :
   -- What is seen if the ESC is read was seen from the end of the skipped blocks on.
   pub seen-round : {held more : List ℕ} {start begin begins begin_then begins_then : ℕ}
       (held_tail : IsHeldTail held more text start) → Passes (is_byte 0x1b) (take unread text) position
-      → NoneBetween text next before
+      → HasNoSequenceBetween text next before
       → HasSeen (held ++ more) (length more) (start + unread) begin begins
       → (IsLastEscape (held ++ more) (length more) (start + position) (start + unread) begin begins
       → (from : ℕ) → from ≤ start + position → start + position ≤ from + 7

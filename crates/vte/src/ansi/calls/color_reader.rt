@@ -34,8 +34,8 @@ pub(crate) fn read_color<I: NumberIterator>(kind: u16, numbers: &mut I) -> Optio
 }
 
 /// Reads a colour after 38, 48 or 58 in one group.
-#[tactic(auto, using(crate::proofs::lemmas::calls::Colors::themselves))]
-pub(crate) fn read_joined(numbers: &[u16]) -> Option<Color>
+#[tactic(auto, using(crate::proofs::lemmas::calls::Colors::map_identity))]
+pub(crate) fn read_joined_color(numbers: &[u16]) -> Option<Color>
     ensures { result ≡ (color_reading (without_color_space numbers.now)).color }
 {
     let (kind, mut left) = numbers.split_first()?;

@@ -2,7 +2,7 @@
 ghost use Rattle.std.specs.Prelude.{bytes_eq, codes, map, ◌≡◌, ◌≤◌};
 ghost use Rattle.vte.specs.CommandCalls.{all_reset, clipboard_calls, color_calls, dynamic_calls, dynamic_color_calls, dynamic_colors, link_calls, link_to, palette_calls, palette_entry_calls, pointer_calls, reset_calls, shape_calls, system_command_calls, title_calls};
 ghost use Rattle.vte_types.specs.Words.{entry_of};
-ghost use Rattle.vte.specs.private.Performer.{FitsTextSize};
+ghost use Rattle.vte.specs.private.Performer.{FitsTextCapacity};
 ghost use Rattle.vte.specs.Numbers.{decimal_number};
 ghost use Rattle.vte_handler.specs.Call.{SetHyperlink};
 ghost use Rattle.vte_handler.specs.Handler.{after};
@@ -12,7 +12,7 @@ use crate::ansi::calls::color_text::xparse_color;
 use crate::ansi::calls::joined_text::{join_texts, text_in};
 use crate::ansi::calls::numbers::{parse_number, push_number};
 use crate::ansi::calls::text_buffer::TextBuffer;
-use crate::ansi::split::{id_in, strip_word};
+use crate::ansi::split::{link_id, strip_word};
 use arrayvec::ArrayString;
 use std::str::FromStr;
 use vte_handler::{Handler, Hyperlink};
@@ -28,11 +28,11 @@ pub(crate) fn perform_system_command<H: Handler, B: TextBuffer>(
     pieces: &[&[u8]],
     bell_terminated: bool,
 )
-    requires { FitsTextSize (B.text_size text.old) (map (λ piece. piece.now) pieces.now) }
+    requires { FitsTextCapacity (B.text_capacity text.old) (map (λ piece. piece.now) pieces.now) }
     ensures calls { H.value_of handler.new
         ≡ after H.step (H.value_of handler.old)
         (system_command_calls (map (λ piece. piece.now) pieces.now) bell_terminated) }
-    ensures same { B.text_size text.new ≡ B.text_size text.old }
+    ensures keeps_capacity { B.text_capacity text.new ≡ B.text_capacity text.old }
 {
     // proof: a word that is matched is no other word.
     laws::words_differ_from_other_texts();
@@ -60,10 +60,10 @@ pub(crate) fn perform_system_command<H: Handler, B: TextBuffer>(
 /// Sets the title that these pieces make: 0 and 2. A title of one piece is lent, and not copied.
 #[tactic(auto, using(crate::proofs::lemmas::calls::JoinedTexts::one_text))]
 fn set_title<H: Handler, B: TextBuffer>(handler: &mut H, text: &mut B, texts: &[&[u8]])
-    requires { FitsTextSize (B.text_size text.old) (map (λ piece. piece.now) texts.now) }
+    requires { FitsTextCapacity (B.text_capacity text.old) (map (λ piece. piece.now) texts.now) }
     ensures calls { H.value_of handler.new
         ≡ after H.step (H.value_of handler.old) (title_calls (map (λ piece. piece.now) texts.now)) }
-    ensures same { B.text_size text.new ≡ B.text_size text.old }
+    ensures keeps_capacity { B.text_capacity text.new ≡ B.text_capacity text.old }
 {
     match texts {
         [] => {}
@@ -138,10 +138,10 @@ fn set_palette<H: Handler>(handler: &mut H, texts: &[&[u8]], terminator: &str)
 /// Sets the link that these pieces make. A URI of one piece is lent, and not copied.
 #[tactic(auto, using(crate::proofs::lemmas::calls::JoinedTexts::one_text))]
 fn set_link<H: Handler, B: TextBuffer>(handler: &mut H, text: &mut B, texts: &[&[u8]])
-    requires { FitsTextSize (B.text_size text.old) (map (λ piece. piece.now) texts.now) }
+    requires { FitsTextCapacity (B.text_capacity text.old) (map (λ piece. piece.now) texts.now) }
     ensures calls { H.value_of handler.new
         ≡ after H.step (H.value_of handler.old) (link_calls (map (λ piece. piece.now) texts.now)) }
-    ensures same { B.text_size text.new ≡ B.text_size text.old }
+    ensures keeps_capacity { B.text_capacity text.new ≡ B.text_capacity text.old }
 {
     match texts {
         [] | [_] => {}
@@ -162,7 +162,7 @@ fn set_link_to<H: Handler>(handler: &mut H, parameters: &[u8], uri: &str)
     if uri.is_empty() {
         handler.set_hyperlink(None);
     } else {
-        let id = id_in(parameters).and_then(|id| text_in(id, false));
+        let id = link_id(parameters).and_then(|id| text_in(id, false));
         handler.set_hyperlink(Some(Hyperlink { id, uri }));
     }
 }
@@ -181,7 +181,7 @@ fn set_dynamic_color<H: Handler>(handler: &mut H, code: usize, terminator: &str,
     }
 }
 
-/// Sets such colours, or asks for them: 10, 11 or 12, and those after it, one for each text.
+/// Sets dynamic colours, or asks for them: 10, 11 or 12, and those that follow, one for each text.
 #[tactic(auto, using(crate::proofs::lemmas::EventCalls::appended))]
 fn set_dynamic_colors<H: Handler>(handler: &mut H, first: usize, texts: &[&[u8]], terminator: &str)
     requires { first ≤ 12 }

@@ -1,6 +1,6 @@
 //! The calls of executed bytes and of escape sequences.
 ghost use Rattle.std.specs.Prelude.{Some, ◌≡◌};
-ghost use Rattle.vte.specs.EscapeCalls.{charset_calls, charset_rows, escape_calls, execute_calls};
+ghost use Rattle.vte.specs.EscapeCalls.{charset_calls, charset_table, escape_calls, execute_calls};
 ghost use Rattle.vte_handler.specs.Handler.{after};
 ghost use Rattle.vte_types.specs.Words.{entry_of};
 
@@ -32,9 +32,9 @@ pub(crate) fn perform_escape<H: Handler>(handler: &mut H, intermediates: &[u8], 
         ≡ after H.step (H.value_of handler.old) (escape_calls intermediates.now byte) }
 {
     match (byte, intermediates) {
-        (b'B', [index]) => configure(handler, *index, StandardCharset::Ascii),
+        (b'B', [index]) => designate(handler, *index, StandardCharset::Ascii),
         (b'0', [index]) => {
-            configure(
+            designate(
                 handler,
                 *index,
                 StandardCharset::SpecialCharacterAndLineDrawing,
@@ -59,10 +59,10 @@ pub(crate) fn perform_escape<H: Handler>(handler: &mut H, intermediates: &[u8], 
 }
 
 /// Configures the index that an intermediate designates.
-fn configure<H: Handler>(handler: &mut H, intermediate: u8, charset: StandardCharset)
+fn designate<H: Handler>(handler: &mut H, intermediate: u8, charset: StandardCharset)
     ensures { H.value_of handler.new
         ≡ after H.step (H.value_of handler.old)
-        (charset_calls (entry_of charset_rows intermediate) (Some charset)) }
+        (charset_calls (entry_of charset_table intermediate) (Some charset)) }
 {
     match intermediate {
         b'(' => handler.configure_charset(CharsetIndex::G0, charset),

@@ -18,7 +18,7 @@ impl<A: Allocator + Clone> Clone for GrowingText<A> {
 
     fn clone(&self) -> Result<Self, AllocError> {
         let mut text = self.text.clone()?;
-        // as much memory
+        // a clone has as much memory
         text.reserve(self.text.capacity() - text.len())?;
         let size = self.size;
         Ok(GrowingText { text, size })
@@ -34,7 +34,7 @@ impl<A: Allocator> GrowingText<A> {
         }
     }
 
-    /// Gives back its memory.
+    /// Frees its memory.
     pub(crate) fn free(&mut self)
         ensures size { self.new.size ≡ 0 }
         ensures memory { string_capacity self.new.text ≡ 0 }
@@ -48,7 +48,7 @@ impl<A: Allocator> GrowingText<A> {
 impl<A: Allocator> TextBuffer for GrowingText<A> {
     ghost held = { λ buffer. string_bytes buffer.text };
 
-    ghost text_size = { λ buffer. buffer.size };
+    ghost text_capacity = { λ buffer. buffer.size };
 
     fn capacity(&self) -> usize {
         self.size

@@ -1,25 +1,25 @@
 //! Texts that are joined from pieces.
 ghost use Rattle.std.specs.Prelude.{length, map, option_map, ◌++◌, ◌+◌, ◌≡◌, ◌≤◌};
 ghost use Rattle.vte.specs.CommandCalls.{joined_texts, text_in};
-ghost use Rattle.vte.specs.private.Performer.{FitsTextSize, text_to_join};
+ghost use Rattle.vte.specs.private.Performer.{FitsTextCapacity, text_to_join};
 
 use crate::ansi::calls::text_buffer::TextBuffer;
 
-/// How much longer than its pieces a joined text may be: by a `;` for each of 16. It has at most
-/// 15, but `push_part` asks for the size of one for each piece.
+/// How many bytes longer than its pieces a joined text may be: a `;` for each of 16 pieces. It has
+/// at most 15, but `push_part` requires room for one per piece.
 pub(crate) const SEPARATORS: usize = 16;
 
 /// The size of the buffer for a joined text of 1,024 bytes.
 // cargo lacks: not used
-pub(crate) const TEXT_SIZE: usize = 1024 + SEPARATORS;
+pub(crate) const TEXT_CAPACITY: usize = 1024 + SEPARATORS;
 
-/// Joins pieces with `;` between them. One that isn't UTF-8 counts as empty if all are kept, and is
-/// left out otherwise.
+/// Joins pieces with `;` between them. A piece that isn't UTF-8 counts as empty if all are kept,
+/// and is left out otherwise.
 pub(crate) fn join_texts<B: TextBuffer>(text: &mut B, pieces: &[&[u8]], keeps_all: bool)
-    requires { FitsTextSize (B.text_size text.old) (map (λ piece. piece.now) pieces.now) }
+    requires { FitsTextCapacity (B.text_capacity text.old) (map (λ piece. piece.now) pieces.now) }
     ensures joined { B.held text.new
         ≡ joined_texts keeps_all (map (λ piece. piece.now) pieces.now) }
-    ensures same { B.text_size text.new ≡ B.text_size text.old }
+    ensures keeps_capacity { B.text_capacity text.new ≡ B.text_capacity text.old }
 {
     text.clear();
     let mut is_first = true;
@@ -33,9 +33,9 @@ pub(crate) fn join_texts<B: TextBuffer>(text: &mut B, pieces: &[&[u8]], keeps_al
 
 /// Appends a text to those before it, after a `;` unless it is the first.
 fn push_part<B: TextBuffer>(text: &mut B, is_first: bool, part: &str)
-    requires { length (B.held text.old) + length part.now + 1 ≤ B.text_size text.old }
+    requires { length (B.held text.old) + length part.now + 1 ≤ B.text_capacity text.old }
     ensures pushed { B.held text.new ≡ B.held text.old ++ text_to_join is_first part.now }
-    ensures same { B.text_size text.new ≡ B.text_size text.old }
+    ensures keeps_capacity { B.text_capacity text.new ≡ B.text_capacity text.old }
 {
     if !is_first {
         text.push(';');
@@ -43,7 +43,7 @@ fn push_part<B: TextBuffer>(text: &mut B, is_first: bool, part: &str)
     text.push_str(part);
 }
 
-/// Returns the text of a piece, if it is UTF-8. Any other counts as empty if all are kept.
+/// Returns the text of a piece, if it is UTF-8. Any other piece counts as empty if all are kept.
 #[tactic(auto, using(crate::proofs::lemmas::calls::JoinedTexts::is_text, crate::proofs::lemmas::calls::JoinedTexts::no_utf8))]
 pub(crate) fn text_in(piece: &[u8], keeps_all: bool) -> Option<&str>
     ensures { option_map (λ text. text.now) result ≡ text_in keeps_all piece.now }

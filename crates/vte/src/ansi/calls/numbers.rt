@@ -6,7 +6,7 @@ ghost use Rattle.vte.specs.Numbers.{decimal_number, first_nonzero_or, first_numb
 use crate::ansi::calls::text_buffer::TextBuffer;
 use vte_core::ParamsIter;
 
-/// An iterator of numbers.
+/// An iterator of numbers, with contracts that say which numbers are left (DECISIONS).
 pub(crate) trait NumberIterator {
     ghost Left: { Type 0 };
 
@@ -95,9 +95,9 @@ pub(crate) fn parse_number(digits: &[u8]) -> Option<u8>
 /// Appends a number to a text.
 #[tactic(auto, using(std::proofs::lemmas::Fmt::decimal_digit, std::proofs::lemmas::Fmt::decimal_step))]
 pub(crate) fn push_number<B: TextBuffer>(text: &mut B, number: u8)
-    requires { length (B.held text.old) + length (decimal number) ≤ B.text_size text.old }
+    requires { length (B.held text.old) + length (decimal number) ≤ B.text_capacity text.old }
     ensures pushed { B.held text.new ≡ B.held text.old ++ decimal number }
-    ensures same { B.text_size text.new ≡ B.text_size text.old }
+    ensures keeps_capacity { B.text_capacity text.new ≡ B.text_capacity text.old }
 {
     if number < 10 {
         text.push(char::from(b'0' + number));

@@ -4,11 +4,11 @@ ghost use Rattle.std.specs.Str.{chars};
 ghost use Rattle.vte_core.specs.Event.{Print};
 ghost use Rattle.vte.specs.Calls.{last_printed_from};
 ghost use Rattle.vte.specs.private.Performing.{performer_value, with_private_mode, with_private_modes};
-ghost use Rattle.vte.specs.private.Performer.{fits_text_size};
+ghost use Rattle.vte.specs.private.Performer.{fits_text_capacity};
 ghost use Rattle.vte_handler.specs.Timeout.{timeout_meaning};
 
 use crate::ansi::calls::command::perform_system_command;
-use crate::ansi::calls::control::{ModeChange, change_mode, perform_control};
+use crate::ansi::calls::control_sequence::{ModeChange, change_mode, perform_control_sequence};
 use crate::ansi::calls::escape::{perform_escape, perform_execute};
 use crate::ansi::calls::input::InputAs;
 use crate::ansi::calls::numbers::first_number;
@@ -44,7 +44,7 @@ impl<'s, 'h, H: InputAs<G>, T: Timeout + Drop, B: TextBuffer + Drop, G> Perform
 
     ghost Value = { PerformerValue H.Value T.Value };
 
-    ghost value_of = { performer_value H.value_of T.value_of B.text_size };
+    ghost value_of = { performer_value H.value_of T.value_of B.text_capacity };
 
     ghost step = { performer_with_event H.step (timeout_meaning T.set T.clear T.allows) };
 
@@ -83,7 +83,7 @@ impl<'s, 'h, H: InputAs<G>, T: Timeout + Drop, B: TextBuffer + Drop, G> Perform
             self.set_private_modes(params);
         } else {
             let last = self.state.preceding_char;
-            perform_control::<H, G>(self.handler, last, params, intermediates, action);
+            perform_control_sequence::<H, G>(self.handler, last, params, intermediates, action);
         }
     }
 
@@ -126,20 +126,20 @@ impl<'s, 'h, H: HandlerText, T: Timeout + Drop, B: TextBuffer + Drop> PerformThr
 impl<'s, 'h, H: Handler, T: Timeout + Drop, B: TextBuffer + Drop, G> Performer<'s, 'h, H, T, B, G> {
     /// Sets the private modes, group by group.
     fn set_private_modes(&mut self, params: &Params)
-        ensures { performer_value H.value_of T.value_of B.text_size self.new
+        ensures { performer_value H.value_of T.value_of B.text_capacity self.new
             ≡ with_private_modes H.step (timeout_meaning T.set T.clear T.allows)
-            (performer_value H.value_of T.value_of B.text_size self.old) params.now }
+            (performer_value H.value_of T.value_of B.text_capacity self.old) params.now }
     {
         for group in params {
             self.set_private_mode(first_number(group));
         }
     }
 
-    /// Sets a private mode. For that of updates it sets the timeout before the call.
+    /// Sets a private mode. If it is the mode of updates, the timeout is set before the call.
     fn set_private_mode(&mut self, number: u16)
-        ensures { performer_value H.value_of T.value_of B.text_size self.new
+        ensures { performer_value H.value_of T.value_of B.text_capacity self.new
             ≡ with_private_mode H.step (timeout_meaning T.set T.clear T.allows)
-            (performer_value H.value_of T.value_of B.text_size self.old) number }
+            (performer_value H.value_of T.value_of B.text_capacity self.old) number }
     {
         if number == NamedPrivateMode::SyncUpdate as u16 {
             self.state
@@ -151,7 +151,7 @@ impl<'s, 'h, H: Handler, T: Timeout + Drop, B: TextBuffer + Drop, G> Performer<'
     }
 }
 
-/// Returns the last character of a text, or the one before it if the text is empty.
+/// Returns the last character of a text, or `before` if the text is empty.
 #[tactic(auto, using(crate::proofs::lemmas::EventCalls::last_of_text))]
 // cargo: #[inline(always)]
 fn last_char(text: &str, before: Option<char>) -> Option<char>
@@ -162,7 +162,7 @@ fn last_char(text: &str, before: Option<char>) -> Option<char>
 
 /// Returns whether the joined pieces fit a buffer of this size.
 fn pieces_fit(pieces: &[&[u8]], size: usize) -> bool
-    ensures { result ≡ fits_text_size size (map (λ piece. piece.now) pieces.now) }
+    ensures { result ≡ fits_text_capacity size (map (λ piece. piece.now) pieces.now) }
 {
     let mut left = size;
     for piece in pieces {

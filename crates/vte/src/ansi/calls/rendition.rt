@@ -1,10 +1,10 @@
 //! Select graphic rendition (SGR).
 ghost use Rattle.std.specs.Prelude.{drop, option_map, ◌≡◌};
-ghost use Rattle.vte.specs.Rendition.{attribute_calls, attribute_rows, color_rows, rendition, underline_of};
+ghost use Rattle.vte.specs.Rendition.{attribute_calls, attribute_table, color_table, rendition, underline_of};
 ghost use Rattle.vte_types.specs.Words.{entry_of};
 ghost use Rattle.vte_handler.specs.Handler.{after};
 
-use crate::ansi::calls::color_reader::{read_color, read_joined};
+use crate::ansi::calls::color_reader::{read_color, read_joined_color};
 use crate::ansi::calls::numbers::first_number;
 use vte_core::{Params, ParamsIter};
 use vte_handler::Handler;
@@ -19,7 +19,7 @@ pub(crate) fn perform_attributes<H: Handler>(handler: &mut H, params: &Params)
 {
     let mut groups = params.iter();
     while let Some(group) = groups.next() {
-        if let Some(attribute) = attribute(group, &mut groups) {
+        if let Some(attribute) = read_attribute(group, &mut groups) {
             handler.terminal_attribute(attribute);
         }
     }
@@ -27,25 +27,27 @@ pub(crate) fn perform_attributes<H: Handler>(handler: &mut H, params: &Params)
 
 /// Returns the attribute of a group, which may use up some of the groups after it.
 // cargo: #[inline]
-fn attribute(group: &[u16], groups: &mut ParamsIter<'_>) -> Option<Attr>
+fn read_attribute(group: &[u16], groups: &mut ParamsIter<'_>) -> Option<Attr>
     ensures value { result ≡ (rendition group.now groups.old).attribute }
     ensures rest { groups.new ≡ drop (rendition group.now groups.old).used groups.old }
 {
     match group {
         [number @ (38 | 48 | 58)] => {
             let kind = first_number(groups.next()?);
-            colored_by(*number, read_color(kind, groups)?)
+            colored_attribute(*number, read_color(kind, groups)?)
         }
-        [number @ (38 | 48 | 58), numbers @ ..] => colored_by(*number, read_joined(numbers)?),
-        [number] => attribute_of_one(*number),
-        [4, numbers @ ..] => Some(underline(numbers)),
+        [number @ (38 | 48 | 58), numbers @ ..] => {
+            colored_attribute(*number, read_joined_color(numbers)?)
+        }
+        [number] => single_attribute(*number),
+        [4, numbers @ ..] => Some(underline_attribute(numbers)),
         _ => None,
     }
 }
 
 /// Returns the attribute that a number makes of a colour.
-fn colored_by(number: u16, color: Color) -> Option<Attr>
-    ensures { result ≡ option_map (λ with_color. with_color color) (entry_of color_rows number) }
+fn colored_attribute(number: u16, color: Color) -> Option<Attr>
+    ensures { result ≡ option_map (λ with_color. with_color color) (entry_of color_table number) }
 {
     match number {
         38 => Some(Attr::Foreground(color)),
@@ -56,8 +58,8 @@ fn colored_by(number: u16, color: Color) -> Option<Attr>
 }
 
 /// Returns the attribute of a group of one number.
-fn attribute_of_one(number: u16) -> Option<Attr>
-    ensures { result ≡ entry_of attribute_rows number }
+fn single_attribute(number: u16) -> Option<Attr>
+    ensures { result ≡ entry_of attribute_table number }
 {
     let attribute = match number {
         0 => Attr::Reset,
@@ -119,7 +121,7 @@ fn attribute_of_one(number: u16) -> Option<Attr>
 }
 
 /// Returns the kind of underline, by the numbers after 4.
-fn underline(numbers: &[u16]) -> Attr
+fn underline_attribute(numbers: &[u16]) -> Attr
     ensures { result ≡ underline_of numbers.now }
 {
     match numbers {

@@ -9,35 +9,35 @@ pub(crate) trait TextBuffer {
     ghost held: { Self → List ℕ };
 
     /// How many bytes the text may have.
-    ghost text_size: { Self → ℕ };
+    ghost text_capacity: { Self → ℕ };
 
     /// Returns how many bytes the text may have.
     fn capacity(&self) -> usize
-        ensures { result ≡ text_size self.now };
+        ensures { result ≡ text_capacity self.now };
 
     /// Makes room for a text of `size` bytes, and returns whether it is there.
     fn reserve(&mut self, size: usize) -> bool
-        ensures enough { result ≡ true → size ≤ text_size self.new }
-        ensures kept { text_size self.old ≤ text_size self.new }
-        ensures lacks { result ≡ false → text_size self.new < size };
+        ensures suffices { result ≡ true → size ≤ text_capacity self.new }
+        ensures never_shrinks { text_capacity self.old ≤ text_capacity self.new }
+        ensures lacks_memory { result ≡ false → text_capacity self.new < size };
 
     /// Empties the text. Its size stays.
     fn clear(&mut self)
-        ensures empty { held self.new ≡ [] }
-        ensures same { text_size self.new ≡ text_size self.old };
+        ensures holds_nothing { held self.new ≡ [] }
+        ensures keeps_capacity { text_capacity self.new ≡ text_capacity self.old };
 
     /// Appends a character of one byte.
     fn push(&mut self, c: char)
         requires ascii { c < 128 }
-        requires fits { length (held self.old) + 1 ≤ text_size self.old }
+        requires fits { length (held self.old) + 1 ≤ text_capacity self.old }
         ensures pushed { held self.new ≡ held self.old ++ c ∷ [] }
-        ensures same { text_size self.new ≡ text_size self.old };
+        ensures keeps_capacity { text_capacity self.new ≡ text_capacity self.old };
 
     /// Appends a text.
     fn push_str(&mut self, part: &str)
-        requires { length (held self.old) + length part.now ≤ text_size self.old }
+        requires { length (held self.old) + length part.now ≤ text_capacity self.old }
         ensures pushed { held self.new ≡ held self.old ++ part.now }
-        ensures same { text_size self.new ≡ text_size self.old };
+        ensures keeps_capacity { text_capacity self.new ≡ text_capacity self.old };
 
     /// Returns the text.
     fn as_str(&self) -> &str
@@ -47,7 +47,7 @@ pub(crate) trait TextBuffer {
 impl<const N: usize> TextBuffer for ArrayString<N> {
     ghost held = { λ text. text.bytes };
 
-    ghost text_size = { λ text. N };
+    ghost text_capacity = { λ text. N };
 
     fn capacity(&self) -> usize {
         self.capacity()

@@ -1,7 +1,7 @@
 //! What the numbers of control sequences select.
 ghost use Rattle.std.specs.Prelude.{◌≡◌};
 ghost use Rattle.vte_types.specs.Words.{entry_of};
-ghost use Rattle.vte.specs.SelectedValues.{behavior_of, bottom_of, keyboard_modes as modes_of, path_rows, scp_update_rows};
+ghost use Rattle.vte.specs.SelectedValues.{behavior_of, bottom_of, char_path_table, keyboard_modes as modes_of, scp_update_table};
 
 use vte_types::{KeyboardModes, KeyboardModesApplyBehavior, ScpCharPath, ScpUpdateMode};
 
@@ -35,7 +35,7 @@ pub(crate) fn keyboard_modes(number: u16) -> KeyboardModes
 
 /// Returns the character path, the first selection of SCP.
 pub(crate) fn character_path(number: u16) -> Option<ScpCharPath>
-    ensures { result ≡ entry_of path_rows number }
+    ensures { result ≡ entry_of char_path_table number }
 {
     match number {
         0 => Some(ScpCharPath::Default),
@@ -45,9 +45,9 @@ pub(crate) fn character_path(number: u16) -> Option<ScpCharPath>
     }
 }
 
-/// Returns how what is shown follows the path, the second selection of SCP.
+/// Returns how the display follows the character path, the second selection of SCP.
 pub(crate) fn scp_update_mode(number: u16) -> Option<ScpUpdateMode>
-    ensures { result ≡ entry_of scp_update_rows number }
+    ensures { result ≡ entry_of scp_update_table number }
 {
     match number {
         0 => Some(ScpUpdateMode::ImplementationDependant),

@@ -1,10 +1,10 @@
 //! Lists of a processor's calls.
 ghost use Rattle.std.specs.Prelude.{IfErr, IfOk, None};
 ghost use Rattle.vte.specs.LongProcessor.{HasParsedAndHoldsLong, LacksMemoryLong};
-ghost use Rattle.vte.specs.Processor.{meaning_of, State};
+ghost use Rattle.vte.specs.Processor.{processor_meaning, State};
 ghost use Rattle.vte.specs.ProcessorCalls.{HasParsedAndHolds, IsAt, Replays};
 ghost use Rattle.vte.specs.Refusal.{HasReplayedUntil, left_by};
-ghost use Rattle.vte_core.specs.Stream.{usual_limit};
+ghost use Rattle.vte_core.specs.Stream.{default_limit};
 
 use crate::ansi::long_processor::LongProcessor;
 use crate::ansi::processor::Processor;
@@ -39,7 +39,7 @@ pub fn replay<H: Handler, T: Timeout + Drop, A: Allocator>(
     handler: &mut H,
     steps: &[Step<'_>],
 )
-    ensures { Replays (meaning_of usual_limit H.step T.set T.clear T.allows)
+    ensures { Replays (processor_meaning default_limit H.step T.set T.clear T.allows)
         (HasParsedAndHolds T.value_of processor.old) (HasParsedAndHolds T.value_of processor.new)
         (H.value_of handler.old) (H.value_of handler.new) steps.now }
 {
@@ -59,15 +59,16 @@ pub fn replay_long<H: Handler, T: Timeout + Drop, A: Allocator>(
     steps: &[Step<'_>],
 ) -> Result<(), RefusedStep>
     ensures replays { IfOk result
-        (λ all. Replays (meaning_of None H.step T.set T.clear T.allows)
+        (λ all. Replays (processor_meaning None H.step T.set T.clear T.allows)
         (HasParsedAndHoldsLong T.value_of processor.old)
         (HasParsedAndHoldsLong T.value_of processor.new)
         (H.value_of handler.old) (H.value_of handler.new) steps.now) }
     ensures refuses { IfErr result (λ refused. (state : State H.Value T.Value)
         → IsAt (HasParsedAndHoldsLong T.value_of processor.old) (H.value_of handler.old) state →
-        HasReplayedUntil (meaning_of None H.step T.set T.clear T.allows) state steps.now refused
+        HasReplayedUntil
+        (processor_meaning None H.step T.set T.clear T.allows) state steps.now refused
         (IsAt (HasParsedAndHoldsLong T.value_of processor.new) (H.value_of handler.new))) }
-    ensures lacks { IfErr result
+    ensures lacks_memory { IfErr result
         (λ refused. LacksMemoryLong T.value_of processor.new (left_by steps.now refused)) }
 {
     for (index, step) in steps.iter().enumerate() {

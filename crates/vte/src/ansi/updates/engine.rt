@@ -4,9 +4,9 @@ ghost use Rattle.std.specs.Prelude.{IfErr, IfOk, length, MatchResult, nat_le, �
 ghost use Rattle.vte.specs.Views.{engine_view, EngineHasParsedAndHolds};
 ghost use Rattle.vte.specs.ProcessorCalls.{held_of};
 ghost use Rattle.vte.specs.private.Hold.{released_of};
-ghost use Rattle.vte.specs.Processor.{hold_turn, max_held, meaning_of, parse, set_times, State, stop};
-ghost use Rattle.vte.specs.private.Engine.{ArePartsAt, ArePartsAtKeepingMemory, EndsParsingTurn, EndsTurn, EngineIsAtKeepingMemory, EngineLeadsOn, HasMemoryIfAny, LeaveMemory};
-ghost use Rattle.vte.specs.LongProcessor.{EngineReads, EngineStops, LacksMemoryForSome, Reserves};
+ghost use Rattle.vte.specs.Processor.{hold_turn, max_held, parse, processor_meaning, State, stop, timeout_set_times};
+ghost use Rattle.vte.specs.private.Engine.{EndsParsingTurn, EndsTurn, EngineIsAtKeepingMemory, EngineLeadsOn, PartsAreAt, PartsAreAtKeepingMemory, PartsHaveMemory, PartsLeaveMemory};
+ghost use Rattle.vte.specs.LongProcessor.{EngineAdvances, EngineLacksMemory, EngineReserves, EngineStopsSync};
 ghost use Rattle.vte_handler.specs.Timeout.{timeout_meaning};
 
 use crate::ansi::calls::performer::ProcessorState;
@@ -20,8 +20,8 @@ use vte_core::{Refused, laws};
 use vte_handler::{Handler, Timeout};
 use vte_types::{NamedPrivateMode, PrivateMode};
 
-/// For how many bytes a parsing turn allocates at once: little beside the memory of a hold, and
-/// enough that few slices are taken.
+/// How many bytes a parsing turn allocates for at once: few compared with the memory of a hold, but
+/// enough that a call takes few slices.
 const SLICE: usize = 65_536;
 
 /// The parser, the hold and the state of a processor, whatever its limit. `P`: parser, `B`: buffer
@@ -45,7 +45,7 @@ impl<P: EventParser + Drop, B: TextBuffer + Drop, T: Timeout + Drop, A: Allocato
         requires reads { P.view.has_read parser [] }
         ensures agrees { MatchResult result
             (λ engine. EngineHasParsedAndHolds
-            (engine_view P.limit P.view B.text_size T.value_of) engine
+            (engine_view P.limit P.view B.text_capacity T.value_of) engine
             [] [] (T.value_of timeout)) (λ back. back ≡ timeout) }
         ensures timeout { IfOk result (λ engine. engine.state.timeout ≡ timeout) }
         ensures text { IfOk result (λ engine. engine.state.text ≡ text) }
@@ -68,13 +68,13 @@ impl<P: EventParser + Drop, B: TextBuffer + Drop, T: Timeout + Drop, A: Allocato
     /// Reads bytes, and parses them or holds them back: all of them, or as many as there is memory
     /// for. `G` says how the handler receives text.
     // cargo: #[inline]
-    pub(crate) fn read<H: Handler, G: ParseAs<H, T, P>>(
+    pub(crate) fn advance<H: Handler, G: ParseAs<H, T, P>>(
         &mut self,
         handler: &mut H,
         bytes: &[u8],
     ) -> Result<(), Refused>
-        ensures { EngineReads (engine_view P.limit P.view B.text_size T.value_of)
-            (meaning_of P.limit H.step T.set T.clear T.allows)
+        ensures { EngineAdvances (engine_view P.limit P.view B.text_capacity T.value_of)
+            (processor_meaning P.limit H.step T.set T.clear T.allows)
             self.old self.new (H.value_of handler.old) (H.value_of handler.new) bytes.now result }
     {
         let mut read = 0;
@@ -96,11 +96,11 @@ impl<P: EventParser + Drop, B: TextBuffer + Drop, T: Timeout + Drop, A: Allocato
     }
 
     /// Stops the update, whatever is held: there is memory to parse it.
-    // stops are rare: kept out of a turn, they leave its loop over bytes as it is
+    // stops are rare, so they are kept out of the loop over bytes of a turn
     // cargo: #[inline(never)]
     pub(crate) fn stop<H: Handler, G: ParseAs<H, T, P>>(&mut self, handler: &mut H)
-        ensures stopped { EngineStops (engine_view P.limit P.view B.text_size T.value_of)
-            (meaning_of P.limit H.step T.set T.clear T.allows) self.old self.new
+        ensures stopped { EngineStopsSync (engine_view P.limit P.view B.text_capacity T.value_of)
+            (processor_meaning P.limit H.step T.set T.clear T.allows) self.old self.new
             (H.value_of handler.old) (H.value_of handler.new) }
         ensures nothing_held { held_of self.new.hold ≡ [] }
     {
@@ -112,13 +112,13 @@ impl<P: EventParser + Drop, B: TextBuffer + Drop, T: Timeout + Drop, A: Allocato
     /// update has ended.
     fn end_update<H: Handler, G: ParseAs<H, T, P>>(&mut self, handler: &mut H)
         // There is memory for the held bytes and `spare` more.
-        ensures stops { let view = engine_view P.limit P.view B.text_size T.value_of in
+        ensures stops { let view = engine_view P.limit P.view B.text_capacity T.value_of in
             (state : State H.Value T.Value) (spare : ℕ)
-            → ArePartsAt view self.old.parser self.old.state (H.value_of handler.old) state
+            → PartsAreAt view self.old.parser self.old.state (H.value_of handler.old) state
             → released_of self.old.hold ≡ state.held → held_of self.old.hold ≡ []
-            → HasMemoryIfAny view self.old.parser self.old.state state state.held spare
+            → PartsHaveMemory view self.old.parser self.old.state state state.held spare
             → EngineIsAtKeepingMemory view self.old self.new (H.value_of handler.new)
-            (stop (meaning_of P.limit H.step T.set T.clear T.allows) state) }
+            (stop (processor_meaning P.limit H.step T.set T.clear T.allows) state) }
         ensures hold { self.new.hold ≡ self.old.hold }
     {
         self.parse_released::<H, G>(handler);
@@ -126,17 +126,17 @@ impl<P: EventParser + Drop, B: TextBuffer + Drop, T: Timeout + Drop, A: Allocato
         self.state.timeout.clear_timeout();
     }
 
-    /// Parses the released bytes.
+    /// Parses the released bytes, if there are any.
     fn parse_released<H: Handler, G: ParseAs<H, T, P>>(&mut self, handler: &mut H)
-        ensures parsed { let view = engine_view P.limit P.view B.text_size T.value_of in
+        ensures parsed { let view = engine_view P.limit P.view B.text_capacity T.value_of in
             let released = released_of self.old.hold in
             (state : State H.Value T.Value) (spare : ℕ)
-            → ArePartsAt view self.old.parser self.old.state (H.value_of handler.old) state
-            → HasMemoryIfAny view self.old.parser self.old.state state released spare
-            → ArePartsAtKeepingMemory view self.old.parser self.old.state
+            → PartsAreAt view self.old.parser self.old.state (H.value_of handler.old) state
+            → PartsHaveMemory view self.old.parser self.old.state state released spare
+            → PartsAreAtKeepingMemory view self.old.parser self.old.state
             self.new.parser self.new.state (H.value_of handler.new)
-            (parse (meaning_of P.limit H.step T.set T.clear T.allows) state released) }
-        ensures memory { LeaveMemory (engine_view P.limit P.view B.text_size T.value_of)
+            (parse (processor_meaning P.limit H.step T.set T.clear T.allows) state released) }
+        ensures memory { PartsLeaveMemory (engine_view P.limit P.view B.text_capacity T.value_of)
             self.old.parser self.old.state (H.value_of handler.old)
             self.new.parser self.new.state (released_of self.old.hold) }
         ensures hold { self.new.hold ≡ self.old.hold }
@@ -149,7 +149,7 @@ impl<P: EventParser + Drop, B: TextBuffer + Drop, T: Timeout + Drop, A: Allocato
     }
 
     /// Takes one turn, and returns how many bytes it read, or how many until memory was refused. It
-    /// asks the timeout once: while an update is pending, the bytes are held, or the update is
+    /// asks the timeout once. While an update is pending, the bytes are held, or the update is
     /// stopped if there is no room for them.
     // cargo: #[inline]
     fn turn<H: Handler, G: ParseAs<H, T, P>>(
@@ -157,14 +157,16 @@ impl<P: EventParser + Drop, B: TextBuffer + Drop, T: Timeout + Drop, A: Allocato
         handler: &mut H,
         bytes: &[u8],
     ) -> Result<usize, Refused>
-        requires some { 0 < length bytes.now }
+        requires not_empty { 0 < length bytes.now }
         ensures within { MatchResult result (λ read. read ≤ length bytes.now)
             (λ refused. refused.read < length bytes.now) }
-        ensures turned { EngineLeadsOn (engine_view P.limit P.view B.text_size T.value_of) self.old
+        ensures turned { EngineLeadsOn
+            (engine_view P.limit P.view B.text_capacity T.value_of) self.old
             self.new (H.value_of handler.old) (H.value_of handler.new)
-            (λ s. EndsTurn (meaning_of P.limit H.step T.set T.clear T.allows) s bytes.now result) }
-        ensures lacks { IfErr result
-            (λ refused. LacksMemoryForSome (engine_view P.limit P.view B.text_size T.value_of)
+            (λ state. EndsTurn
+            (processor_meaning P.limit H.step T.set T.clear T.allows) state bytes.now result) }
+        ensures lacks_memory { IfErr result
+            (λ refused. EngineLacksMemory (engine_view P.limit P.view B.text_capacity T.value_of)
             self.new (length bytes.now - refused.read)) }
     {
         let pending = self.state.timeout.pending_timeout();
@@ -199,12 +201,14 @@ impl<P: EventParser + Drop, B: TextBuffer + Drop, T: Timeout + Drop, A: Allocato
         requires nothing_held { held_of self.old.hold ≡ [] }
         ensures within { MatchResult result (λ read. read ≤ length bytes.now)
             (λ refused. refused.read < length bytes.now) }
-        ensures parsed { EngineLeadsOn (engine_view P.limit P.view B.text_size T.value_of) self.old
+        ensures parsed { EngineLeadsOn
+            (engine_view P.limit P.view B.text_capacity T.value_of) self.old
             self.new (H.value_of handler.old) (H.value_of handler.new)
-            (λ s. EndsParsingTurn (meaning_of P.limit H.step T.set T.clear T.allows) s bytes.now
+            (λ state. EndsParsingTurn
+            (processor_meaning P.limit H.step T.set T.clear T.allows) state bytes.now
             result) }
-        ensures lacks { IfErr result
-            (λ refused. LacksMemoryForSome (engine_view P.limit P.view B.text_size T.value_of)
+        ensures lacks_memory { IfErr result
+            (λ refused. EngineLacksMemory (engine_view P.limit P.view B.text_capacity T.value_of)
             self.new (length bytes.now - refused.read)) }
     {
         let mut read = 0;
@@ -231,28 +235,30 @@ impl<P: EventParser + Drop, B: TextBuffer + Drop, T: Timeout + Drop, A: Allocato
 
     /// Takes memory for the held bytes and for this many more, and returns whether it is there.
     pub(crate) fn reserve(&mut self, more: usize) -> bool
-        ensures reserved { Reserves
-            (engine_view P.limit P.view B.text_size T.value_of) self.old self.new more result }
+        ensures reserved { EngineReserves
+            (engine_view P.limit P.view B.text_capacity T.value_of) self.old self.new more result }
         ensures hold { self.new.hold ≡ self.old.hold }
     {
         self.parser
             .reserve(&mut self.state.text, self.hold.len(), more)
     }
 
-    /// Holds all bytes, and parses those that the end of an update among them releases.
+    /// Holds all bytes. If an update ends among them, parses the bytes that this releases.
     // cargo: #[inline]
     fn hold_bytes<H: Handler, G: ParseAs<H, T, P>>(&mut self, handler: &mut H, bytes: &[u8])
-        requires some { 0 < length bytes.now }
+        requires not_empty { 0 < length bytes.now }
         requires fits { length (held_of self.old.hold) + length bytes.now ≤ max_held }
-        ensures { EngineLeadsOn (engine_view P.limit P.view B.text_size T.value_of) self.old
+        ensures { EngineLeadsOn (engine_view P.limit P.view B.text_capacity T.value_of) self.old
             self.new (H.value_of handler.old) (H.value_of handler.new)
-            (λ s IsNowAt. P.view.has_memory self.old.parser (B.text_size self.old.state.text)
-            s.parsed (length s.held + length bytes.now) →
-            IsNowAt (hold_turn (meaning_of P.limit H.step T.set T.clear T.allows) s bytes.now)) }
+            (λ state IsNowAt. P.view.has_memory self.old.parser
+            (B.text_capacity self.old.state.text)
+            state.parsed (length state.held + length bytes.now) →
+            IsNowAt (hold_turn
+            (processor_meaning P.limit H.step T.set T.clear T.allows) state bytes.now)) }
     {
         let begins = self.hold.add(bytes);
         set_timeout_times(&mut self.state.timeout, begins);
-        // Nothing stays held only if an update ends, and no other begins after it.
+        // Nothing stays held only if an update ends and no other begins after it.
         if self.hold.len() == 0 {
             self.end_update::<H, G>(handler);
         } else {
@@ -264,7 +270,8 @@ impl<P: EventParser + Drop, B: TextBuffer + Drop, T: Timeout + Drop, A: Allocato
 /// Sets the timeout this many times.
 fn set_timeout_times<T: Timeout>(timeout: &mut T, count: usize)
     ensures { T.value_of timeout.new
-        ≡ set_times (timeout_meaning T.set T.clear T.allows) count (T.value_of timeout.old) }
+        ≡ timeout_set_times (timeout_meaning T.set T.clear T.allows) count
+        (T.value_of timeout.old) }
 {
     for _time in 0..count {
         timeout.set_timeout(Duration::from_millis(UPDATE_TIMEOUT_MILLIS));

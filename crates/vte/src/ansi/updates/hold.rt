@@ -14,7 +14,7 @@ const CAPACITY: usize = 2_097_152;
 /// The most bytes that are held at once: two less, as in `vte`.
 pub(crate) const MAX_HELD: usize = CAPACITY - 2;
 
-/// The held bytes, none of which end an update, after those that were released last.
+/// The bytes that were released last, and after them the held bytes, in which no update ends.
 #[derive(Drop)]
 pub(crate) struct SyncState<A: Allocator> {
     bytes: Vec<u8, A>,
@@ -34,7 +34,7 @@ impl<A: Allocator + Clone> Clone for SyncState<A> {
 
     fn clone(&self) -> Result<Self, AllocError> {
         let mut bytes = self.bytes.clone()?;
-        // as much memory
+        // a clone has as much memory
         bytes.reserve(self.bytes.capacity() - bytes.len())?;
         let released = self.released;
         Ok(SyncState { bytes, released })
@@ -42,7 +42,7 @@ impl<A: Allocator + Clone> Clone for SyncState<A> {
 }
 
 impl<A: Allocator> SyncState<A> {
-    ghost use Rattle.vte.specs.private.Hold.{IsAdded, released_of};
+    ghost use Rattle.vte.specs.private.Hold.{AddsToHold, released_of};
     ghost use Rattle.vte.specs.ProcessorCalls.{CountsHeld, held_of};
 
     /// Allocates the memory.
@@ -71,7 +71,7 @@ impl<A: Allocator> SyncState<A> {
     /// held. Returns how many updates begin among the added bytes, after the last one that ends.
     pub(crate) fn add(&mut self, more: &[u8]) -> usize
         requires { length (held_of self.old) + length more.now ≤ max_held }
-        ensures { IsAdded (held_of self.old) more.now self.new result }
+        ensures { AddsToHold (held_of self.old) more.now self.new result }
     {
         self.forget_released();
         let len = self.bytes.len();
@@ -84,7 +84,7 @@ impl<A: Allocator> SyncState<A> {
         added.begins
     }
 
-    /// Releases everything.
+    /// Releases all held bytes, when an update is stopped.
     pub(crate) fn release_all(&mut self)
         ensures nothing_held { held_of self.new ≡ [] }
         ensures released { released_of self.new ≡ held_of self.old }

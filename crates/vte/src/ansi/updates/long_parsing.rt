@@ -1,5 +1,5 @@
-//! The parser of a processor without a limit. It allocates before it reads, so that nothing is
-//! refused on the way.
+//! The parser of a processor without a limit. It allocates before it reads, so that no memory is
+//! refused while it reads.
 ghost use Rattle.std.specs.Prelude.{IfSome, None, ◌+◌, ◌^◌, ◌≡◌, ◌≤◌};
 ghost use Rattle.vte.specs.Views.{long_parser_view};
 ghost use Rattle.vte.specs.declared.ansi.calls.joined_text.TheConstants.{SEPARATORS};
@@ -31,7 +31,8 @@ impl<A: Allocator> EventParser for LongParser<A> {
     }
 }
 
-/// Returns how many bytes a text has at most that is joined from these.
+/// Returns the largest size of a text that is joined from `stored` bytes and `more` that come, or
+/// `None` if that overflows.
 fn joined_size(stored: usize, more: usize) -> Option<usize>
     ensures size { IfSome result (λ size. size ≡ stored + more + SEPARATORS) }
     ensures too_large { result ≡ None → 2 ^ 64 ≤ stored + more + SEPARATORS }

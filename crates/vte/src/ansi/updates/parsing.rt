@@ -2,14 +2,14 @@
 //! fields of one struct, so that the performer can borrow each.
 ghost use Rattle.std.specs.Prelude.{false, length, List, Option, Some, true, ℕ, ◌+◌, ◌≡◌, ◌≤◌};
 ghost use Rattle.vte.specs.private.Performing.{AdvancesAll, AdvancesUntilStop, performer_value};
-ghost use Rattle.vte.specs.Processor.{meaning_of, parse};
+ghost use Rattle.vte.specs.Processor.{parse, processor_meaning};
 ghost use Rattle.vte.specs.private.Performer.{performer_with_event};
-ghost use Rattle.vte.specs.private.Engine.{HasParsedPrefix, LeaveMemory, PartsLeadOn};
+ghost use Rattle.vte.specs.private.Engine.{HasParsedPrefix, PartsLeadOn, PartsLeaveMemory};
 ghost use Rattle.vte.specs.Views.{engine_view, limited_parser_view, ParserView};
 ghost use Rattle.vte.specs.Memory.{KeepsMemory};
 ghost use Rattle.vte_handler.specs.Timeout.{timeout_meaning};
 
-use crate::ansi::calls::joined_text::{SEPARATORS, TEXT_SIZE};
+use crate::ansi::calls::joined_text::{SEPARATORS, TEXT_CAPACITY};
 use crate::ansi::calls::performer::{Performer, ProcessorState};
 use crate::ansi::calls::text_buffer::TextBuffer;
 use arrayvec::ArrayString;
@@ -23,7 +23,7 @@ pub(crate) type ProcessorParser = Parser<1024>;
 
 /// The buffer of a processor for joined texts.
 // cargo lacks: not used
-pub(crate) type ProcessorText = ArrayString<TEXT_SIZE>;
+pub(crate) type ProcessorText = ArrayString<TEXT_CAPACITY>;
 
 /// A parser whose events a processor interprets.
 pub(crate) trait EventParser {
@@ -39,12 +39,12 @@ pub(crate) trait EventParser {
         ensures reads { (stream : List ℕ) → view.has_read self.old stream
             → view.has_read self.new stream }
         ensures memory { result ≡ true → (stream : List ℕ) → view.has_read self.new stream
-            → view.has_memory self.new (B.text_size text.new) stream (held + more) }
-        ensures keeps_memory { KeepsMemory (view.has_memory self.old (B.text_size text.old))
-            (view.has_memory self.new (B.text_size text.new)) }
+            → view.has_memory self.new (B.text_capacity text.new) stream (held + more) }
+        ensures keeps_memory { KeepsMemory (view.has_memory self.old (B.text_capacity text.old))
+            (view.has_memory self.new (B.text_capacity text.new)) }
         ensures keeps_lost { view.lost self.new ≡ view.lost self.old }
-        ensures lacks { result ≡ false → (stream : List ℕ) → view.has_read self.new stream
-            → ¬ view.has_memory self.new (B.text_size text.new) stream (held + more) };
+        ensures lacks_memory { result ≡ false → (stream : List ℕ) → view.has_read self.new stream
+            → ¬ view.has_memory self.new (B.text_capacity text.new) stream (held + more) };
 }
 
 impl<const N: usize> EventParser for Parser<N> {
@@ -68,7 +68,7 @@ pub(crate) trait ParseAs<H: Handler, T: Timeout + Drop, P: EventParser>: Sized {
         performer: &mut Performer<'_, '_, H, T, B, Self>,
         bytes: &[u8],
     )
-        ensures { let value = performer_value H.value_of T.value_of B.text_size in
+        ensures { let value = performer_value H.value_of T.value_of B.text_capacity in
             AdvancesAll P.view P.limit
             (performer_with_event H.step (timeout_meaning T.set T.clear T.allows))
             parser.old parser.new (value performer.old) (value performer.new) bytes.now };
@@ -79,7 +79,7 @@ pub(crate) trait ParseAs<H: Handler, T: Timeout + Drop, P: EventParser>: Sized {
         performer: &mut Performer<'_, '_, H, T, B, Self>,
         bytes: &[u8],
     ) -> usize
-        ensures { let value = performer_value H.value_of T.value_of B.text_size in
+        ensures { let value = performer_value H.value_of T.value_of B.text_capacity in
             AdvancesUntilStop P.view P.limit
             (performer_with_event H.step (timeout_meaning T.set T.clear T.allows))
             parser.old parser.new (value performer.old) (value performer.new)
@@ -135,17 +135,17 @@ pub(crate) fn parse_all<
     T: Timeout + Drop,
     P: EventParser,
     G: ParseAs<H, T, P>,
->(parser: &mut P, state: &mut ProcessorState<T, B>, handler: &mut H, bytes: &[u8])
-    ensures parsed { PartsLeadOn (engine_view P.limit P.view B.text_size T.value_of)
-        parser.old state.old (H.value_of handler.old)
-        parser.new state.new (H.value_of handler.new) (length bytes.now)
-        (λ s IsNowAt.
-        IsNowAt (parse (meaning_of P.limit H.step T.set T.clear T.allows) s bytes.now)) }
-    ensures memory { LeaveMemory (engine_view P.limit P.view B.text_size T.value_of)
-        parser.old state.old (H.value_of handler.old) parser.new state.new bytes.now }
+>(parser: &mut P, lent: &mut ProcessorState<T, B>, handler: &mut H, bytes: &[u8])
+    ensures parsed { PartsLeadOn (engine_view P.limit P.view B.text_capacity T.value_of)
+        parser.old lent.old (H.value_of handler.old)
+        parser.new lent.new (H.value_of handler.new) (length bytes.now)
+        (λ state IsNowAt.
+        IsNowAt (parse (processor_meaning P.limit H.step T.set T.clear T.allows) state bytes.now)) }
+    ensures memory { PartsLeaveMemory (engine_view P.limit P.view B.text_capacity T.value_of)
+        parser.old lent.old (H.value_of handler.old) parser.new lent.new bytes.now }
 {
     let mut performer = Performer {
-        state,
+        state: lent,
         handler,
         terminated: false,
         granularity: PhantomData::<G>,
@@ -161,16 +161,17 @@ pub(crate) fn parse_until_begin<
     T: Timeout + Drop,
     P: EventParser,
     G: ParseAs<H, T, P>,
->(parser: &mut P, state: &mut ProcessorState<T, B>, handler: &mut H, bytes: &[u8]) -> (usize, bool)
+>(parser: &mut P, lent: &mut ProcessorState<T, B>, handler: &mut H, bytes: &[u8]) -> (usize, bool)
     ensures within { result.0 ≤ length bytes.now }
-    ensures stops { PartsLeadOn (engine_view P.limit P.view B.text_size T.value_of)
-        parser.old state.old (H.value_of handler.old)
-        parser.new state.new (H.value_of handler.new) (length bytes.now)
-        (λ s. HasParsedPrefix (meaning_of P.limit H.step T.set T.clear T.allows) s bytes.now
+    ensures stops { PartsLeadOn (engine_view P.limit P.view B.text_capacity T.value_of)
+        parser.old lent.old (H.value_of handler.old)
+        parser.new lent.new (H.value_of handler.new) (length bytes.now)
+        (λ state. HasParsedPrefix
+        (processor_meaning P.limit H.step T.set T.clear T.allows) state bytes.now
         result.0 result.1) }
 {
     let mut performer = Performer {
-        state,
+        state: lent,
         handler,
         terminated: false,
         granularity: PhantomData::<G>,

@@ -1,6 +1,6 @@
 //! What a hold releases when bytes are added to it.
 ghost use Rattle.std.specs.Prelude.{IsTrue, length, List, None, ℕ, ◌++◌, ◌+◌, ◌<◌, ◌^◌, ◌≡◌, ◌≤◌};
-ghost use Rattle.vte.specs.private.Hold.{Adds, HasNoPrivateSequence, IsHeldTail, NoneBetween};
+ghost use Rattle.vte.specs.private.Hold.{FindsRelease, HasNoPrivateSequence, HasNoSequenceBetween, IsHeldTail};
 ghost use Rattle.vte.specs.Synchronized.{after_last_end, begin_update, begins_with, end_update};
 
 use memchr::memrchr;
@@ -8,7 +8,7 @@ use memchr::memrchr;
 /// The first byte of both sequences.
 const ESCAPE: u8 = 0x1b;
 
-/// What is found when bytes are added to a hold.
+/// What a hold releases when bytes are added to it.
 #[derive(Clone, Copy)]
 pub(crate) struct Release {
     /// How many updates begin among the added bytes, after the last one that ends.
@@ -18,14 +18,14 @@ pub(crate) struct Release {
     pub(crate) released: usize,
 }
 
-/// Finds what a hold releases, given its end, from a position on: the new bytes, and at most seven
-/// before them. No update ends among the older bytes, so it is enough to search these, backward,
+/// Finds what a hold releases. `text` is the hold from `start` on: the new bytes, and at most seven
+/// before them. No update ends among the older bytes, so it is enough to search `text`, backward,
 /// down to the last end-update.
 pub(crate) fn find_release(text: &[u8], start: usize) -> Release
     requires { start + length text.now < 2 ^ 64 }
     ensures { (held more : List ℕ) → IsHeldTail held more text.now start
         → after_last_end held ≡ None
-        → Adds (held ++ more) (length more) result }
+        → FindsRelease (held ++ more) (length more) result }
 {
     let mut begin = start + text.len();
     let mut begins = 0;
@@ -47,11 +47,12 @@ pub(crate) fn find_release(text: &[u8], start: usize) -> Release
     Release { begins, released }
 }
 
-/// Goes back from a position over blocks in which neither sequence begins, and returns how far.
+/// Goes back from a position over blocks in which neither sequence begins. Returns the position
+/// before them.
 fn skip_blocks(text: &[u8], before: usize) -> usize
     requires { before ≤ length text.now }
     ensures within { result ≤ before }
-    ensures none_between { NoneBetween text.now result before }
+    ensures none_between { HasNoSequenceBetween text.now result before }
 {
     let mut unread = before;
     while unread >= 32 {
@@ -63,8 +64,8 @@ fn skip_blocks(text: &[u8], before: usize) -> usize
     unread
 }
 
-/// Returns whether neither sequence begins in the first 32 bytes of a block, because no ESC is
-/// followed by what both have as their third byte. Compilers make vector instructions of the loop.
+/// Returns whether no ESC in the first 32 bytes of a block has `?` two bytes after it. Then neither
+/// sequence begins there. Compilers turn the loop into vector instructions.
 #[inline(always)]
 fn has_no_private_sequence(block: &[u8; 34]) -> bool
     ensures { IsTrue result → HasNoPrivateSequence block.now 32 }

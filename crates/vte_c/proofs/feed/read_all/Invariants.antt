@@ -5,8 +5,8 @@ use Rattle.vte_c.proofs.feed.read_all.Given as goal
 abbrev pub invariant-loop-position : goal.invariant-loop-position
 invariant-loop-position l = record {
   within : l.position ≤ length l.bytes;
-  goes : (since : List ℕ) → HasRead l.fn.parser since
-      → HasReadOn (buffers_of l.fn.writer) (buffers_of l.writer) l.parser since l.bytes 0 l.position;
+  goes : (already_read : List ℕ) → HasRead l.fn.parser already_read
+      → HasReadOn (buffers_of l.fn.writer) (buffers_of l.writer) l.parser already_read l.bytes 0 l.position;
   first : l.position ≡ 0 → buffers_of l.writer ≡ buffers_of l.fn.writer;
 }
 

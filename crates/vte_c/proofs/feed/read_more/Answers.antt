@@ -1,6 +1,6 @@
 -- A call of the parser goes on to the run that it returns, and by this run (`goes-to-run`), and reads a byte if it can
 -- (`goes-further`).
-use Rattle.vte_c.proofs.Common.{arith, buffers_of, drop, length, length-drop, List, resumed_stream, take, usual_limit, ℕ, ◌++◌, ◌-◌, ◌≡◌, ◌≤◌}
+use Rattle.vte_c.proofs.Common.{arith, buffers_of, default_limit, drop, length, length-drop, List, resumed_stream, take, ℕ, ◌++◌, ◌-◌, ◌≡◌, ◌≤◌}
 use Rattle.vte_core.specs.AdvanceToRun.{run_bytes}
 use Rattle.vte_c.proofs.lemmas.CallSteps.{goes-further, goes-to-run, Laws}
 use Rattle.vte_c.proofs.feed.read_more.Goals as goal
@@ -19,24 +19,25 @@ returns c =
     let begins : c.args.from ≤ length bytes = omega (arith, c.requires.within) in
     -- The steps use these laws of `vte_core`.
     let laws : Laws = record {
-      units = c.early_stops.ensures.units usual_limit;
-      goes_on = c.early_stops.ensures.goes_on usual_limit;
-      silent = c.opens_silently.ensures usual_limit;
+      units = c.early_stops.ensures.units default_limit;
+      goes_on = c.early_stops.ensures.goes_on default_limit;
+      silent = c.opens_silently.ensures default_limit;
     } in
     -- The record of the run is written after what the parser reported.
     let written = c.add_run.ensures.written in
     record {
       within = omega (arith, returned.is_run.within, c.requires.within);
-      reads_on = λ since reads. record {
-        next = resumed_stream since rest run.start ++ run_bytes run;
-        reads = rw unread at (call.ensures.reads since reads);
+      reads_on = λ already_read reads. record {
+        next = resumed_stream already_read rest run.start ++ run_bytes run;
+        reads = rw unread at (call.ensures.reads already_read reads);
         goes =
             goes-to-run (buffers_of c.args.writer.now) (buffers_of call.new.performer)
-            (buffers_of c.add_run.new.self) since bytes c.args.from run laws
+            (buffers_of c.add_run.new.self) already_read bytes c.args.from run laws
             c.requires.has_room begins returned reads c.add_run.ensures.utf8 written;
       };
       progress =
-          λ since reads starts no_stops. goes-further (buffers_of c.args.writer.now) (buffers_of call.new.performer)
-          (buffers_of c.add_run.new.self) since bytes c.args.from run laws
-          c.requires.has_room begins returned reads starts c.requires.within written no_stops;
+          λ already_read reads are_empty no_stops. goes-further (buffers_of c.args.writer.now)
+          (buffers_of call.new.performer)
+          (buffers_of c.add_run.new.self) already_read bytes c.args.from run laws
+          c.requires.has_room begins returned reads are_empty c.requires.within written no_stops;
     }

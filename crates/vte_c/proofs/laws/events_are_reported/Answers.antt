@@ -1,13 +1,13 @@
 -- A saved parser of zeros is a new one, which has read nothing. What calls give is joined, and in the end nothing is
 -- unread (`ReadBack`).
-use Rattle.vte_c.proofs.Common.{refl, sym, usual_limit, ◌∙◌}
+use Rattle.vte_c.proofs.Common.{default_limit, refl, sym, ◌∙◌}
 use Rattle.vte_c.proofs.lemmas.ReadBack.{events-reported, given-all, given-before, given-nothing}
 use Rattle.vte_c.proofs.laws.events_are_reported.Goals as goal
 
 pub returns-clause-starts : goal.returns-clause-starts
 returns-clause-starts c =
     λ kinds parser zeros.
-    given-nothing (c.empty_stream.ensures usual_limit) (rw (c.new.ensures.zeros ∙ sym zeros) at c.new.ensures.reads)
+    given-nothing (c.empty_stream.ensures default_limit) (rw (c.new.ensures.zeros ∙ sym zeros) at c.new.ensures.reads)
 
 pub returns-clause-more : goal.returns-clause-more
 returns-clause-more c = λ kinds. given-before

@@ -1,14 +1,14 @@
 -- The caller's slice and count are those of the writer, so what `read_into` ensures holds for the caller.
-use Rattle.vte_c.proofs.Common.{ap, arith, fed_count, length, length-take, List, rules, sym, ℕ, ◌++◌, ◌≡◌, ◌≤◌}
+use Rattle.vte_c.proofs.Common.{ap, arith, length, length-take, List, read_count, rules, sym, ℕ, ◌++◌, ◌≡◌, ◌≤◌}
 use Rattle.vte_c.specs.Reported.{HasStripped}
-use Rattle.vte_c.proofs.lemmas.ReadBack.{fed_count-with_room}
+use Rattle.vte_c.proofs.lemmas.ReadBack.{read_count-with_room}
 use Rattle.vte_c.proofs.text.strip.Goals as goal
 
 pub returns : goal.returns
 returns c =
     let read = c.read_into-read in
     let used : ℕ = read.new.writer.used in
-    let count : fed_count read.result ≡ read.result = fed_count-with_room read.result (omega arith) in
+    let count : read_count read.result ≡ read.result = read_count-with_room read.result (omega arith) in
     -- The slice holds what the writer's does, and all that was written is in it.
     let of_writer =
     λ (text stream rest : List ℕ) (has_stripped : HasStripped c.args.parser.now text stream (c.args.bytes.now ++ rest)).

@@ -1,4 +1,4 @@
--- The headline: by induction over the pieces. A call performs what its bytes add, and what is reported of a longer
+-- The headline: by induction over the chunks. A call performs what its bytes add, and what is reported of a longer
 -- stream is what was reported before and what is added (`events_grow`).
 use Rattle.vte_core.proofs.Common.{append-nil, arith, Bor, events, flat_map, flat_map-append, get_or, List, rules, Some, take, take_all, take_more, ℕ, [], ◌∷◌}
 use Rattle.vte_core.proofs.lemmas.streams.After.{after_events-append, events-empty}
@@ -11,11 +11,11 @@ now_of chunk = chunk.now
 pub new_with_size-parser-requires : goal.new_with_size-parser-requires
 new_with_size-parser-requires g c = omega arith
 
--- At first, no piece is read, and no event is given.
+-- At first, no chunk is read, and no event is given.
 pub loop-chunk-init : goal.loop-chunk-init
 loop-chunk-init g c = search (rules, arith, events-empty)
 
--- After one more piece, its events are added to those of the pieces before.
+-- After one more chunk, its events are added to those of the chunks before.
 pub loop-chunk-preserved : goal.loop-chunk-preserved
 loop-chunk-preserved g c =
     let limit = Some g.row.OSC_RAW_BUF_SIZE in
@@ -41,7 +41,7 @@ loop-chunk-preserved g c =
       has_read = c.advance.ensures.reads stream before.has_read;
     })
 
--- All pieces are read.
+-- All chunks are read.
 pub returns : goal.returns
 returns g c =
     rw (take_all c.loop-chunk.chunk-index c.args.chunks.now c.loop-chunk-test.false) at c.loop-chunk.invariant.performed

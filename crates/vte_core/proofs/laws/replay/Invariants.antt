@@ -1,4 +1,4 @@
--- After some of the pieces the performer has the events of these, and the parser has read them.
+-- After some of the chunks the performer has the events of these, and the parser has read them.
 use Rattle.vte_core.proofs.Common.{after, events, flat_map, Some, take, ◌≡◌}
 use Rattle.vte_core.specs.Parser.{HasRead}
 use Rattle.vte_core.proofs.laws.replay.Given as goal

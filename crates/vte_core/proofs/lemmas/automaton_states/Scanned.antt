@@ -3,8 +3,9 @@
 -- characters, failed, or inside a character, whose next byte has one range.
 use Rattle.vte_core.proofs.Common.{add-one, All, All-cons, All-head, All-nil, All-tail, and_parts, ap, append-nil, append_assoc, arith, Bool, cases_Bool, cases_eq, cases_lt, cond, drop, encode, encodes, false, false≢true, from_to, get_or, get_or-drop, inl, inr, is_in, is_layout, IsPrintedAscii, IsUtf8Run, length, length-append, length-drop, length-take, List, nat_tests, Range, refl, rows_after_byte, rules, second_range, slice_index, StaysInRun, subst, suc, sym, take, take-add, take_more, true, utf8_rows, zero, ℕ, [], ◌&&◌, ◌++◌, ◌+◌, ◌-◌, ◌<◌, ◌∙◌, ◌∷◌, ◌≡◌, ◌≢◌, ◌≤◌}
 use Rattle.vte_core.proofs.lemmas.bytes.Utf8.{continuation, fits, tests-row, tests-two}
-use Rattle.vte_core.specs.private.Automaton.{AfterC2, AfterE0, AfterED, AfterF0, AfterF4, AutomatonState, Between, Failed, NeedsOne, NeedsThree, NeedsTwo, next_between, next_if_in, next_state, state_after}
-use Rattle.vte_core.proofs.lemmas.bytes.Runs.{each-one, run-ascii, run-layout, utf8_run-append, utf8_run-nil}
+use Rattle.vte_core.specs.private.Automaton.{AfterC2, AfterE0, AfterED, AfterF0, AfterF4, AutomatonState, BetweenCharacters, Failed, NeedsOne, NeedsThree, NeedsTwo, next_between_characters, next_if_in, next_state, state_after}
+use Rattle.vte_core.proofs.lemmas.bytes.Each.{each-one}
+use Rattle.vte_core.proofs.lemmas.bytes.Runs.{run-ascii, run-layout, utf8_run-append, utf8_run-nil}
 use Rattle.vte_core.proofs.lemmas.bytes.Scalars.{in_range-bounds}
 use Rattle.vte_core.proofs.lemmas.dividing.Utf8Agrees.{utf8_run-character}
 use Rattle.std.proofs.lemmas.List.{get_or-append-add, get_or-take}
@@ -18,7 +19,7 @@ use Rattle.vte_core.specs.private.Scans.{Each}
 
 -- The ranges of the bytes that end the character.
 abbrev wanted_ranges : AutomatonState → List Range
-wanted_ranges Between = []
+wanted_ranges BetweenCharacters = []
 wanted_ranges NeedsOne = continuation ∷ []
 wanted_ranges NeedsTwo = continuation ∷ continuation ∷ []
 wanted_ranges NeedsThree = continuation ∷ continuation ∷ continuation ∷ []
@@ -29,10 +30,10 @@ wanted_ranges AfterF4 = from_to 0x80 0x8f ∷ continuation ∷ continuation ∷ 
 wanted_ranges AfterC2 = from_to 0xa0 0xbf ∷ []
 wanted_ranges Failed = []
 
-pub state_after-append : (s : AutomatonState) (xs ys : List ℕ)
-    → state_after s (xs ++ ys) ≡ state_after (state_after s xs) ys
-state_after-append s [] ys = refl
-state_after-append s (b ∷ xs) ys = state_after-append (next_state s b) xs ys
+pub state_after-append : (state : AutomatonState) (xs ys : List ℕ)
+    → state_after state (xs ++ ys) ≡ state_after (state_after state xs) ys
+state_after-append state [] ys = refl
+state_after-append state (b ∷ xs) ys = state_after-append (next_state state b) xs ys
 
 pub next_state-failed : (b : ℕ) → next_state Failed b ≡ Failed
 unfolding next_state
@@ -40,24 +41,24 @@ next_state-failed b = refl
 
 -- ---- a state is between characters, has failed, or wants a byte in one range
 
-pub data Phase (s : AutomatonState) : Type 0 where
-  phase-between : s ≡ Between → Phase s
-  phase-failed : s ≡ Failed → Phase s
-  phase-waiting : (t : AutomatonState) (range : Range) → s ≢ Between → range.last ≤ 0xbf
-      → wanted_ranges s ≡ range ∷ wanted_ranges t
-      → ((b : ℕ) → next_state s b ≡ next_if_in range t b) → Phase s
+pub data Phase (state : AutomatonState) : Type 0 where
+  phase-between : state ≡ BetweenCharacters → Phase state
+  phase-failed : state ≡ Failed → Phase state
+  phase-waiting : (next : AutomatonState) (range : Range) → state ≢ BetweenCharacters → range.last ≤ 0xbf
+      → wanted_ranges state ≡ range ∷ wanted_ranges next
+      → ((b : ℕ) → next_state state b ≡ next_if_in range next b) → Phase state
 
-pub phase : (s : AutomatonState) → Phase s
+pub phase : (state : AutomatonState) → Phase state
 unfolding next_state
-phase Between = phase-between refl
-phase NeedsOne = phase-waiting Between continuation (λ between. cc) (omega arith) refl (λ b. refl)
+phase BetweenCharacters = phase-between refl
+phase NeedsOne = phase-waiting BetweenCharacters continuation (λ between. cc) (omega arith) refl (λ b. refl)
 phase NeedsTwo = phase-waiting NeedsOne continuation (λ between. cc) (omega arith) refl (λ b. refl)
 phase NeedsThree = phase-waiting NeedsTwo continuation (λ between. cc) (omega arith) refl (λ b. refl)
 phase AfterE0 = phase-waiting NeedsOne (from_to 0xa0 0xbf) (λ between. cc) (omega arith) refl (λ b. refl)
 phase AfterED = phase-waiting NeedsOne (from_to 0x80 0x9f) (λ between. cc) (omega arith) refl (λ b. refl)
 phase AfterF0 = phase-waiting NeedsTwo (from_to 0x90 0xbf) (λ between. cc) (omega arith) refl (λ b. refl)
 phase AfterF4 = phase-waiting NeedsTwo (from_to 0x80 0x8f) (λ between. cc) (omega arith) refl (λ b. refl)
-phase AfterC2 = phase-waiting Between (from_to 0xa0 0xbf) (λ between. cc) (omega arith) refl (λ b. refl)
+phase AfterC2 = phase-waiting BetweenCharacters (from_to 0xa0 0xbf) (λ between. cc) (omega arith) refl (λ b. refl)
 phase Failed = phase-failed refl
 
 -- ---- what a first byte begins
@@ -78,15 +79,16 @@ ends_character-row b {ranges} low same u fit =
 -- ---- a first byte is printed, fails, or opens a character
 
 pub data Begins (b : ℕ) : Type 0 where
-  prints : IsUtf8Run true (b ∷ []) → next_between b ≡ Between → Begins b
-  fails : next_between b ≡ Failed → Begins b
-  opens : (t : AutomatonState) → next_between b ≡ t → t ≢ Between → EndsCharacter b (wanted_ranges t) → Begins b
+  prints : IsUtf8Run true (b ∷ []) → next_between_characters b ≡ BetweenCharacters → Begins b
+  fails : next_between_characters b ≡ Failed → Begins b
+  opens : (next : AutomatonState) → next_between_characters b ≡ next → next ≢ BetweenCharacters
+      → EndsCharacter b (wanted_ranges next) → Begins b
 
 -- A byte C3..F4 opens a character, which wants the ranges of its row.
-lead-opens : (b : ℕ) → 0xc3 ≤ b → b < 0xf5 → next_between b ≢ Between
+lead-opens : (b : ℕ) → 0xc3 ≤ b → b < 0xf5 → next_between_characters b ≢ BetweenCharacters
 lead-opens b low high between = grind (arith, nat_tests, between)
 
-lead-rows : (b : ℕ) → 0xc3 ≤ b → b < 0xf5 → rows_after_byte b utf8_rows ≡ wanted_ranges (next_between b) ∷ []
+lead-rows : (b : ℕ) → 0xc3 ≤ b → b < 0xf5 → rows_after_byte b utf8_rows ≡ wanted_ranges (next_between_characters b) ∷ []
 unfolding utf8_rows
 lead-rows b low high = grind (arith, nat_tests)
 
@@ -119,7 +121,8 @@ begins b =
           | inr past_c2 ↦ elim (cases_lt b 0xf5) [
             | inl lead ↦
                 let low : 0xc3 ≤ b = omega (arith, from_c2, past_c2) in
-                opens (next_between b) refl (lead-opens b low lead) (ends_character-row b low (lead-rows b low lead))
+                opens (next_between_characters b) refl (lead-opens b low lead) (ends_character-row b low
+                (lead-rows b low lead))
             | inr past_leads ↦ fails (grind (arith, nat_tests))
           ]
         ]
@@ -129,18 +132,19 @@ begins b =
 -- ---- what has been read
 
 -- The bytes up to `end` are characters; those from there up to the position belong to one that has begun.
-pub record ReadSoFar (text : List ℕ) (i : ℕ) (s : AutomatonState) : Type 0 where
+pub record ReadSoFar (text : List ℕ) (i : ℕ) (state : AutomatonState) : Type 0 where
   pub end : ℕ
   pub before : end ≤ i
   pub utf8_run : IsUtf8Run true (take end text)
-  pub completes : (u : List ℕ) → fits (wanted_ranges s) u ≡ true → IsUtf8Run true (take (i - end) (drop end text) ++ u)
-  pub settled : s ≡ Between → end ≡ i
+  pub completes : (u : List ℕ) → fits (wanted_ranges state) u ≡ true
+      → IsUtf8Run true (take (i - end) (drop end text) ++ u)
+  pub settled : state ≡ BetweenCharacters → end ≡ i
 
 none-taken : (text : List ℕ) (i end : ℕ) → end ≡ i → take (i - end) (drop end text) ≡ []
 none-taken text i end same = search (rules, arith)
 
 -- Between two characters, all of the text so far is printed.
-so_far-printed : {text : List ℕ} {i : ℕ} → IsUtf8Run true (take i text) → ReadSoFar text i Between
+so_far-printed : {text : List ℕ} {i : ℕ} → IsUtf8Run true (take i text) → ReadSoFar text i BetweenCharacters
 so_far-printed {text} {i} printed = record {
   end = i;
   before = omega arith;
@@ -155,7 +159,8 @@ so_far-printed {text} {i} printed = record {
   settled = λ _. refl;
 }
 
-module _ (text : List ℕ) (i : ℕ) (within : i < length text) (s : AutomatonState) (old : ReadSoFar text i s) where
+module _ (text : List ℕ) (i : ℕ) (within : i < length text) (state : AutomatonState)
+    (old : ReadSoFar text i state) where
   abbrev b : ℕ
   b = slice_index text i
 
@@ -171,7 +176,7 @@ module _ (text : List ℕ) (i : ℕ) (within : i < length text) (s : AutomatonSt
       ∙ ap (λ byte. taken ++ byte ∷ []) (get_or-drop old.end text (i - old.end) 0 ∙ ap (slice_index text) place)
 
   -- A character ends.
-  so_far-settles : IsUtf8Run true (taken ++ b ∷ []) → ReadSoFar text (i + 1) Between
+  so_far-settles : IsUtf8Run true (taken ++ b ∷ []) → ReadSoFar text (i + 1) BetweenCharacters
   so_far-settles whole =
       let place : i + 1 ≡ old.end + (i + 1 - old.end) = omega (arith, old.before) in
       let joined : take (i + 1) text ≡ take old.end text ++ (taken ++ b ∷ []) =
@@ -182,10 +187,10 @@ module _ (text : List ℕ) (i : ℕ) (within : i < length text) (s : AutomatonSt
       (utf8_run-append old.utf8_run whole))
 
   -- A character begins or goes on.
-  so_far-goes_on : (t : AutomatonState) → t ≢ Between
-      → ((u : List ℕ) → fits (wanted_ranges t) u ≡ true → IsUtf8Run true ((taken ++ b ∷ []) ++ u))
-      → ReadSoFar text (i + 1) t
-  so_far-goes_on t inside completes = record {
+  so_far-goes_on : (next : AutomatonState) → next ≢ BetweenCharacters
+      → ((u : List ℕ) → fits (wanted_ranges next) u ≡ true → IsUtf8Run true ((taken ++ b ∷ []) ++ u))
+      → ReadSoFar text (i + 1) next
+  so_far-goes_on next inside completes = record {
     end = old.end;
     before = omega (arith, old.before);
     utf8_run = old.utf8_run;
@@ -194,10 +199,10 @@ module _ (text : List ℕ) (i : ℕ) (within : i < length text) (s : AutomatonSt
   }
 
   -- The first byte of a character continues what was read so far.
-  so_far-first : s ≡ Between → next_state s b ≢ Failed → ReadSoFar text (i + 1) (next_state s b)
+  so_far-first : state ≡ BetweenCharacters → next_state state b ≢ Failed → ReadSoFar text (i + 1) (next_state state b)
   unfolding next_state
   so_far-first same going =
-      let step : next_state s b ≡ next_between b = ap (λ v. next_state v b) same in
+      let step : next_state state b ≡ next_between_characters b = ap (λ v. next_state v b) same in
       let here : old.end ≡ i = old.settled same in
       let nothing : taken ≡ [] = none-taken text i old.end here in
       elim (begins b) [
@@ -205,23 +210,24 @@ module _ (text : List ℕ) (i : ℕ) (within : i < length text) (s : AutomatonSt
             subst (ReadSoFar text (i + 1)) (sym (step ∙ next_is))
             (so_far-settles (subst (λ bytes. IsUtf8Run true (bytes ++ b ∷ [])) (sym nothing) printed))
         | fails next_is ↦ absurd (going (step ∙ next_is))
-        | opens t next_is inside completes ↦ subst (ReadSoFar text (i + 1)) (sym (step ∙ next_is))
-            (so_far-goes_on t inside
+        | opens next next_is inside completes ↦ subst (ReadSoFar text (i + 1)) (sym (step ∙ next_is))
+            (so_far-goes_on next inside
             (λ u fit. subst (λ bytes. IsUtf8Run true ((bytes ++ b ∷ []) ++ u)) (sym nothing) (completes u fit)))
       ]
 
   -- A further byte of a character continues what was read so far.
-  so_far-later : (t : AutomatonState) (range : Range) → s ≢ Between → range.last ≤ 0xbf
-      → wanted_ranges s ≡ range ∷ wanted_ranges t
-      → next_state s b ≡ next_if_in range t b → next_state s b ≢ Failed → ReadSoFar text (i + 1) (next_state s b)
-  so_far-later t range inside last ranges_are steps going = elim (cases_Bool (is_in range b)) [
-    | inr misfits ↦ absurd (going (steps ∙ ap (λ v. cond v t Failed) misfits))
+  so_far-later : (next : AutomatonState) (range : Range) → state ≢ BetweenCharacters → range.last ≤ 0xbf
+      → wanted_ranges state ≡ range ∷ wanted_ranges next
+      → next_state state b ≡ next_if_in range next b → next_state state b ≢ Failed
+      → ReadSoFar text (i + 1) (next_state state b)
+  so_far-later next range inside last ranges_are steps going = elim (cases_Bool (is_in range b)) [
+    | inr misfits ↦ absurd (going (steps ∙ ap (λ v. cond v next Failed) misfits))
     | inl fit ↦
-        let step : next_state s b ≡ t = steps ∙ ap (λ v. cond v t Failed) fit in
-        let completes : (u : List ℕ) → fits (wanted_ranges t) u ≡ true → IsUtf8Run true ((taken ++ b ∷ []) ++ u) =
+        let step : next_state state b ≡ next = steps ∙ ap (λ v. cond v next Failed) fit in
+        let completes : (u : List ℕ) → fits (wanted_ranges next) u ≡ true → IsUtf8Run true ((taken ++ b ∷ []) ++ u) =
         λ u more. subst (IsUtf8Run true) (sym (append_assoc taken (b ∷ []) u)) (old.completes (b ∷ u)
-        (ap (λ ranges. fits ranges (b ∷ u)) ranges_are ∙ ap (λ v. v && fits (wanted_ranges t) u) fit ∙ more)) in
-        subst (ReadSoFar text (i + 1)) (sym step) (elim (phase t) [
+        (ap (λ ranges. fits ranges (b ∷ u)) ranges_are ∙ ap (λ v. v && fits (wanted_ranges next) u) fit ∙ more)) in
+        subst (ReadSoFar text (i + 1)) (sym step) (elim (phase next) [
           | phase-between same ↦
               let whole : IsUtf8Run true (taken ++ b ∷ []) =
               subst (IsUtf8Run true) (append-nil (taken
@@ -229,42 +235,43 @@ module _ (text : List ℕ) (i : ℕ) (within : i < length text) (s : AutomatonSt
               subst (ReadSoFar text (i + 1)) (sym same) (so_far-settles whole)
           | phase-failed same ↦ absurd (going (step ∙ same))
           | phase-waiting v r other _ _ _ ↦
-              so_far-goes_on t other completes
+              so_far-goes_on next other completes
         ])
   ]
 
-  so_far-next : next_state s b ≢ Failed → ReadSoFar text (i + 1) (next_state s b)
+  so_far-next : next_state state b ≢ Failed → ReadSoFar text (i + 1) (next_state state b)
   unfolding next_state
-  so_far-next going = elim (phase s) [
+  so_far-next going = elim (phase state) [
     | phase-between same ↦ so_far-first same going
     | phase-failed same ↦ absurd (going (ap (λ v. next_state v b) same))
-    | phase-waiting t range inside last ranges_are steps ↦
-        so_far-later t range inside last ranges_are (steps b) going
+    | phase-waiting next range inside last ranges_are steps ↦
+        so_far-later next range inside last ranges_are (steps b) going
   ]
 
 pub state_after-next : (text : List ℕ) (i : ℕ) → i < length text
-    → state_after Between (take (i + 1) text) ≡ next_state (state_after Between (take i text)) (slice_index text i)
+    → state_after BetweenCharacters (take (i + 1) text)
+    ≡ next_state (state_after BetweenCharacters (take i text)) (slice_index text i)
 state_after-next text i within =
-    ap (state_after Between) (take_more text i 0 within)
-    ∙ state_after-append Between (take i text) (slice_index text i ∷ [])
+    ap (state_after BetweenCharacters) (take_more text i 0 within)
+    ∙ state_after-append BetweenCharacters (take i text) (slice_index text i ∷ [])
 
 so_far-further : (text : List ℕ) (i : ℕ) (within : i < length text)
-    → ReadSoFar text i (state_after Between (take i text))
-    → state_after Between (take (i + 1) text) ≢ Failed
-    → ReadSoFar text (i + 1) (state_after Between (take (i + 1) text))
+    → ReadSoFar text i (state_after BetweenCharacters (take i text))
+    → state_after BetweenCharacters (take (i + 1) text) ≢ Failed
+    → ReadSoFar text (i + 1) (state_after BetweenCharacters (take (i + 1) text))
 so_far-further text i within old going =
     subst (ReadSoFar text (i + 1)) (sym (state_after-next text i within))
     (so_far-next text i within _ old (λ failed. going (state_after-next text i within ∙ failed)))
 
-pub so_far-all : (text : List ℕ) (i : ℕ) → i ≤ length text → state_after Between (take i text) ≢ Failed
-    → ReadSoFar text i (state_after Between (take i text))
+pub so_far-all : (text : List ℕ) (i : ℕ) → i ≤ length text → state_after BetweenCharacters (take i text) ≢ Failed
+    → ReadSoFar text i (state_after BetweenCharacters (take i text))
 so_far-all text zero within going = so_far-printed (utf8_run-nil true)
 so_far-all text (suc i) within going =
-    let fine : state_after Between (take (i + 1) text) ≢ Failed = rw add-one going in
+    let fine : state_after BetweenCharacters (take (i + 1) text) ≢ Failed = rw add-one going in
     let old =
     so_far-all text i (omega arith)
     (λ failed.
-    fine (state_after-next text i (omega arith) ∙ ap (λ s. next_state s (slice_index text i)) failed
+    fine (state_after-next text i (omega arith) ∙ ap (λ state. next_state state (slice_index text i)) failed
     ∙ next_state-failed (slice_index text i))) in
     rw add-one at (so_far-further text i (omega arith) old fine)
 

@@ -1,9 +1,9 @@
 -- The number of a well-formed sequence is that of a character: of its bytes, each in its range, the sum has bounds. So
 -- too with one more byte of an unfinished one.
-use Rattle.vte_core.proofs.Common.{and_from, and_parts, ap, arith, Carries, cases_lt, false, false≢true, from_to, inl, inr, InScalarRange, is_in, is_truncated, is_well_formed, IsScalar, length, List, nat_tests, Range, refl, rules, scalar_of, second_range, subst, suc, sym, Three, true, Two, utf8_rows, ℕ, [], ◌%◌, ◌&&◌, ◌*◌, ◌++◌, ◌+◌, ◌<◌, ◌∙◌, ◌∷◌, ◌≡◌, ◌≤◌}
+use Rattle.vte_core.proofs.Common.{and_from, and_parts, ap, arith, cases_lt, Extends, false, false≢true, from_to, inl, inr, InScalarRange, is_in, is_truncated, is_well_formed, IsScalar, length, List, nat_tests, Range, refl, rules, scalar_of, second_range, subst, suc, sym, Three, true, Two, utf8_rows, ℕ, [], ◌%◌, ◌&&◌, ◌*◌, ◌++◌, ◌+◌, ◌<◌, ◌∙◌, ◌∷◌, ◌≡◌, ◌≤◌}
 use Rattle.vte_core.proofs.lemmas.bytes.Utf8.{ascii, continuation, first_byte, FirstByte, fits, lone, of_four, of_three, of_two, rows-lone, rows-none, second_plain, Tests, tests-ascii, tests-four, tests-none, tests-three, tests-two, truncated-first, truncated-three, truncated-two}
-use Rattle.vte_core.specs.declared.utf8.Carried.{Carried}
-use Rattle.vte_core.specs.declared.utf8.Carried.TheVariants.{Broken, Unfinished, Whole}
+use Rattle.vte_core.specs.declared.utf8.Extended.{Extended}
+use Rattle.vte_core.specs.declared.utf8.Extended.TheVariants.{Malformed, Truncated, WellFormed}
 
 -- ---- the bounds of a byte in a range
 
@@ -158,17 +158,17 @@ spells-scalar bytes number spells = subst IsScalar (sym spells.same) (well_forme
 pub spells-same : {bytes : List ℕ} {number other : ℕ} → Spells bytes number → other ≡ number → Spells bytes other
 spells-same spells same = search (rules, arith)
 
--- A byte that completes a well-formed sequence carries the character to `Whole`, with its number.
-whole_by : (bytes : List ℕ) (b : ℕ) {number : ℕ} (carried : Carried) → Spells (bytes ++ b ∷ []) number
-    → (InScalarRange number → carried ≡ Whole number) → Carries bytes b carried
-whole_by bytes b carried spells makes = search (rules, arith, scalar_of-in_range)
+-- A byte that completes a well-formed sequence extends the character to `WellFormed`, with its number.
+whole_by : (bytes : List ℕ) (b : ℕ) {number : ℕ} (extended : Extended) → Spells (bytes ++ b ∷ []) number
+    → (InScalarRange number → extended ≡ WellFormed number) → Extends bytes b extended
+whole_by bytes b extended spells makes = search (rules, arith, scalar_of-in_range)
 
 -- ---- the second byte of a character
 
 -- `broken`: it is out of its range; `whole`: it is the last; `open`: more bytes follow.
 
 pub second-broken : (a b : ℕ) → is_truncated (a ∷ []) ≡ true → is_in (second_range a) b ≡ false
-    → Carries (a ∷ []) b Broken
+    → Extends (a ∷ []) b Malformed
 unfolding is_well_formed is_truncated utf8_rows second_range
 second-broken a b more misfits = (grind (arith, nat_tests), grind (arith, nat_tests))
 
@@ -177,47 +177,48 @@ pub second-lone : (a b : ℕ) → is_in continuation b ≡ false → is_in (seco
 unfolding second_range
 second-lone a b misfits = grind (arith, nat_tests)
 
-pub second-whole : (a b number : ℕ) (carried : Carried) → is_truncated (a ∷ []) ≡ true
+pub second-whole : (a b number : ℕ) (extended : Extended) → is_truncated (a ∷ []) ≡ true
     → is_in (second_range a) b ≡ true → a < 0xe0
-    → number ≡ a % 32 * 0x40 + b % 64 → (InScalarRange number → carried ≡ Whole number) → Carries (a ∷ []) b carried
-second-whole a b number carried more second below same makes =
+    → number ≡ a % 32 * 0x40 + b % 64 → (InScalarRange number → extended ≡ WellFormed number)
+    → Extends (a ∷ []) b extended
+second-whole a b number extended more second below same makes =
     search (rules, arith, truncated-first, continuation, second_plain, whole_by, spells-same, spells-two)
 
 pub second-open : (a b : ℕ) → is_truncated (a ∷ []) ≡ true → is_in (second_range a) b ≡ true → 0xe0 ≤ a
-    → Carries (a ∷ []) b (Unfinished (Two a b))
+    → Extends (a ∷ []) b (Truncated (Two a b))
 unfolding is_truncated utf8_rows second_range
 second-open a b more second low = (refl, grind (arith, nat_tests))
 
 -- ---- the third byte
 
 pub third-broken : (a b c : ℕ) → is_truncated (a ∷ b ∷ []) ≡ true → is_in continuation c ≡ false
-    → Carries (a ∷ b ∷ []) c Broken
+    → Extends (a ∷ b ∷ []) c Malformed
 unfolding is_well_formed is_truncated utf8_rows
 third-broken a b c more misfits = (grind (arith, nat_tests), grind (arith, nat_tests))
 
-pub third-whole : (a b c number : ℕ) (carried : Carried) → is_truncated (a ∷ b ∷ []) ≡ true
+pub third-whole : (a b c number : ℕ) (extended : Extended) → is_truncated (a ∷ b ∷ []) ≡ true
     → is_in continuation c ≡ true → a < 0xf0
-    → number ≡ (a % 16 * 0x40 + b % 64) * 0x40 + c % 64 → (InScalarRange number → carried ≡ Whole number)
-    → Carries (a ∷ b ∷ []) c carried
-third-whole a b c number carried more third below same makes =
+    → number ≡ (a % 16 * 0x40 + b % 64) * 0x40 + c % 64 → (InScalarRange number → extended ≡ WellFormed number)
+    → Extends (a ∷ b ∷ []) c extended
+third-whole a b c number extended more third below same makes =
     search (rules, arith, truncated-two, whole_by, spells-same, spells-three)
 
 pub third-open : (a b c : ℕ) → is_truncated (a ∷ b ∷ []) ≡ true → is_in continuation c ≡ true → 0xf0 ≤ a
-    → Carries (a ∷ b ∷ []) c (Unfinished (Three a b c))
+    → Extends (a ∷ b ∷ []) c (Truncated (Three a b c))
 unfolding is_truncated utf8_rows
 third-open a b c more third low = (refl, grind (arith, nat_tests))
 
 -- ---- the fourth byte
 
 pub fourth-broken : (a b c d : ℕ) → is_truncated (a ∷ b ∷ c ∷ []) ≡ true → is_in continuation d ≡ false
-    → Carries (a ∷ b ∷ c ∷ []) d Broken
+    → Extends (a ∷ b ∷ c ∷ []) d Malformed
 unfolding is_well_formed is_truncated utf8_rows
 fourth-broken a b c d more misfits = (grind (arith, nat_tests), grind (arith, nat_tests))
 
-pub fourth-whole : (a b c d number : ℕ) (carried : Carried) → is_truncated (a ∷ b ∷ c ∷ []) ≡ true
+pub fourth-whole : (a b c d number : ℕ) (extended : Extended) → is_truncated (a ∷ b ∷ c ∷ []) ≡ true
     → is_in continuation d ≡ true
     → number ≡ ((a % 8 * 0x40 + b % 64) * 0x40 + c % 64) * 0x40 + d % 64
-    → (InScalarRange number → carried ≡ Whole number)
-    → Carries (a ∷ b ∷ c ∷ []) d carried
-fourth-whole a b c d number carried more fourth same makes =
+    → (InScalarRange number → extended ≡ WellFormed number)
+    → Extends (a ∷ b ∷ c ∷ []) d extended
+fourth-whole a b c d number extended more fourth same makes =
     search (rules, arith, truncated-three, whole_by, spells-same, spells-four)

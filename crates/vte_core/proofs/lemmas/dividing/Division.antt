@@ -1,7 +1,7 @@
 -- The division of a text is Unicode's: the longest segment at each place, and nothing lost. If the rows still allow
 -- a byte, a longer segment exists; if they don't, no longer one does.
 use Rattle.vte_core.proofs.Common.{allowed_length, ap, arith, Bool, cases_lt, concat, drop, drop-append_seam, false, false≢true, inl, inr, is_truncated, is_well_formed, length, length-append, length-drop, length-take-le, List, Range, refl, rows_after_byte, rows_after_bytes, rules, segments, segments_after, subst, suc, sym, take, take-append-drop, take-append_seam, trailing_count, true, utf8_rows, zero, ℕ, [], ◌++◌, ◌<◌, ◌∙◌, ◌∷◌, ◌≡◌, ◌≢◌, ◌≤◌}
-use Rattle.vte_core.specs.Division.{AreRightSegments, IsAllDivided, IsRightSegment, IsSegment}
+use Rattle.vte_core.specs.Division.{AreCorrectSegments, IsCorrectSegment, IsSegment, SegmentsJoin}
 use Rattle.vte_core.proofs.lemmas.bytes.Utf8.{allowed, allowed_length-none, neither_whole_nor_open, rows_after_bytes-none, some_open, some_whole, unwanted, wanted}
 use Rattle.vte_core.proofs.lemmas.shapes.FirstSegment.{not_well_formed-nothing, trailing_count-well_formed}
 use Rattle.std.proofs.lemmas.List.{length-take}
@@ -96,7 +96,7 @@ concat-segments_after (suc skip) (b ∷ bytes) = concat-segments_after skip byte
 concat-segments_after zero (b ∷ bytes) =
     search (rules, arith, (concat-segments_after (trailing_count b bytes) bytes), take-append-drop)
 
-pub all_divided : (text : List ℕ) → IsAllDivided text
+pub all_divided : (text : List ℕ) → SegmentsJoin text
 all_divided text = concat-segments_after 0 text
 
 -- ---- the right segments
@@ -140,11 +140,11 @@ truncated_is_shorter b bytes divided (a ∷ tail) rest same truncated =
     omega (arith, length-take (trailing_count b bytes) bytes)
 
 right_segment : (b : ℕ) (bytes : List ℕ)
-    → IsRightSegment (b ∷ take (trailing_count b bytes) bytes) (drop (trailing_count b bytes) bytes)
+    → IsCorrectSegment (b ∷ take (trailing_count b bytes) bytes) (drop (trailing_count b bytes) bytes)
 right_segment b bytes =
     search (rules, arith, divided_right, take-append-drop, is_segment, whole_is_segment, truncated_is_shorter)
 
-right_segments : (n : ℕ) (text : List ℕ) → length text ≤ n → AreRightSegments (segments text)
+right_segments : (n : ℕ) (text : List ℕ) → length text ≤ n → AreCorrectSegments (segments text)
 right_segments n [] short = tt
 right_segments zero (b ∷ bytes) short = absurd (omega arith)
 right_segments (suc n) (b ∷ bytes) short =
@@ -155,7 +155,7 @@ right_segments (suc n) (b ∷ bytes) short =
           (right_segments n (drop (trailing_count b bytes) bytes) shorter),
     )
 
-pub are_right_segments : (text : List ℕ) → AreRightSegments (segments text)
+pub are_right_segments : (text : List ℕ) → AreCorrectSegments (segments text)
 are_right_segments text = right_segments (length text) text (omega arith)
 
 -- ---- and there is no other division
@@ -169,7 +169,7 @@ segment-nonempty (b ∷ segment) segment_is = omega arith
 
 -- Of two right segments at the start of one text, neither is longer.
 segment-not_longer : {segment rest other other_rest : List ℕ} → segment ++ rest ≡ other ++ other_rest
-    → IsRightSegment segment rest → IsRightSegment other other_rest
+    → IsCorrectSegment segment rest → IsCorrectSegment other other_rest
     → length segment ≤ length other
 segment-not_longer {segment} {rest} {other} same is_right other_is_right = search (rules, arith, segment-nonempty)
 
@@ -182,7 +182,7 @@ same_prefix {segment} {rest} {other} {other_rest} same long =
       sym later ∙ rw (same, long) (drop-append_seam other other_rest),
     )
 
-one_division : (these those : List (List ℕ)) → AreRightSegments these → AreRightSegments those
+one_division : (these those : List (List ℕ)) → AreCorrectSegments these → AreCorrectSegments those
     → concat these ≡ concat those
     → these ≡ those
 one_division [] [] are_right others_are_right same = refl
@@ -201,7 +201,7 @@ one_division (p ∷ these) (q ∷ those) are_right others_are_right same =
     let first : p ≡ q = parts.0 in
     cc
 
-pub only_division : (all : List (List ℕ)) → AreRightSegments all → segments (concat all) ≡ all
+pub only_division : (all : List (List ℕ)) → AreCorrectSegments all → segments (concat all) ≡ all
 only_division all are_right =
     one_division (segments (concat all)) all (are_right_segments (concat all)) are_right
     (all_divided (concat all))

@@ -1,16 +1,16 @@
 -- What one byte makes of the numbers and of the head that are held: by the part of the head that was reached and the
 -- byte's class.
-use Rattle.vte_core.proofs.Common.{ap, append-nil, append_assoc, arith, Bool, Class, class_of, Collected, count_of, CountsNumbers, Entry, Event, false, greatest_number, grouped, groups_of, has_too_many_numbers, HasReadHead, head_of, HeadProgress, HoldsHead, HoldsIntermediates, HoldsNumbers, IllShaped, inl, inr, Intermediate, Intermediates, is_colon, is_head_byte, is_intermediate, is_marker, is_parameter_text, is_separator, is_well_shaped, length, length-append, List, Marker, max_numbers, min, nat_tests, numbers, Parameters, refl, rules, SameIntermediates, SameNumbers, sequence_event, StaysIllShaped, sym, take, take-append-le, take_all, true, with_number, ℕ, [], ◌*◌, ◌++◌, ◌+◌, ◌-◌, ◌<◌, ◌||◌, ◌∙◌, ◌∷◌, ◌≡◌, ◌≤◌, ◌⊎◌}
+use Rattle.vte_core.proofs.Common.{ap, append-nil, append_assoc, arith, Bool, Class, class_of, Collected, count_of, CountsNumbers, Entry, Event, false, grouped, groups_of, has_too_many_numbers, HasReadHead, head_of, HeadProgress, HoldsHead, HoldsIntermediates, HoldsNumbers, IllShaped, inl, inr, Intermediate, Intermediates, is_colon, is_head_byte, is_intermediate, is_marker, is_parameter_byte, is_separator, is_well_shaped, length, length-append, List, Marker, max_numbers, max_value, min, nat_tests, numbers, Parameters, refl, rules, SameIntermediates, SameNumbers, sequence_event, StaysIllShaped, sym, take, take-append-le, take_all, true, with_number, ℕ, [], ◌*◌, ◌++◌, ◌+◌, ◌-◌, ◌<◌, ◌||◌, ◌∙◌, ◌∷◌, ◌≡◌, ◌≤◌, ◌⊎◌}
 use Rattle.std.proofs.lemmas.List.{length-take}
 use Rattle.vte_core.proofs.lemmas.fields.Numbers.{count_of-grouped, grouped-push, is_digit_no_separator, number_of-push, numbered, numbers_are}
-use Rattle.vte_core.specs.private.ParserFields.{IsReady}
+use Rattle.vte_core.specs.private.ParserFields.{HoldsWholeHead}
 use Rattle.vte_core.proofs.lemmas.shapes.HeadParts.{begins-intermediates, head_of-parts, held-parts, held-well_shaped, list_all-not}
 use Rattle.vte_core.proofs.lemmas.bytes.Classes.{AreInClass-append}
 
 -- ---- numbers
 
 -- The numbers are those of the text read so far, of which the last is open. `counts-X`: the numbers are counted after X
--- (`CountsNumbers`); `settles-X`: the last one is settled (`HoldsNumbers`).
+-- (`CountsNumbers`); `stores-X`: the last one is stored (`HoldsNumbers`).
 
 -- The numbers of the text are those before the last one, and the last one, which is being read.
 counts-numbers : (collected : Collected) (text : List ℕ) (counts : CountsNumbers collected text)
@@ -26,11 +26,11 @@ counts-held collected text counts =
     ∙ length-take max_numbers counts.prefix
 
 -- If there is no room for the last number, the text has too many numbers.
-pub settles-full : {collected : Collected} {text : List ℕ} → CountsNumbers collected text
+pub stores-full : {collected : Collected} {text : List ℕ} → CountsNumbers collected text
     → 32 ≤ count_of collected.params
     → HoldsNumbers collected true text
 unfolding groups_of has_too_many_numbers
-settles-full {collected} {text} counts full =
+stores-full {collected} {text} counts full =
     let held_count = counts-held collected text counts in
     let last = numbered collected.joined collected.number in
     let n : length (counts.prefix ++ last ∷ []) ≡ length counts.prefix + 1 = length-append counts.prefix (last ∷ []) in
@@ -43,10 +43,10 @@ settles-full {collected} {text} counts full =
     }
 
 -- If there is room for the last number, it is pushed.
-pub settles-push : {old new : Collected} {text : List ℕ} → CountsNumbers old text → count_of old.params < 32
+pub stores-push : {old new : Collected} {text : List ℕ} → CountsNumbers old text → count_of old.params < 32
     → new.params ≡ with_number old.params (numbered old.joined old.number) → HoldsNumbers new false text
 unfolding groups_of has_too_many_numbers
-settles-push {old} {text} counts room pushed =
+stores-push {old} {text} counts room pushed =
     let held_count = counts-held old text counts in
     let last = numbered old.joined old.number in
     let n : length (counts.prefix ++ last ∷ []) ≡ length counts.prefix + 1 = length-append counts.prefix (last ∷ []) in
@@ -62,9 +62,9 @@ settles-push {old} {text} counts room pushed =
     }
 
 -- A separator begins the next number, at 0.
-pub counts-separator : {old settled new : Collected} {more : Bool} {text : List ℕ} (b : ℕ) → CountsNumbers old text
-    → HoldsNumbers settled more text → is_separator b ≡ true
-    → new.params ≡ settled.params → new.joined ≡ is_colon b → new.number ≡ 0 → CountsNumbers new (text ++ b ∷ [])
+pub counts-separator : {old stored new : Collected} {more : Bool} {text : List ℕ} (b : ℕ) → CountsNumbers old text
+    → HoldsNumbers stored more text → is_separator b ≡ true
+    → new.params ≡ stored.params → new.joined ≡ is_colon b → new.number ≡ 0 → CountsNumbers new (text ++ b ∷ [])
 unfolding groups_of
 counts-separator {old} {text} b counts holds separates params joined number = record {
   prefix = counts.prefix ++ numbered old.joined old.number ∷ [];
@@ -79,7 +79,7 @@ counts-separator {old} {text} b counts holds separates params joined number = re
 -- A digit is added to the number that is being read.
 pub counts-digit : {old new : Collected} {text : List ℕ} (digit : ℕ) → CountsNumbers old text → 48 ≤ digit → digit < 58
     → new.params ≡ old.params
-    → new.joined ≡ old.joined → new.number ≡ min greatest_number (10 * old.number + (digit - 48))
+    → new.joined ≡ old.joined → new.number ≡ min max_value (10 * old.number + (digit - 48))
     → CountsNumbers new (text ++ digit ∷ [])
 counts-digit {text} digit counts low high params joined number =
     search (rules, arith, append_assoc, is_digit_no_separator, number_of-push)
@@ -156,7 +156,7 @@ holds-marker old new head b holds is_class same_numbers holds_more =
 after_no_intermediate : {old new : Collected} (progress : HeadProgress) (head : List ℕ) (b : ℕ)
     (holds : HoldsHead old progress head)
     → holds.intermediates ≡ []
-    → is_parameter_text (class_of b) ≡ true → SameIntermediates old new
+    → is_parameter_byte (class_of b) ≡ true → SameIntermediates old new
     → ((text : List ℕ) → CountsNumbers old text → CountsNumbers new (text ++ b ∷ []))
     → HoldsHead new Parameters (head ++ b ∷ [])
 after_no_intermediate {old} progress head b holds no_intermediate is_parameter same_intermediates counts_more =
@@ -167,7 +167,7 @@ after_no_intermediate {old} progress head b holds no_intermediate is_parameter s
       intermediates = [];
       shape = rw (holds.shape, no_intermediate) (simp (append-nil, append_assoc));
       is_marker = holds.is_marker;
-      are_parameters = AreInClass-append is_parameter_text holds.parameters (b ∷ []) holds.are_parameters
+      are_parameters = AreInClass-append is_parameter_byte holds.parameters (b ∷ []) holds.are_parameters
           (is_parameter, tt);
       are_intermediates = tt;
       reaches = (omega (arith, length-append {A = ℕ}), refl);
@@ -178,7 +178,7 @@ after_no_intermediate {old} progress head b holds no_intermediate is_parameter s
 -- A head that has come no further than its parameters holds no intermediate, so a byte of the parameters fits.
 pub holds-parameter : {old new : Collected} {progress : HeadProgress} (head : List ℕ) (b : ℕ)
     → (progress ≡ Entry) ⊎ (progress ≡ Parameters) → HasReadHead old progress head
-    → is_parameter_text (class_of b) ≡ true → SameIntermediates old new
+    → is_parameter_byte (class_of b) ≡ true → SameIntermediates old new
     → ((text : List ℕ) → CountsNumbers old text → CountsNumbers new (text ++ b ∷ []))
     → HoldsHead new Parameters (head ++ b ∷ [])
 holds-parameter {old} head b (inl at_entry) has_read is_parameter same_intermediates counts_more =
@@ -208,7 +208,7 @@ ill_shaped-after_intermediate old head b holds no_intermediate = record {
       (λ no_intermediates. absurd (omega (arith, ap length no_intermediates, holds.reaches))) in
       let parts =
       head_of-parts holds.marker holds.parameters (holds.intermediates ++ b ∷ more) holds.is_marker holds.are_parameters
-      (begins is_parameter_text refl) (λ _. begins is_marker refl) in
+      (begins is_parameter_byte refl) (λ _. begins is_marker refl) in
       rw (same, parts) (list_all-not holds.intermediates b more no_intermediate);
 }
 
@@ -219,18 +219,18 @@ pub ill_shaped-now : {head : List ℕ} → StaysIllShaped head → is_well_shape
 ill_shaped-now stays = rw append-nil at (stays.stays [])
 
 -- At the end of a head that is well shaped, what is held is ready.
-pub head-ready : {old new : Collected} (more : Bool) {ignored : Bool} {progress : HeadProgress} {head : List ℕ}
+pub head-whole : {old new : Collected} (more : Bool) {ignored : Bool} {progress : HeadProgress} {head : List ℕ}
     → ((text : List ℕ) → CountsNumbers old text → HoldsNumbers new more text)
     → SameIntermediates old new → HoldsHead old progress head → ignored ≡ (new.too_many_intermediates || more)
-    → IsReady new ignored head
-head-ready more settles same_intermediates holds ignored_is =
+    → HoldsWholeHead new ignored head
+head-whole more stores same_intermediates holds ignored_is =
     search (rules, arith, held-parts, HoldsIntermediates-kept, held-well_shaped)
 
 pub holds-nothing : (new : Collected) → HoldsIntermediates new [] → CountsNumbers new [] → HoldsHead new Entry []
 holds-nothing new holds counts = search (rules, arith)
 
 -- A class of head bytes that is neither of parameters nor of intermediates is that of markers.
-pub left_is_marker : (class : Class) → is_head_byte class ≡ true → is_parameter_text class ≡ false
+pub left_is_marker : (class : Class) → is_head_byte class ≡ true → is_parameter_byte class ≡ false
     → is_intermediate class ≡ false → class ≡ Marker
 left_is_marker Marker is_head no_parameter no_intermediate = refl
 left_is_marker _ is_head no_parameter no_intermediate = cc
@@ -240,7 +240,7 @@ pub ill_shaped-late : (old : Collected) (progress : HeadProgress) (head : List �
     → HasReadHead old progress head
     → is_head_byte (class_of b) ≡ true
     → is_intermediate (class_of b) ≡ false
-    → ((progress ≡ Entry) ⊎ (progress ≡ Parameters) → is_parameter_text (class_of b) ≡ false)
+    → ((progress ≡ Entry) ⊎ (progress ≡ Parameters) → is_parameter_byte (class_of b) ≡ false)
     → (progress ≡ Entry → ⊥) → StaysIllShaped (head ++ b ∷ [])
 ill_shaped-late old progress head b has_read is_head no_intermediate no_parameter no_entry =
     grind (arith, nat_tests, ill_shaped-marker, left_is_marker, ill_shaped-after_intermediate, ill_shaped-more)
@@ -248,7 +248,7 @@ ill_shaped-late old progress head b has_read is_head no_intermediate no_paramete
 -- At the end of a head, the call has the event of the sequence.
 pub dispatched-ready : (call : List (List ℕ) → List ℕ → Bool → ℕ → Event) {held : Collected} {ignored : Bool}
     {head : List ℕ} (final : ℕ)
-    → IsReady held ignored head
+    → HoldsWholeHead held ignored head
     → call held.params held.intermediates.items ignored final ≡ sequence_event call (head_of head) final
 unfolding sequence_event
 dispatched-ready call final ready = rw (ready.groups, ready.intermediates, ready.ignore) refl

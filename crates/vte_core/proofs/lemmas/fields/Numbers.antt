@@ -1,9 +1,9 @@
 -- How lengths cut numbers into groups, also with one more number (`pushed`), and how one more byte changes the numbers
 -- of a parameter text. By induction over the lengths, and over the text, with the digits since the last separator.
-use Rattle.vte_core.proofs.Common.{All, All-cons, All-drop, All-head, All-nil, All-pop, All-push, All-tail, All-take, ap, append-nil, append_assoc, AreGroups, AreSmall, arith, Bool, cases_Bool, count_of, digit_value, drop, drop-append-le, drop_all, false, filter, fold, fold_push, get_or, greatest_number, grouped, groups_of, inl, inr, is_colon, is_separator, IsFilled, IsSmallNumber, length, length-append, length-drop, length-take, List, map, max_numbers, min, nat_tests, None, Number, number_of, numbers, numbers_from, numbers_of, Option, refl, rules, slice_split, Some, subst, suc, sum, sum_by-cons, sum_by-take-le, sum_by_push, sym, take, take-append-drop, take-append-le, take_all, take_more, true, with_number, ℕ, [], ◌*◌, ◌++◌, ◌+◌, ◌-◌, ◌<◌, ◌∙◌, ◌∷◌, ◌≡◌, ◌≤◌}
+use Rattle.vte_core.proofs.Common.{All, All-cons, All-drop, All-head, All-nil, All-pop, All-push, All-tail, All-take, ap, append-nil, append_assoc, AreGroups, AreSmall, arith, Bool, cases_Bool, count_of, digit_value, drop, drop-append-le, drop_all, false, filter, fold, fold_push, get_or, grouped, groups_of, inl, inr, is_colon, is_separator, IsNonEmpty, IsSmallNumber, length, length-append, length-drop, length-take, List, map, max_numbers, max_value, min, nat_tests, None, Number, number_of, numbers, numbers_from, numbers_of, Option, refl, rules, slice_split, Some, subst, suc, sum, sum_by-cons, sum_by-take-le, sum_by_push, sym, take, take-append-drop, take-append-le, take_all, take_more, true, with_number, ℕ, [], ◌*◌, ◌++◌, ◌+◌, ◌-◌, ◌<◌, ◌∙◌, ◌∷◌, ◌≡◌, ◌≤◌}
 use Rattle.std.proofs.lemmas.List.{length-take-le}
 use Rattle.std.specs.Option.{unwrap_or}
-use Rattle.vte_core.specs.private.Store.{AreFlatGroups, AreLengths, cut_by_lengths, IsTakenOff}
+use Rattle.vte_core.specs.private.Store.{AreFlatGroups, AreLengths, cut_by_lengths, IsLastPopped}
 use Rattle.std.proofs.lemmas.Int.Digits.{digits_value_push}
 use Rattle.std.proofs.lemmas.List.Splits.{slice_split_at, slice_split_none}
 
@@ -56,11 +56,11 @@ count_of-cut_by_lengths {lengths = n ∷ lengths} {numbers} are_lengths =
     )
 
 filled-cut_by_lengths : {lengths numbers : List ℕ} → AreLengths lengths numbers
-    → All IsFilled (cut_by_lengths lengths numbers)
-filled-cut_by_lengths {lengths = []} are_lengths = All-nil IsFilled
+    → All IsNonEmpty (cut_by_lengths lengths numbers)
+filled-cut_by_lengths {lengths = []} are_lengths = All-nil IsNonEmpty
 filled-cut_by_lengths {lengths = n ∷ lengths} {numbers} are_lengths =
     let rest = sum_rest n lengths numbers are_lengths.whole in
-    All-cons IsFilled (take n numbers) (cut_by_lengths lengths (drop n numbers))
+    All-cons IsNonEmpty (take n numbers) (cut_by_lengths lengths (drop n numbers))
     (omega (arith, All-head (λ m. 0 < m) n lengths are_lengths.filled, length-take-le n numbers rest.0))
     (filled-cut_by_lengths (AreLengths-rest are_lengths))
 
@@ -161,7 +161,8 @@ pushed-alone {joined} {lengths} {rest} {numbers} {value} are_lengths parts same 
     (sym (with_number-begins (cut_by_lengths lengths numbers) value) ∙ same)))
 
 pub pushed : (joined : Bool) (lengths rest numbers : List ℕ) (last : Option ℕ) (value : ℕ)
-    → AreLengths lengths numbers → IsTakenOff joined lengths rest last → IsPushed joined lengths rest numbers last value
+    → AreLengths lengths numbers → IsLastPopped joined lengths rest last
+    → IsPushed joined lengths rest numbers last value
 pushed true lengths rest numbers (Some n) value are_lengths taken =
     let whole : sum rest + n ≡ length numbers = sym (sum_push rest n) ∙ ap sum (sym taken.parts) ∙ are_lengths.whole in
     let old = simp append-nil at (cut_by_lengths-last rest numbers [] n n whole (omega arith)) in
@@ -234,12 +235,12 @@ digit_value_is digit low high = grind (arith, nat_tests)
 
 -- One more digit counts from the number so far, even if this has stopped at the greatest.
 pub number_of-push : (digits : List ℕ) (digit : ℕ) → 48 ≤ digit → digit < 58
-    → number_of (digits ++ digit ∷ []) ≡ min greatest_number (10 * number_of digits + (digit - 48))
+    → number_of (digits ++ digit ∷ []) ≡ min max_value (10 * number_of digits + (digit - 48))
 number_of-push digits digit low high =
     omega (arith, digits_value_push 10 digits digit, digit_value_is digit low high)
 
 abbrev pub IsSmall : Number → Type 0
-IsSmall number = number.value ≤ greatest_number
+IsSmall number = number.value ≤ max_value
 
 -- There is at least one number, and each is at most 65,535.
 numbers_from-small : (joined : Bool) (digits text : List ℕ)
@@ -321,18 +322,18 @@ unfolding groups_of
 some_group text = search (rules, arith, any_group, count_of-grouped, length-take, numbers_small)
 
 -- No group is empty.
-filled-grouped : (numbers : List Number) → All IsFilled (grouped numbers)
+filled-grouped : (numbers : List Number) → All IsNonEmpty (grouped numbers)
 filled-grouped numbers =
-    let keeps : Keeps IsFilled (λ value. Unit {0}) = record {
+    let keeps : Keeps IsNonEmpty (λ value. Unit {0}) = record {
       begins = λ value _. omega arith;
       joins = λ group value _ filled. omega (arith, length-append group (value ∷ []));
     } in
-    All-fold keeps [] numbers (λ _ _ _. tt) (All-nil IsFilled)
+    All-fold keeps [] numbers (λ _ _ _. tt) (All-nil IsNonEmpty)
 
 AreGroups-grouped : (numbers : List Number) → length numbers ≤ max_numbers → All IsSmall numbers
     → AreGroups (grouped numbers)
 AreGroups-grouped numbers at_most small =
-    let P : ℕ → Type 0 = λ value. value ≤ greatest_number in
+    let P : ℕ → Type 0 = λ value. value ≤ max_value in
     let keeps : Keeps (All P) P = record {
       begins = λ value r. All-cons P value [] r (All-nil P);
       joins = λ group value r all. All-push P group value all r;

@@ -1,6 +1,6 @@
 -- What is kept of the items of a command, and the pieces of what is kept. By induction over the items, with the piece
 -- that is open carried along.
-use Rattle.vte_core.proofs.Common.{All, All-push, ap, append_assoc, arith, Bool, Bor, cases_Bool, common_steps, concat, cut_data, drop, drop_all, ends_after, eqb, false, filter, FitsStore, inl, inr, is_data_item, kept_after, kept_items, length, length-append, length-take, List, ltb-true, map, max_pieces, None, onto_first, Option, pieces_of, refl, rules, semicolon, set, slice_split, Some, suc, sym, take, take-append-drop, take_all, take_at, true, zero, ℕ, [], ◌++◌, ◌+◌, ◌<◌, ◌∙◌, ◌∷◌, ◌≡◌, ◌≤◌}
+use Rattle.vte_core.proofs.Common.{All, All-push, ap, append_assoc, arith, Bool, Bor, cases_Bool, common_steps, concat, cut_data, drop, drop_all, ends_after, eqb, false, filter, FitsLimit, inl, inr, is_data_item, kept_after, kept_items, length, length-append, length-take, List, ltb-true, map, max_pieces, None, onto_first, Option, pieces_of, refl, rules, semicolon, set, slice_split, Some, suc, sym, take, take-append-drop, take_all, take_at, true, zero, ℕ, [], ◌++◌, ◌+◌, ◌<◌, ◌∙◌, ◌∷◌, ◌≡◌, ◌≤◌}
 use Rattle.std.proofs.Common.{append-nil, drop_at, ◌==◌}
 use Rattle.std.proofs.lemmas.List.Folds.{concat-append}
 use Rattle.std.proofs.lemmas.List.Splits.{length-slice_split, slice_split_at, slice_split_none}
@@ -79,7 +79,7 @@ kept-fits limit count (item ∷ items) within =
     let end = kept-fits limit count items within in
     grind (arith, byte, end, ltb-true)
 
-pub pieces_fit : (limit : Option ℕ) (items : List ℕ) → FitsStore limit (pieces_of limit items)
+pub pieces_fit : (limit : Option ℕ) (items : List ℕ) → FitsLimit limit (pieces_of limit items)
 unfolding pieces_of kept_items
 pieces_fit None items = tt
 pieces_fit (Some limit) items = search (rules, arith, length-concat_take, kept-fits, pieces_length)

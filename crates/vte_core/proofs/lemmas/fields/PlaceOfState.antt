@@ -1,12 +1,12 @@
 -- What is known of a parser that is at a place, and that a clone of it, or one made of what was saved of it, is at the
 -- same: by cases of its state, to each of which belongs one kind of place.
-use Rattle.vte_core.proofs.Common.{ap, append-nil, arith, AtEscape, body_outcome, ControlSequence, device_data_outcome, DeviceControl, DeviceData, Escape, EscapeIntermediate, events_from, executed_events, HasReadHead, HasReadWithLimit, HoldsIntermediates, HoldsItems, IgnoredString, InControlSequence, InDeviceControl, InDeviceData, InEscape, InIgnoredString, InSystemCommand, InText, is_truncated, IsAtPlace, IsPlaceOfState, IsSettledPlace, leaves, left_at, List, Machine, may_continue, Nothing, open_at, open_bytes, Option, outcome_from, Place, refl, rest_outcome, rules, SameItems, State, Stored, subst, SystemCommand, take, Text, text_outcome, true, usual_limit, ℕ, [], ◌++◌, ◌∷◌, ◌≡◌}
+use Rattle.vte_core.proofs.Common.{ap, append-nil, arith, AtEscape, body_outcome, ControlSequence, default_limit, device_data_outcome, DeviceControl, DeviceData, Empty, Escape, EscapeIntermediate, events_from, executed_events, HasReadHead, HasReadWithLimit, HoldsIntermediates, HoldsItems, IgnoredString, InControlSequence, InDeviceControl, InDeviceData, InEscape, InIgnoredString, InSystemCommand, InText, is_truncated, IsAtPlace, IsPlaceOfState, IsSettledPlace, leaves, left_at, List, Machine, may_continue, open_at, open_bytes, Option, outcome_from, Place, refl, rest_outcome, rules, SameItems, State, Stored, subst, SystemCommand, take, Text, text_outcome, true, ℕ, [], ◌++◌, ◌∷◌, ◌≡◌}
 use Rattle.vte_core.specs.IgnoredString.{ignored_string_outcome}
 use Rattle.vte_core.specs.private.Place.{control_sequence_from, device_control_from, escape_from, system_command_from}
 use Rattle.vte_core.proofs.lemmas.shapes.FirstSegment.{text_outcome-end, text_outcome-nothing}
 use Rattle.vte_core.specs.declared.parser.saved.Saved.{Saved}
 use Rattle.vte_core.specs.private.SavedLayout.{flag_of, HasIntermediates, IsInHead, IsRestored, state_bytes}
-use Rattle.vte_core.specs.private.Store.{AreParts, ArePieceEnds}
+use Rattle.vte_core.specs.private.Store.{ArePieceEnds, AreRawParts}
 use Rattle.vte_core.specs.Saved.{HasReadSaved}
 
 -- If the parser is in a state at a place, it is a place of the state.
@@ -45,19 +45,19 @@ pub in_command : {B : Type 0} {limit : Option ℕ} {parser : Machine B} {place :
     → IsAtPlace limit parser place → InCommandAt limit parser place
 in_command {limit} in_state is_at = command-by_place (is_at-in in_state is_at)
 
--- `IsPlace` is true of each place at which some parser is.
-abbrev pub IsPlace : Place → Type 0
-IsPlace (InText opened) = may_continue opened ≡ true
-IsPlace _ = Unit {0}
+-- `IsReachable` is true of each place at which some parser is.
+abbrev pub IsReachable : Place → Type 0
+IsReachable (InText opened) = may_continue opened ≡ true
+IsReachable _ = Unit {0}
 
-is_place-by_state : {B : Type 0} (limit : Option ℕ) (state : State) (parser : Machine B) (place : Place)
-    → IsPlaceOfState limit state parser place → IsPlace place
-is_place-by_state limit state parser place fields = search (rules, arith)
+is_reachable-by_state : {B : Type 0} (limit : Option ℕ) (state : State) (parser : Machine B) (place : Place)
+    → IsPlaceOfState limit state parser place → IsReachable place
+is_reachable-by_state limit state parser place fields = search (rules, arith)
 
 pub is_at-place : {B : Type 0} {limit : Option ℕ} {parser : Machine B} {place : Place}
     → IsAtPlace limit parser place
-    → IsPlace place
-is_at-place {limit} {parser} {place} is_at = is_place-by_state limit parser.state parser place is_at.fields
+    → IsReachable place
+is_at-place {limit} {parser} {place} is_at = is_reachable-by_state limit parser.state parser place is_at.fields
 
 pub may_continue-truncated : (opened : List ℕ) → is_truncated opened ≡ true → may_continue opened ≡ true
 may_continue-truncated [] truncated = refl
@@ -69,21 +69,22 @@ text_outcome-open limit [] continues = text_outcome-nothing
 text_outcome-open limit (a ∷ opened) continues = rw append-nil (text_outcome-end (a ∷ opened) continues)
 
 -- If no bytes follow, nothing is reported, and what is open at the place stays open.
-pub rest_outcome-nothing : (limit : Option ℕ) (place : Place) → IsPlace place
+pub rest_outcome-nothing : (limit : Option ℕ) (place : Place) → IsReachable place
     → rest_outcome limit place [] ≡ leaves (left_at limit place)
 unfolding body_outcome executed_events escape_from control_sequence_from device_control_from device_data_outcome
     system_command_from ignored_string_outcome
-rest_outcome-nothing limit (InText opened) is_place = text_outcome-open limit opened is_place
-rest_outcome-nothing limit (InSystemCommand items) is_place = simp append-nil
-rest_outcome-nothing limit _ is_place = refl
+rest_outcome-nothing limit (InText opened) is_reachable = text_outcome-open limit opened is_reachable
+rest_outcome-nothing limit (InSystemCommand items) is_reachable = simp append-nil
+rest_outcome-nothing limit _ is_reachable = refl
 
-pub outcome_from-nothing : (limit : Option ℕ) (place : Place) → IsPlace place
+pub outcome_from-nothing : (limit : Option ℕ) (place : Place) → IsReachable place
     → outcome_from limit place [] ≡ leaves (left_at limit place)
 unfolding outcome_from
-outcome_from-nothing limit place is_place = rest_outcome-nothing limit place is_place
+outcome_from-nothing limit place is_reachable = rest_outcome-nothing limit place is_reachable
 
-pub events_from-nothing : (limit : Option ℕ) (place : Place) → IsPlace place → events_from limit place [] ≡ []
-events_from-nothing limit place is_place = ap (λ outcome. outcome.reported) (outcome_from-nothing limit place is_place)
+pub events_from-nothing : (limit : Option ℕ) (place : Place) → IsReachable place → events_from limit place [] ≡ []
+events_from-nothing limit place is_reachable =
+    ap (λ outcome. outcome.reported) (outcome_from-nothing limit place is_reachable)
 
 pub open_bytes-at : (limit : Option ℕ) (place : Place) → open_bytes (left_at limit place) ≡ open_at place
 open_bytes-at limit place = search (rules, arith)
@@ -93,7 +94,7 @@ open_at-settled (InText opened) none_open = none_open
 open_at-settled _ none_open = refl
 
 -- A parser between characters is at the place of a text with nothing open.
-pub is_at-text_begun : {B : Type 0} {limit : Option ℕ} {parser : Machine B} → parser.state ≡ Text Nothing
+pub is_at-text_begun : {B : Type 0} {limit : Option ℕ} {parser : Machine B} → parser.state ≡ Text Empty
     → IsAtPlace limit parser (InText [])
 is_at-text_begun in_state = is_at-by in_state (refl, refl)
 
@@ -147,7 +148,7 @@ pub record HasSaved {B : Type 0} (saved : Saved) (machine : Machine B) : Type 0 
   pub too_many_intermediates : HasIntermediates machine.state
       → flag_of saved.too_many_intermediates ≡ machine.collected.too_many_intermediates
   pub params : IsInHead machine.state
-      → AreParts (take saved.group_count saved.lengths)
+      → AreRawParts (take saved.group_count saved.lengths)
       (take saved.number_count saved.numbers) machine.collected.params
   pub number : IsInHead machine.state → saved.number ≡ machine.collected.number
   pub joined : IsInHead machine.state → flag_of saved.joined ≡ machine.collected.joined
@@ -176,6 +177,6 @@ items-saved has_saved restored old_is new_is = search (rules, arith)
 
 -- What was saved has read what the machine has.
 pub reads_saved : {B : Type 0} {saved : Saved} {machine : Machine B} → HasSaved saved machine
-    → (stream : List ℕ) → HasReadWithLimit usual_limit machine stream → HasReadSaved saved stream
+    → (stream : List ℕ) → HasReadWithLimit default_limit machine stream → HasReadSaved saved stream
 reads_saved {machine} has_saved stream has_read =
     search (rules, arith, is_at-by, place_of_state-same, holds-saved, collected-saved, items-saved)

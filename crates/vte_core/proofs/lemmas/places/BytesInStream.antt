@@ -1,8 +1,8 @@
 -- What a byte does in its part, a text or a body, it does in the stream (`bytes_lead-byte`), since only ESC cuts; ESC
 -- closes the part (`bytes_lead-escape`). So places lead on in the stream, byte by byte (`bytes_lead-append`).
-use Rattle.vte_core.proofs.Common.{ap, append_assoc, arith, AtEscape, BytesLead, Cancel, class_of, closing_events_at, cut_at_escape, ends_body, eqb, escape, Event, events, events_from, false, InSystemCommand, InText, Leads, List, nat_tests, Option, outcome, outcome_from, Place, refl, report, rest_outcome, rules, with_bodies, ℕ, [], ◌++◌, ◌∷◌, ◌≡◌, ◌≤◌}
+use Rattle.vte_core.proofs.Common.{ap, append_assoc, arith, AtEscape, BytesLead, Cancel, class_of, closing_events_at, cut_at_escape, ends_sequence, eqb, escape, Event, events, events_from, false, InSystemCommand, InText, Leads, List, nat_tests, Option, outcome, outcome_from, Place, refl, report, rest_outcome, rules, with_bodies, ℕ, [], ◌++◌, ◌∷◌, ◌≡◌, ◌≤◌}
 use Rattle.vte_core.proofs.lemmas.shapes.Outcomes.{report-append, with_bodies-report}
-use Rattle.vte_core.proofs.lemmas.fields.PlaceOfState.{IsPlace, rest_outcome-nothing}
+use Rattle.vte_core.proofs.lemmas.fields.PlaceOfState.{IsReachable, rest_outcome-nothing}
 use Rattle.vte_core.proofs.lemmas.places.PlaceLeads.{command-item}
 
 -- The outcome of a stream is what its bytes give after nothing.
@@ -38,18 +38,21 @@ waits-byte limit place next b reported more is_no_escape waits =
     search (rules, arith, outcome_from-byte, with_bodies-report)
 
 -- ESC closes what is open before it.
-pub outcome_from-escape : (limit : Option ℕ) (place : Place) (more : List ℕ) → IsPlace place
+pub outcome_from-escape : (limit : Option ℕ) (place : Place) (more : List ℕ) → IsReachable place
     → outcome_from limit place (escape ∷ more)
     ≡ report (closing_events_at limit place) (outcome_from limit AtEscape more)
 unfolding outcome_from
-outcome_from-escape limit place more is_place = search (rules, arith, rest_outcome-nothing)
+outcome_from-escape limit place more is_reachable = search (rules, arith, rest_outcome-nothing)
 
-pub bytes_lead-escape : {limit : Option ℕ} {place : Place} → IsPlace place
+pub bytes_lead-escape : {limit : Option ℕ} {place : Place} → IsReachable place
     → BytesLead limit place (escape ∷ []) (closing_events_at limit place) AtEscape
-bytes_lead-escape {limit} {place} is_place = record { reads = λ more. outcome_from-escape limit place more is_place }
+bytes_lead-escape {limit} {place} is_reachable = record {
+  leads =
+      λ more. outcome_from-escape limit place more is_reachable;
+}
 
 pub bytes_lead-nothing : {limit : Option ℕ} {place : Place} → BytesLead limit place [] [] place
-bytes_lead-nothing = record { reads = λ more. refl }
+bytes_lead-nothing = record { leads = λ more. refl }
 
 pub bytes_lead-append : {limit : Option ℕ} {place next last : Place} {bytes these : List ℕ}
     {reported more_reported : List Event} → BytesLead limit place bytes reported next
@@ -58,7 +61,7 @@ pub bytes_lead-append : {limit : Option ℕ} {place next last : Place} {bytes th
 bytes_lead-append {limit} {place} {last} {bytes} {these} {reported} {more_reported} reads reads_on =
     search (rules, arith, append_assoc, report-append)
 
-pub no_escape : (b : ℕ) → ends_body (class_of b) ≡ false → eqb b escape ≡ false
+pub no_escape : (b : ℕ) → ends_sequence (class_of b) ≡ false → eqb b escape ≡ false
 unfolding class_of
 no_escape b no_end = grind (arith, nat_tests)
 

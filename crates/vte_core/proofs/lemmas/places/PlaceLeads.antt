@@ -2,7 +2,7 @@
 -- definition of that shape alone.
 --
 -- A lemma is named by the place and what comes there, as `escape-end` for the end of a sequence right after ESC.
-use Rattle.vte_core.proofs.Common.{ap, append-nil, append_assoc, are_too_many, AreFromOneByte, arith, AtEscape, bell, body_outcome, Bool, character_event, Class, class_of, cond, Control, control_sequence_end, control_sequence_outcome, CsiDispatch, device_control_after_head, device_control_outcome, device_data_outcome, dispatches_escape, ends_command, ends_device_data, eqb, escape_outcome, EscapeSequence, EscDispatch, Event, Execute, executed_events, false, Final, first_two, Head, head_of, High, Hook, InControlSequence, InDeviceControl, InDeviceData, InEscape, InIgnoredString, InSystemCommand, Intermediate, InText, is_cancel, is_device_data, is_head_byte, is_truncated, is_well_formed, is_well_shaped, IsAtMostOneShort, IsBounded, IsExecuted, IsPrintable, IsShort, Leads, length, List, malformed_event, nat_le, nat_tests, Option, OscDispatch, pieces_of, Place, Print, Put, refl, reported_intermediates, rules, scalar_of, sequence_event, sequence_kind, sym, system_command_outcome, text_outcome, true, Unhook, ℕ, [], ◌++◌, ◌<◌, ◌∷◌, ◌≡◌, ◌≤◌}
+use Rattle.vte_core.proofs.Common.{ap, append-nil, append_assoc, are_too_many, AreBrief, arith, AtEscape, bell, body_outcome, Bool, character_event, Class, class_of, cond, control_sequence_end, control_sequence_outcome, CsiDispatch, device_control_after_head, device_control_outcome, device_data_outcome, dispatches_escape, ends_device_data, ends_system_command, eqb, escape_outcome, EscapeSequence, EscDispatch, Event, Execute, executed_events, false, Final, first_two, Head, head_of, High, Hook, InControlSequence, InDeviceControl, InDeviceData, InEscape, InIgnoredString, InSystemCommand, Intermediate, InText, is_cancel, is_device_data, is_head_byte, is_truncated, is_well_formed, is_well_shaped, IsAtMostOneShort, IsBounded, IsExecuted, IsPrintable, IsShort, Leads, length, List, malformed_event, nat_le, nat_tests, Option, OscDispatch, pieces_of, Place, PlainControl, Print, Put, refl, reported_intermediates, rules, scalar_of, sequence_event, sequence_kind, sym, system_command_outcome, text_outcome, true, Unhook, ℕ, [], ◌++◌, ◌<◌, ◌∷◌, ◌≡◌, ◌≤◌}
 use Rattle.vte_core.specs.IgnoredString.{ignored_string_outcome}
 use Rattle.vte_core.specs.SequenceKind.{ControlSequence, DeviceControl, IgnoredString, SequenceKind, SystemCommand}
 use Rattle.vte_core.specs.private.Place.{control_sequence_from, device_control_from, escape_from, system_command_from}
@@ -35,7 +35,7 @@ executes (InEscape intermediates) = true
 executes (InControlSequence head) = true
 executes _ = false
 
-pub byte-executed : {limit : Option ℕ} {place : Place} {b : ℕ} → executes place ≡ true → class_of b ≡ Control
+pub byte-executed : {limit : Option ℕ} {place : Place} {b : ℕ} → executes place ≡ true → class_of b ≡ PlainControl
     → Leads limit place b (Execute b ∷ []) place
 unfolding body_outcome escape_from control_sequence_from executed_events
 byte-executed place_executes is_control = search (rules, arith)
@@ -158,7 +158,7 @@ data-terminator is_high is_terminator = record { leads = λ rest. simp (is_high,
 
 -- ---- in an operating system command
 
-item_is_no_end : (b : ℕ) → 0x20 ≤ b → ends_command b ≡ false
+item_is_no_end : (b : ℕ) → 0x20 ≤ b → ends_system_command b ≡ false
 unfolding class_of
 item_is_no_end b low = grind (arith, nat_tests)
 
@@ -170,12 +170,12 @@ command-item {b} low =
     grind (arith, nat_tests) in record { leads = λ rest. simp (item_is_no_end b low, is_item, append_assoc) }
 
 -- In an operating system command, bytes of C0 other than BEL are dropped.
-pub command-control : {limit : Option ℕ} {items : List ℕ} {b : ℕ} → class_of b ≡ Control → eqb b bell ≡ false
+pub command-control : {limit : Option ℕ} {items : List ℕ} {b : ℕ} → class_of b ≡ PlainControl → eqb b bell ≡ false
     → Leads limit (InSystemCommand items) b [] (InSystemCommand items)
 unfolding system_command_from class_of
 command-control {b} is_control no_bell = search (rules, arith)
 
-pub command-bell : {limit : Option ℕ} {items : List ℕ} {b : ℕ} → class_of b ≡ Control → eqb b bell ≡ true
+pub command-bell : {limit : Option ℕ} {items : List ℕ} {b : ℕ} → class_of b ≡ PlainControl → eqb b bell ≡ true
     → Leads limit (InSystemCommand items) b (OscDispatch (pieces_of limit items) true ∷ []) (InText [])
 unfolding system_command_from
 command-bell is_control is_bell = record { leads = λ rest. simp (is_control, is_bell, append-nil) }
@@ -241,9 +241,9 @@ pub short_bounded : (limit : Option ℕ) (event : Event) → IsShort event → I
 short_bounded limit event short = search (rules, arith)
 
 pub one_short-from_one_byte : (limit : Option ℕ) (reported : List Event) → IsAtMostOneShort reported
-    → AreFromOneByte limit reported
+    → AreBrief limit reported
 one_short-from_one_byte limit reported one_short = search (rules, arith)
 
 pub one_short-append : (limit : Option ℕ) (prefix rest : List Event) → IsAtMostOneShort prefix → IsAtMostOneShort rest
-    → AreFromOneByte limit (prefix ++ rest)
+    → AreBrief limit (prefix ++ rest)
 one_short-append limit prefix rest prefix_short rest_short = search (rules, arith)

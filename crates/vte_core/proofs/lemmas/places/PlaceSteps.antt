@@ -1,13 +1,13 @@
 -- After every place every byte reports at most two events, of which the second is short, and leads to a place
 -- (`steps`): by cases of the place and of the byte's class, each by a lemma of `PlaceLeads`.
-use Rattle.vte_core.proofs.Common.{AreFromOneByte, arith, AtEscape, bell, breaks, Cancel, cases_Bool, Class, class_of, closing_events_at, Control, Delete, dispatches_escape, ends_body, eqb, escape, EscapeSequence, Event, Execute, false, false≢true, Final, head_of, High, InControlSequence, InDeviceControl, InDeviceData, InEscape, InIgnoredString, inl, inr, InSystemCommand, Intermediate, InText, is_head_byte, is_well_shaped, kept_items, Leads, left_at, List, nat_tests, None, open_at, open_data_count, Option, pieces_of, Place, refl, rules, sequence_event, sequence_kind, SequenceKind, sym, true, ℕ, [], ◌++◌, ◌+◌, ◌<◌, ◌∙◌, ◌∷◌, ◌≡◌, ◌≤◌}
+use Rattle.vte_core.proofs.Common.{AreBrief, arith, AtEscape, bell, breaks, Cancel, cases_Bool, Class, class_of, closing_events_at, Delete, dispatches_escape, ends_sequence, eqb, escape, EscapeSequence, Event, Execute, false, false≢true, Final, head_of, High, InControlSequence, InDeviceControl, InDeviceData, InEscape, InIgnoredString, inl, inr, InSystemCommand, Intermediate, InText, is_head_byte, is_well_shaped, kept_items, Leads, left_at, List, nat_tests, None, open_at, open_data_count, Option, pieces_of, Place, PlainControl, refl, rules, sequence_event, sequence_kind, SequenceKind, sym, true, ℕ, [], ◌++◌, ◌+◌, ◌<◌, ◌∙◌, ◌∷◌, ◌≡◌, ◌≤◌}
 use Rattle.vte_core.specs.Class.{Escape}
 use Rattle.vte_core.proofs.lemmas.places.PlaceLeads.{bounded-head, byte-dropped, byte-executed, command-bell, command-control, command-item, control-dispatched, control-head, control-silent, data-dropped, data-put, data-terminator, device-dropped, device-head, device-ill_shaped, device-well_shaped, escape-end, escape-intermediate, escape-key, executed_low, ignored-more, intermediate-end, intermediate-more, two_at_most}
 use Rattle.vte_core.proofs.lemmas.places.BytesInStream.{bytes_lead-byte, bytes_lead-escape, cancel_is_no_escape, no_escape}
 use Rattle.vte_core.proofs.lemmas.places.Steps.{AreOutsideRuns, FitsLeft, IsOutsideRunsAtPlace, IsSilentOrSettles, IsText, Steps}
 use Rattle.vte_core.proofs.lemmas.places.TextSteps.{byte-cancels, closing_alone_brief, closing_brief, step-text}
 use Rattle.vte_core.proofs.lemmas.bytes.Classes.{below_finals, ends_not_cancel, is_dropped, is_dropped_in_head, Spans, spans}
-use Rattle.vte_core.proofs.lemmas.fields.PlaceOfState.{IsPlace}
+use Rattle.vte_core.proofs.lemmas.fields.PlaceOfState.{IsReachable}
 use Rattle.vte_core.proofs.lemmas.fields.Pieces.{few_pieces, pieces_push, some_pieces}
 
 abbrev IsOutsideText : Place → Type 0
@@ -29,21 +29,21 @@ outside_text_is_no_text (InText opened) outside text = outside
 outside_text_is_no_text _ outside text = text
 
 nothing_open : (limit : Option ℕ) (place : Place) → HoldsNothing place
-    → (open_at place ≡ []) × (open_data_count (left_at limit place) ≡ 0) × IsPlace place
+    → (open_at place ≡ []) × (open_data_count (left_at limit place) ≡ 0) × IsReachable place
 unfolding pieces_of kept_items
 nothing_open limit place holds_nothing = search (rules, arith)
 
 -- What a byte other than CAN, SUB and ESC is; most places drop a byte of the last case.
 data Ordinary (b : ℕ) : Type 0 where
-  control : class_of b ≡ Control → Ordinary b
+  control : class_of b ≡ PlainControl → Ordinary b
   intermediate : class_of b ≡ Intermediate → Ordinary b
   parameter : 0x30 ≤ b → b < 0x40 → is_head_byte (class_of b) ≡ true → dispatches_escape (class_of b) ≡ true
       → Ordinary b
   final : class_of b ≡ Final → Ordinary b
   dropped : is_dropped (class_of b) ≡ true → Ordinary b
 
-ordinary-by_class : (b : ℕ) {class : Class} → class_of b ≡ class → ends_body class ≡ false → Ordinary b
-ordinary-by_class b {class = Control} is_class no_end = control is_class
+ordinary-by_class : (b : ℕ) {class : Class} → class_of b ≡ class → ends_sequence class ≡ false → Ordinary b
+ordinary-by_class b {class = PlainControl} is_class no_end = control is_class
 ordinary-by_class b {class = Intermediate} is_class no_end = intermediate is_class
 ordinary-by_class b {class = Final} is_class no_end = final is_class
 ordinary-by_class b {class = Delete} is_class no_end = dropped (rw is_class refl)
@@ -59,15 +59,15 @@ dropped_in_head class is_dropped_class = search (rules, arith)
 module _ {limit : Option ℕ} {place next : Place} {b : ℕ} (is_no_escape : eqb b escape ≡ false) where
   -- `Steps` holds for a byte other than ESC that leaves nothing open.
   step-leaving_nothing : {reported : List Event} → LeavesNothingOpen place next → Leads limit place b reported next
-      → ((size : Option ℕ) → FitsLeft size (left_at limit place) → AreFromOneByte size reported)
+      → ((size : Option ℕ) → FitsLeft size (left_at limit place) → AreBrief size reported)
       → (IsOutsideRunsAtPlace place b → AreOutsideRuns reported) → Steps limit place b
   step-leaving_nothing {reported} known leads brief outside_runs =
       let nothing = nothing_open limit next known.1 in
       record {
         reported = reported;
         next = next;
-        is_place = nothing.2;
-        reads = bytes_lead-byte is_no_escape leads;
+        is_reachable = nothing.2;
+        leads = bytes_lead-byte is_no_escape leads;
         brief = brief;
         grows = λ _. omega (arith, nothing.1);
         leaves = inl nothing.0;
@@ -79,7 +79,7 @@ module _ {limit : Option ℕ} {place next : Place} {b : ℕ} (is_no_escape : eqb
   step-silent : LeavesNothingOpen place next → Leads limit place b [] next → Steps limit place b
   step-silent known leads = step-leaving_nothing known leads (λ _ _. tt) (λ _. tt)
 
-  step-executed : class_of b ≡ Control → LeavesNothingOpen place next → Leads limit place b (Execute b ∷ []) next
+  step-executed : class_of b ≡ PlainControl → LeavesNothingOpen place next → Leads limit place b (Execute b ∷ []) next
       → Steps limit place b
   step-executed is_control known leads =
       step-leaving_nothing known leads (λ _ _. executed_low b (spans b is_control)) (λ _. tt)
@@ -173,7 +173,7 @@ delete_is_no_terminator : (b : ℕ) → Spans Delete b → eqb b 0x9c ≡ false
 delete_is_no_terminator b range = grind (arith, nat_tests)
 
 step-in_device_data : {limit : Option ℕ} {b : ℕ} {class : Class} → eqb b escape ≡ false → class_of b ≡ class
-    → ends_body class ≡ false → Steps limit InDeviceData b
+    → ends_sequence class ≡ false → Steps limit InDeviceData b
 step-in_device_data {b} {class = Delete} is_no_escape is_class no_end =
     step-silent is_no_escape (tt, tt) (data-dropped (rw is_class (delete_is_no_terminator b (spans b is_class)))
     (rw is_class refl))
@@ -197,8 +197,8 @@ step-joins_command : {limit : Option ℕ} {items later : List ℕ} {b : ℕ} →
 step-joins_command {limit} {items} {later} {b} is_no_escape leads grows = record {
   reported = [];
   next = InSystemCommand later;
-  is_place = tt;
-  reads = bytes_lead-byte is_no_escape leads;
+  is_reachable = tt;
+  leads = bytes_lead-byte is_no_escape leads;
   brief = λ _ _. tt;
   grows = grows;
   leaves = inl refl;
@@ -207,8 +207,8 @@ step-joins_command {limit} {items} {later} {b} is_no_escape leads grows = record
 }
 
 step-in_system_command : {limit : Option ℕ} {items : List ℕ} {b : ℕ} {class : Class} → eqb b escape ≡ false
-    → class_of b ≡ class → ends_body class ≡ false → Steps limit (InSystemCommand items) b
-step-in_system_command {limit} {items} {b} {class = Control} is_no_escape is_class no_end =
+    → class_of b ≡ class → ends_sequence class ≡ false → Steps limit (InSystemCommand items) b
+step-in_system_command {limit} {items} {b} {class = PlainControl} is_no_escape is_class no_end =
     elim (cases_Bool (eqb b bell)) [
       | inl ends ↦
           step-leaving_nothing is_no_escape (tt, tt) (command-bell is_class ends)
@@ -223,29 +223,29 @@ step-in_system_command {items} {b} is_no_escape is_class no_end =
 
 -- ---- any place: by ESC, CAN and SUB, or the lemma of its shape
 
-step-ordinary : (limit : Option ℕ) (place : Place) (b : ℕ) (class : Class) → IsPlace place → eqb b escape ≡ false
-    → class_of b ≡ class → ends_body class ≡ false → Steps limit place b
-step-ordinary limit (InText opened) b class is_place is_no_escape is_class no_end =
-    step-text limit opened b is_no_escape is_place
-step-ordinary limit AtEscape b class is_place is_no_escape is_class no_end =
+step-ordinary : (limit : Option ℕ) (place : Place) (b : ℕ) (class : Class) → IsReachable place → eqb b escape ≡ false
+    → class_of b ≡ class → ends_sequence class ≡ false → Steps limit place b
+step-ordinary limit (InText opened) b class is_reachable is_no_escape is_class no_end =
+    step-text limit opened b is_no_escape is_reachable
+step-ordinary limit AtEscape b class is_reachable is_no_escape is_class no_end =
     step-at_escape is_no_escape (ordinary-by_class b is_class no_end)
-step-ordinary limit (InEscape intermediates) b class is_place is_no_escape is_class no_end =
+step-ordinary limit (InEscape intermediates) b class is_reachable is_no_escape is_class no_end =
     step-in_escape is_no_escape (ordinary-by_class b is_class no_end)
-step-ordinary limit (InControlSequence head) b class is_place is_no_escape is_class no_end =
+step-ordinary limit (InControlSequence head) b class is_reachable is_no_escape is_class no_end =
     step-in_control_sequence is_no_escape (ordinary-by_class b is_class no_end)
-step-ordinary limit (InDeviceControl head) b class is_place is_no_escape is_class no_end =
+step-ordinary limit (InDeviceControl head) b class is_reachable is_no_escape is_class no_end =
     step-in_device_control is_no_escape (ordinary-by_class b is_class no_end)
-step-ordinary limit InDeviceData b class is_place is_no_escape is_class no_end =
+step-ordinary limit InDeviceData b class is_reachable is_no_escape is_class no_end =
     step-in_device_data is_no_escape is_class no_end
-step-ordinary limit (InSystemCommand items) b class is_place is_no_escape is_class no_end =
+step-ordinary limit (InSystemCommand items) b class is_reachable is_no_escape is_class no_end =
     step-in_system_command is_no_escape is_class no_end
-step-ordinary limit InIgnoredString b class is_place is_no_escape is_class no_end =
+step-ordinary limit InIgnoredString b class is_reachable is_no_escape is_class no_end =
     step-silent is_no_escape (tt, tt) (ignored-more (rw is_class (ends_not_cancel class no_end)))
 
 -- As ESC breaks any open character, none is open here, so ESC reports nothing.
-silent_or_settles-escape : (limit : Option ℕ) (place : Place) → IsPlace place → IsText place
+silent_or_settles-escape : (limit : Option ℕ) (place : Place) → IsReachable place → IsText place
     → breaks (open_at place) (escape ∷ []) ≡ false → IsSilentOrSettles AtEscape (closing_events_at limit place)
-silent_or_settles-escape limit place is_place text unbroken = search (rules, arith)
+silent_or_settles-escape limit place is_reachable text unbroken = search (rules, arith)
 
 outside_runs-closing : (limit : Option ℕ) (place : Place) (b : ℕ) → IsOutsideRunsAtPlace place b
     → AreOutsideRuns (closing_events_at limit place)
@@ -255,29 +255,29 @@ outside_runs-cancel : (limit : Option ℕ) (place : Place) (b : ℕ) → IsOutsi
     → AreOutsideRuns (closing_events_at limit place ++ Execute b ∷ [])
 outside_runs-cancel limit place b outside = search (rules, arith)
 
-step-by_class : (limit : Option ℕ) (place : Place) (b : ℕ) (class : Class) → IsPlace place → class_of b ≡ class
+step-by_class : (limit : Option ℕ) (place : Place) (b : ℕ) (class : Class) → IsReachable place → class_of b ≡ class
     → Steps limit place b
-step-by_class limit place b Escape is_place is_class =
+step-by_class limit place b Escape is_reachable is_class =
     let same : Spans Escape b = spans b is_class in
     rw same (record {
       reported = closing_events_at limit place;
       next = AtEscape;
-      is_place = tt;
-      reads = bytes_lead-escape is_place;
+      is_reachable = tt;
+      leads = bytes_lead-escape is_reachable;
       brief = λ size fits. closing_alone_brief limit size place fits;
       grows = λ _. omega arith;
       leaves = inl refl;
-      little = silent_or_settles-escape limit place is_place;
+      little = silent_or_settles-escape limit place is_reachable;
       outside_runs = outside_runs-closing limit place _;
     })
-step-by_class limit (InText opened) b Cancel is_place is_class =
-    step-text limit opened b (cancel_is_no_escape b is_class) is_place
-step-by_class limit place b Cancel is_place is_class =
-    step-leaving_nothing (cancel_is_no_escape b is_class) (tt, tt) (byte-cancels is_place is_class)
+step-by_class limit (InText opened) b Cancel is_reachable is_class =
+    step-text limit opened b (cancel_is_no_escape b is_class) is_reachable
+step-by_class limit place b Cancel is_reachable is_class =
+    step-leaving_nothing (cancel_is_no_escape b is_class) (tt, tt) (byte-cancels is_reachable is_class)
     (λ size fits. closing_brief limit size place b fits (spans b is_class)) (outside_runs-cancel limit place b)
-step-by_class limit place b class is_place is_class =
-    step-ordinary limit place b class is_place (no_escape b (rw is_class refl)) is_class refl
+step-by_class limit place b class is_reachable is_class =
+    step-ordinary limit place b class is_reachable (no_escape b (rw is_class refl)) is_class refl
 
 -- Each byte reports at most two events after each place, and leads to a next place.
-pub steps : {limit : Option ℕ} {place : Place} {b : ℕ} → IsPlace place → Steps limit place b
-steps {limit} {place} {b} is_place = step-by_class limit place b (class_of b) is_place refl
+pub steps : {limit : Option ℕ} {place : Place} {b : ℕ} → IsReachable place → Steps limit place b
+steps {limit} {place} {b} is_reachable = step-by_class limit place b (class_of b) is_reachable refl

@@ -1,7 +1,7 @@
 -- What one byte reports after a place, and where it leads (`Steps`), for all uses of it. `TextSteps` and `PlaceSteps`
 -- prove it of each place.
-use Rattle.vte_core.proofs.Common.{AreFromOneByte, breaks, BytesLead, class_of, CommandToClose, Event, events, false, FitsStore, InDeviceData, InText, is_device_data, IsAtMostOneShort, IsOutsideRuns, left_at, List, None, open_at, open_data_count, Option, Place, Print, refl, replacement, ToClose, ℕ, [], ◌+◌, ◌∷◌, ◌≡◌, ◌≤◌, ◌⊎◌}
-use Rattle.vte_core.proofs.lemmas.fields.PlaceOfState.{IsPlace}
+use Rattle.vte_core.proofs.Common.{AreBrief, breaks, BytesLead, class_of, CommandToClose, Event, events, false, FitsLimit, InDeviceData, InText, is_device_data, IsAtMostOneShort, IsOutsideRuns, left_at, List, None, open_at, open_data_count, Option, Place, Print, refl, replacement, ToClose, ℕ, [], ◌+◌, ◌∷◌, ◌≡◌, ◌≤◌, ◌⊎◌}
+use Rattle.vte_core.proofs.lemmas.fields.PlaceOfState.{IsReachable}
 
 -- If a character is open at the next place, at most U+FFFD was reported.
 abbrev LeavesOpen : Place → List Event → Type 0
@@ -21,7 +21,7 @@ text_at _ some_open = absurd (some_open refl)
 
 -- The pieces of the open command, if any, fit into a buffer of this size.
 abbrev pub FitsLeft : Option ℕ → ToClose → Type 0
-FitsLeft size (CommandToClose pieces dropped) = FitsStore size pieces
+FitsLeft size (CommandToClose pieces dropped) = FitsLimit size pieces
 FitsLeft size _ = Unit {0}
 
 -- The byte is outside of a text, and of data that are put.
@@ -39,11 +39,11 @@ AreOutsideRuns (event ∷ events) = IsOutsideRuns event × AreOutsideRuns events
 pub record Steps (limit : Option ℕ) (place : Place) (byte : ℕ) : Type 0 where
   pub reported : List Event
   pub next : Place
-  pub is_place : IsPlace next
+  pub is_reachable : IsReachable next
   -- For `after-reads`.
-  pub reads : BytesLead limit place (byte ∷ []) reported next
+  pub leads : BytesLead limit place (byte ∷ []) reported next
   -- For `laws::bytes_are_brief`.
-  pub brief : (size : Option ℕ) → FitsLeft size (left_at limit place) → AreFromOneByte size reported
+  pub brief : (size : Option ℕ) → FitsLeft size (left_at limit place) → AreBrief size reported
   -- For the size of a command without a limit.
   pub grows : limit ≡ None → open_data_count (left_at limit next) ≤ open_data_count (left_at limit place) + 1
   -- For early stops: nothing is reported if a character is left open.

@@ -1,9 +1,9 @@
 -- A byte in a text, by whether it ends, continues or breaks the open character (`step-text`), and CAN and SUB at all
 -- places (`byte-cancels`).
-use Rattle.vte_core.proofs.Common.{ap, append-nil, AreFromOneByte, arith, bell, body_outcome, Cancel, cases_Bool, character_event, class_of, closing_events_at, control_sequence_end, device_control_after_head, device_data_outcome, eqb, escape, Event, Execute, executed_events, false, false≢true, inl, inr, InSystemCommand, InText, is_control_character, is_truncated, is_well_formed, IsAtMostOneShort, Leads, left_at, List, may_continue, nat_tests, open_data_count, Option, Place, Print, refl, replacement, report, rules, sym, text_outcome, true, ℕ, [], ◌++◌, ◌<◌, ◌∙◌, ◌∷◌, ◌≡◌}
+use Rattle.vte_core.proofs.Common.{ap, append-nil, AreBrief, arith, bell, body_outcome, Cancel, cases_Bool, character_event, class_of, closing_events_at, control_sequence_end, device_control_after_head, device_data_outcome, eqb, escape, Event, Execute, executed_events, false, false≢true, inl, inr, InSystemCommand, InText, is_control_character, is_truncated, is_well_formed, IsAtMostOneShort, Leads, left_at, List, may_continue, nat_tests, open_data_count, Option, Place, Print, refl, replacement, report, rules, sym, text_outcome, true, ℕ, [], ◌++◌, ◌<◌, ◌∙◌, ◌∷◌, ◌≡◌}
 use Rattle.vte_core.proofs.lemmas.shapes.FirstSegment.{text_outcome-broken, text_outcome-well_formed}
 use Rattle.vte_core.proofs.lemmas.shapes.BrokenCharacters.{breaks-broken}
-use Rattle.vte_core.proofs.lemmas.fields.PlaceOfState.{IsPlace, may_continue-truncated}
+use Rattle.vte_core.proofs.lemmas.fields.PlaceOfState.{IsReachable, may_continue-truncated}
 use Rattle.vte_core.proofs.lemmas.places.PlaceLeads.{executed_low, one_short-append, one_short-from_one_byte, short-character, short-malformed, text-lone, text-unfinished, text-well_formed}
 use Rattle.vte_core.specs.IgnoredString.{ignored_string_outcome}
 use Rattle.vte_core.specs.private.Place.{control_sequence_from, device_control_from, escape_from, system_command_from}
@@ -26,12 +26,12 @@ silent_or_settles-is_short next reported little = search (rules, arith)
 step-silent_or_settles : {limit : Option ℕ} {begun later : List ℕ} {byte : ℕ} {reported : List Event}
     → IsSilentOrSettles (InText later) reported → eqb byte escape ≡ false
     → Leads limit (InText begun) byte reported (InText later)
-    → IsPlace (InText later) → Steps limit (InText begun) byte
-step-silent_or_settles {limit} {begun} {later} {byte} {reported} little is_no_escape leads is_place = record {
+    → IsReachable (InText later) → Steps limit (InText begun) byte
+step-silent_or_settles {limit} {begun} {later} {byte} {reported} little is_no_escape leads is_reachable = record {
   reported = reported;
   next = InText later;
-  is_place = is_place;
-  reads = bytes_lead-byte is_no_escape leads;
+  is_reachable = is_reachable;
+  leads = bytes_lead-byte is_no_escape leads;
   brief = λ size _. one_short-from_one_byte size reported (silent_or_settles-is_short (InText later) reported little);
   grows = λ _. omega (arith, open_data_count-text limit later);
   leaves = elim little [ inl nothing ↦ inr (inl nothing) | inr closed ↦ inl closed.0 ];
@@ -71,12 +71,12 @@ step-broken limit begun byte is_no_escape truncated not_well_formed_after not_tr
     record {
       reported = Print replacement ∷ alone.reported;
       next = alone.next;
-      is_place = alone.is_place;
-      reads = record {
-        reads = λ rest.
+      is_reachable = alone.is_reachable;
+      leads = record {
+        leads = λ rest.
             waits-byte limit (InText begun) (InText []) byte (Print replacement ∷ []) rest is_no_escape
             (text_outcome-broken begun byte truncated not_well_formed_after not_truncated_after)
-            ∙ ap (report (Print replacement ∷ [])) (alone.reads.reads rest);
+            ∙ ap (report (Print replacement ∷ [])) (alone.leads.leads rest);
       };
       brief =
           λ size _. one_short-append size (Print replacement ∷ []) alone.reported (refl, refl)
@@ -112,29 +112,29 @@ text_outcome-cancel rest b low =
     rw control at (text_outcome-well_formed (b ∷ []) rest (ascii-alone b (omega arith)).is_whole)
 
 -- CAN and SUB close what is open, and then are executed.
-pub byte-cancels : {limit : Option ℕ} {place : Place} {b : ℕ} → IsPlace place → class_of b ≡ Cancel
+pub byte-cancels : {limit : Option ℕ} {place : Place} {b : ℕ} → IsReachable place → class_of b ≡ Cancel
     → Leads limit place b (closing_events_at limit place ++ Execute b ∷ []) (InText [])
 unfolding body_outcome executed_events escape_from control_sequence_from control_sequence_end device_control_from
     device_control_after_head device_data_outcome system_command_from ignored_string_outcome
-byte-cancels {place = InText []} {b} is_place is_cancel =
+byte-cancels {place = InText []} {b} is_reachable is_cancel =
     record { leads = λ rest. text_outcome-cancel rest b (spans b is_cancel) }
-byte-cancels {place = InText (a ∷ opened)} {b} is_place is_cancel =
+byte-cancels {place = InText (a ∷ opened)} {b} is_reachable is_cancel =
     let low : b < 0x20 = spans b is_cancel in
-    let tests : Tests (a ∷ opened ++ b ∷ []) false false = ascii-breaks (a ∷ opened) b is_place (omega arith) in
+    let tests : Tests (a ∷ opened ++ b ∷ []) false false = ascii-breaks (a ∷ opened) b is_reachable (omega arith) in
     record {
-      leads = λ rest. text_outcome-broken (a ∷ opened) b is_place tests.is_whole tests.is_open rest
+      leads = λ rest. text_outcome-broken (a ∷ opened) b is_reachable tests.is_whole tests.is_open rest
           ∙ ap (report (Print replacement ∷ [])) (text_outcome-cancel rest b low);
     }
-byte-cancels {place = InSystemCommand items} {b} is_place is_cancel =
+byte-cancels {place = InSystemCommand items} {b} is_reachable is_cancel =
     record { leads = λ rest. simp (is_cancel, cancel_is_no_bell b is_cancel, append-nil) }
-byte-cancels is_place is_cancel = record { leads = λ rest. simp is_cancel }
+byte-cancels is_reachable is_cancel = record { leads = λ rest. simp is_cancel }
 
 -- ---- what ESC, CAN and SUB report is no more than one byte may
 
 pub closing_brief : (limit size : Option ℕ) (place : Place) (b : ℕ) → FitsLeft size (left_at limit place) → b < 0x20
-    → AreFromOneByte size (closing_events_at limit place ++ Execute b ∷ [])
+    → AreBrief size (closing_events_at limit place ++ Execute b ∷ [])
 closing_brief limit size place b fits low = search (rules, arith, executed_low, few_pieces, some_pieces)
 
 pub closing_alone_brief : (limit size : Option ℕ) (place : Place) → FitsLeft size (left_at limit place)
-    → AreFromOneByte size (closing_events_at limit place)
+    → AreBrief size (closing_events_at limit place)
 closing_alone_brief limit size place fits = search (rules, arith, few_pieces, some_pieces)

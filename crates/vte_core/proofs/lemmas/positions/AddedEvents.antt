@@ -3,12 +3,13 @@
 use Rattle.vte_core.proofs.Common.{added, AddsOutsideRuns, after, All, All-append, All-cons, All-drop, All-nil, ap, append-nil, append_assoc, arith, breaks_at, BytesLead, cases_Bool, chunk_call, ChunkCall, drop, Event, false, false≢true, HasReadWithLimit, inl, inr, IsAfter, IsAtPosition, IsInsidePosition, IsOutsideRuns, IsPlaceOfState, IsSettled, length, List, Machine, open_character, Option, Place, Print, PrintsNoAscii, refl, replacement, reported_before, ReportsOutsideRuns, resumed_stream, rules, slice_index, State, subst, sym, take, ℕ, [], ◌++◌, ◌+◌, ◌<◌, ◌∙◌, ◌∷◌, ◌≡◌}
 use Rattle.vte_core.specs.private.Progress.{AddsCharacter, HasProgress}
 use Rattle.vte_core.specs.private.ToRun.{IsOutsideRunsInState}
-use Rattle.vte_core.proofs.lemmas.positions.Progress.{starts-at, stretch-added}
-use Rattle.vte_core.proofs.lemmas.fields.PlaceOfState.{IsPlace}
+use Rattle.vte_core.proofs.lemmas.positions.Progress.{stretch-added}
+use Rattle.vte_core.proofs.lemmas.positions.CallEnds.{starts-at}
+use Rattle.vte_core.proofs.lemmas.fields.PlaceOfState.{IsReachable}
 use Rattle.vte_core.proofs.lemmas.places.PlaceSteps.{steps}
 use Rattle.vte_core.proofs.lemmas.places.Steps.{AreOutsideRuns, IsOutsideRunsAtPlace}
 use Rattle.vte_core.proofs.lemmas.shapes.BrokenCharacters.{reported-broken, reported-settled}
-use Rattle.vte_core.proofs.lemmas.bytes.Runs.{one_byte}
+use Rattle.vte_core.proofs.lemmas.bytes.Each.{one_byte}
 use Rattle.vte_core.proofs.lemmas.streams.After.{added-nothing, added-reads}
 use Rattle.vte_core.proofs.lemmas.streams.StreamSteps.{prints_no_ascii, prints_no_ascii-all, prints_no_ascii-character}
 
@@ -34,7 +35,7 @@ progress-recorded {given} progress =
     record {
       performed = sym (after-keep [] given);
       is_after = progress.is_after;
-      earlier = λ does. absurd (false≢true does);
+      earlier = λ asks. absurd (false≢true asks);
     }
 
 recorded-is : {limit : Option ℕ} {stream bytes : List ℕ} {i : ℕ} {value given : List Event} {read : List ℕ}
@@ -104,16 +105,17 @@ module _ {limit : Option ℕ} {stream bytes : List ℕ} {i : ℕ} where
 
   pub adds-reads : {b : ℕ} {place next : Place} {these : List Event}
       → i < length bytes → b ≡ slice_index bytes i
-      → IsAfter limit (resumed_stream stream bytes i) place → BytesLead limit place (b ∷ []) these next → IsPlace next
+      → IsAfter limit (resumed_stream stream bytes i) place → BytesLead limit place (b ∷ []) these next
+      → IsReachable next
       → All IsOutsideRuns these → AddsOutsideRuns limit stream bytes i (i + 1)
-  adds-reads {b} {place} {next} {these} within byte_is is_after reads is_place are_outside =
+  adds-reads {b} {place} {next} {these} within byte_is is_after reads is_reachable are_outside =
       let one = one_byte bytes i b within byte_is in
       let before : List Event = reported_before limit stream bytes i in
       let all : added limit stream (take (i + 1) bytes) ≡ before ++ these =
       stretch-added limit stream bytes i (i + 1) (omega arith)
       ∙ ap (λ (events : List Event). before ++ events)
       (ap (added limit (resumed_stream stream bytes i)) one
-      ∙ added-reads is_after reads is_place) in
+      ∙ added-reads is_after reads is_reachable) in
       elim (cases_Bool (breaks_at stream bytes (i + 1))) [
         | inl broken ↦ record {
           events = these ++ Print replacement ∷ [];
@@ -135,10 +137,10 @@ module _ {limit : Option ℕ} {stream bytes : List ℕ} {i : ℕ} where
 
   pub adds-outside_runs : {b : ℕ} {place : Place} → i < length bytes
       → b ≡ slice_index bytes i → IsAfter limit (resumed_stream stream bytes i) place
-      → IsPlace place → IsOutsideRunsAtPlace place b → AddsOutsideRuns limit stream bytes i (i + 1)
-  adds-outside_runs {b} {place} within byte_is is_after is_place outside =
-      let step = steps is_place in
-      adds-reads within byte_is is_after step.reads step.is_place
+      → IsReachable place → IsOutsideRunsAtPlace place b → AddsOutsideRuns limit stream bytes i (i + 1)
+  adds-outside_runs {b} {place} within byte_is is_after is_reachable outside =
+      let step = steps is_reachable in
+      adds-reads within byte_is is_after step.leads step.is_reachable
       (outside_runs-all step.reported (step.outside_runs outside))
 
   -- If the first byte of a character reported nothing, what is added from it on are the events of the character.

@@ -1,13 +1,14 @@
 -- A byte between characters: it is one (`takes_bytes-printed`), a control or malformed (`takes_bytes-single`), or the
 -- first of one (`takes_bytes-opened`). What the code does is what `places/PlaceLeads` says of the byte, and the parser
 -- is at the next place. A single byte reports nothing that a run would, after a stretch (`advances-single`).
-use Rattle.vte_core.proofs.Common.{AddsOutsideRuns, Advances, All, ap, arith, BytesLead, Carries, cases_lt, character_event, ChunkCall, drop, drop_more, escape, Event, false, false≢true, from_to, HasNoRunAt, inl, inr, InText, is_in, is_truncated, is_well_formed, IsAfter, IsAtPlace, IsOutsideRuns, IsSettledPlace, length, List, Machine, malformed_event, nat_tests, Nothing, One, Option, Place, Print, refl, resumed_stream, rules, slice_index, subst, suc, sym, take, TakesBytes, Text, true, Unfinished, ℕ, [], ◌+◌, ◌<◌, ◌∙◌, ◌∷◌, ◌≡◌, ◌≢◌, ◌≤◌}
-use Rattle.vte_core.specs.declared.utf8.Carried.TheVariants.{Unfinished as StillUnfinished}
+use Rattle.vte_core.proofs.Common.{AddsOutsideRuns, Advances, All, ap, arith, BytesLead, cases_lt, character_event, ChunkCall, drop, drop_more, Empty, escape, Event, Extends, false, false≢true, from_to, HasNoRunAt, inl, inr, InText, is_in, is_truncated, is_well_formed, IsAfter, IsAtPlace, IsOutsideRuns, IsSettledPlace, length, List, Machine, malformed_event, nat_tests, One, Option, Place, Print, refl, resumed_stream, rules, slice_index, subst, suc, sym, take, TakesBytes, Text, true, Unfinished, ℕ, [], ◌+◌, ◌<◌, ◌∙◌, ◌∷◌, ◌≡◌, ◌≢◌, ◌≤◌}
+use Rattle.vte_core.specs.declared.utf8.Extended.TheVariants.{Truncated}
 use Rattle.vte_core.proofs.lemmas.bytes.Scalars.{begins_none, first_truncated}
 use Rattle.vte_core.proofs.lemmas.bytes.Utf8.{ascii-alone}
 use Rattle.vte_core.proofs.lemmas.fields.PlaceOfState.{is_at-by}
-use Rattle.vte_core.proofs.lemmas.positions.Progress.{place-settled_text, settled-same_state}
-use Rattle.vte_core.proofs.lemmas.positions.Stretches.{advances-byte, advances-reporting, advances-then, not_escape, reads-byte_at, takes_bytes-begun}
+use Rattle.vte_core.proofs.lemmas.positions.SettledStates.{place-settled_text, settled-same_state}
+use Rattle.vte_core.proofs.lemmas.positions.Stretches.{advances-byte, advances-reporting, advances-then, reads-byte_at}
+use Rattle.vte_core.proofs.lemmas.positions.TakenBytes.{not_escape, takes_bytes-begun}
 use Rattle.vte_core.specs.private.Prelude.{Completes, MayReadByte}
 use Rattle.vte_core.proofs.lemmas.places.PlaceLeads.{text-lone, text-unfinished, text-well_formed}
 use Rattle.vte_core.proofs.lemmas.streams.StreamSteps.{outside_runs-control}
@@ -21,11 +22,11 @@ character_event-printed b printed = grind (arith, nat_tests)
 
 module _ {V B : Type 0} {step : V → Event → V} {old new : V} {limit : Option ℕ} {b : ℕ} {parser : Machine B} where
   -- A byte that is a character by itself reports it.
-  takes_bytes-whole : parser.state ≡ Text Nothing → b ≢ escape → is_well_formed (b ∷ []) ≡ true
+  takes_bytes-whole : parser.state ≡ Text Empty → b ≢ escape → is_well_formed (b ∷ []) ≡ true
       → new ≡ step old (character_event b) → (place : Place) → IsAtPlace limit parser place → IsSettledPlace place
       → TakesBytes step old new limit place (b ∷ []) parser
-  takes_bytes-whole begun is_no_escape whole performed =
-      takes_bytes-begun begun is_no_escape
+  takes_bytes-whole in_state is_no_escape whole performed =
+      takes_bytes-begun in_state is_no_escape
       (λ s. record {
         reported = character_event b ∷ [];
         next = InText [];
@@ -35,12 +36,12 @@ module _ {V B : Type 0} {step : V → Event → V} {old new : V} {limit : Option
       })
 
   -- A byte that begins no character is malformed.
-  takes_bytes-lone : parser.state ≡ Text Nothing → b ≢ escape
+  takes_bytes-lone : parser.state ≡ Text Empty → b ≢ escape
       → is_well_formed (b ∷ []) ≡ false → is_truncated (b ∷ []) ≡ false → new ≡ step old (malformed_event (b ∷ []))
       → (place : Place) → IsAtPlace limit parser place → IsSettledPlace place
       → TakesBytes step old new limit place (b ∷ []) parser
-  takes_bytes-lone begun is_no_escape whole more performed =
-      takes_bytes-begun begun is_no_escape
+  takes_bytes-lone in_state is_no_escape whole more performed =
+      takes_bytes-begun in_state is_no_escape
       (λ s. record {
         reported = malformed_event (b ∷ []) ∷ [];
         next = InText [];
@@ -50,42 +51,42 @@ module _ {V B : Type 0} {step : V → Event → V} {old new : V} {limit : Option
       })
 
   -- A character of ASCII that is printed is reported by `Print`.
-  pub takes_bytes-printed : {scalar : ℕ} → parser.state ≡ Text Nothing → is_in (from_to 0x20 0x7f) b ≡ true → scalar ≡ b
+  pub takes_bytes-printed : {scalar : ℕ} → parser.state ≡ Text Empty → is_in (from_to 0x20 0x7f) b ≡ true → scalar ≡ b
       → new ≡ step old (Print scalar) → (place : Place) → IsAtPlace limit parser place → IsSettledPlace place
       → TakesBytes step old new limit place (b ∷ []) parser
-  takes_bytes-printed begun printed same reported =
+  takes_bytes-printed in_state printed same reported =
       let low : 0x20 ≤ b = grind (arith, nat_tests) in
       let high : b < 0x80 = grind (arith, nat_tests) in
-      takes_bytes-whole begun (λ escape. omega (arith, escape, low)) (ascii-alone b high).is_whole
+      takes_bytes-whole in_state (λ escape. omega (arith, escape, low)) (ascii-alone b high).is_whole
       (reported ∙ ap (λ scalar. step old (Print scalar)) same ∙ ap (step old) (sym (character_event-printed b printed)))
 
   -- A byte that is neither printed nor begins a longer character is a control or malformed.
-  pub takes_bytes-single : parser.state ≡ Text Nothing → b ≢ escape
+  pub takes_bytes-single : parser.state ≡ Text Empty → b ≢ escape
       → is_in (from_to 0xc2 0xf4) b ≡ false → (b < 0x80 → new ≡ step old (character_event b))
       → (0x80 ≤ b → new ≡ step old (malformed_event (b ∷ []))) → (place : Place)
       → IsAtPlace limit parser place → IsSettledPlace place → TakesBytes step old new limit place (b ∷ []) parser
-  takes_bytes-single begun is_no_escape no_lead control malformed = elim (cases_lt b 0x80) [
-    | inl low ↦ takes_bytes-whole begun is_no_escape (ascii-alone b low).is_whole (control low)
+  takes_bytes-single in_state is_no_escape no_lead control malformed = elim (cases_lt b 0x80) [
+    | inl low ↦ takes_bytes-whole in_state is_no_escape (ascii-alone b low).is_whole (control low)
     | inr high ↦
         let lone =
-        begins_none b high no_lead in takes_bytes-lone begun is_no_escape lone.is_whole lone.is_open (malformed high)
+        begins_none b high no_lead in takes_bytes-lone in_state is_no_escape lone.is_whole lone.is_open (malformed high)
   ]
 
 -- A byte that begins a longer character reports nothing, and opens it.
 takes_bytes-opened : {V B : Type 0} {step : V → Event → V} {value : V} {limit : Option ℕ} {b : ℕ} {longer : Unfinished}
-    {parser next : Machine B} → parser.state ≡ Text Nothing
-    → b ≢ escape → Carries [] b (StillUnfinished longer) → next.state ≡ Text longer → (place : Place)
+    {parser next : Machine B} → parser.state ≡ Text Empty
+    → b ≢ escape → Extends [] b (Truncated longer) → next.state ≡ Text longer → (place : Place)
     → IsAtPlace limit parser place
     → IsSettledPlace place
     → TakesBytes step value value limit place (b ∷ []) next
-takes_bytes-opened {limit} {b} {longer} {next} begun is_no_escape carries state =
-    let more : is_truncated (b ∷ []) ≡ true = rw carries.0 at carries.1 in
-    takes_bytes-begun begun is_no_escape
+takes_bytes-opened {limit} {b} {longer} {next} in_state is_no_escape extends state =
+    let more : is_truncated (b ∷ []) ≡ true = rw extends.0 at extends.1 in
+    takes_bytes-begun in_state is_no_escape
     (λ s. record {
       reported = [];
       next = InText (b ∷ []);
       performed = refl;
-      is_at = is_at-by state (carries.0, more);
+      is_at = is_at-by state (extends.0, more);
       leads = text-unfinished;
     })
 
@@ -95,7 +96,7 @@ takes_bytes-opened {limit} {b} {longer} {next} begun is_no_escape carries state 
 
 record Single (limit : Option ℕ) (b : ℕ) : Type 0 where
   reported : List Event
-  reads : BytesLead limit (InText []) (b ∷ []) reported (InText [])
+  leads : BytesLead limit (InText []) (b ∷ []) reported (InText [])
   events_are : All IsOutsideRuns reported
 
 outside_runs-malformed : (b : ℕ) → All IsOutsideRuns (malformed_event (b ∷ []) ∷ [])
@@ -108,7 +109,7 @@ byte-single : (limit : Option ℕ) (b : ℕ) → b ≢ escape → is_in (from_to
 byte-single limit b is_no_escape other no_lead = elim (cases_lt b 0x80) [
   | inl low ↦ record {
     reported = character_event b ∷ [];
-    reads =
+    leads =
         bytes_lead-byte (not_escape b is_no_escape)
         (text-well_formed (ascii-alone b low).is_whole);
     events_are = outside_runs-control b (grind (arith, nat_tests));
@@ -117,7 +118,7 @@ byte-single limit b is_no_escape other no_lead = elim (cases_lt b 0x80) [
       let lone = begins_none b high no_lead in
       record {
         reported = malformed_event (b ∷ []) ∷ [];
-        reads =
+        leads =
             bytes_lead-byte (not_escape b is_no_escape)
             (text-lone lone.is_whole lone.is_open);
         events_are = outside_runs-malformed b;
@@ -125,30 +126,30 @@ byte-single limit b is_no_escape other no_lead = elim (cases_lt b 0x80) [
 ]
 
 adds-single : {B : Type 0} {limit : Option ℕ} {stream bytes : List ℕ} {i b : ℕ} {place : Place} (parser : Machine B)
-    → parser.state ≡ Text Nothing → b ≢ escape
+    → parser.state ≡ Text Empty → b ≢ escape
     → is_in (from_to 0x20 0x7f) b ≡ false → is_in (from_to 0xc2 0xf4) b ≡ false → i < length bytes
     → b ≡ slice_index bytes i
     → IsAtPlace limit parser place
     → IsAfter limit (resumed_stream stream bytes i) place → AddsOutsideRuns limit stream bytes i (i + 1)
 adds-single {limit} {stream} {bytes} {i} {b} {place}
-    parser begun is_no_escape other no_lead within byte_is is_at after =
+    parser in_state is_no_escape other no_lead within byte_is is_at after =
     let one = byte-single limit b is_no_escape other no_lead in
     adds-reads within byte_is
-    (subst (IsAfter limit (resumed_stream stream bytes i)) (place-settled_text begun is_at) after)
-    one.reads refl one.events_are
+    (subst (IsAfter limit (resumed_stream stream bytes i)) (place-settled_text in_state is_at) after)
+    one.leads refl one.events_are
 
 pub advances-single : {outside V B : Type 0} {call : ChunkCall V} {old mid new : V} {i j b : ℕ}
     {parser next : Machine B} → Advances outside call old mid i j parser next
-    → MayReadByte call mid (Text Nothing) next j b → b ≢ escape → is_in (from_to 0x20 0x7f) b ≡ false
+    → MayReadByte call mid (Text Empty) next j b → b ≢ escape → is_in (from_to 0x20 0x7f) b ≡ false
     → is_in (from_to 0xc2 0xf4) b ≡ false → (b < 0x80 → new ≡ call.step mid (character_event b))
     → (0x80 ≤ b → new ≡ call.step mid (malformed_event (b ∷ [])))
     → Advances outside call old new i (j + 1) parser next
 advances-single before may_read is_no_escape other no_lead control malformed =
     advances-then before (advances-reporting
     (advances-byte may_read.within may_read.looked_at may_read.may_go_on
-    (takes_bytes-single may_read.begun is_no_escape no_lead control malformed)
-    (settled-same_state may_read.begun tt))
-    (λ stream place is_at. adds-single _ may_read.begun is_no_escape other no_lead may_read.within may_read.looked_at
+    (takes_bytes-single may_read.in_state is_no_escape no_lead control malformed)
+    (settled-same_state may_read.in_state tt))
+    (λ stream place is_at. adds-single _ may_read.in_state is_no_escape other no_lead may_read.within may_read.looked_at
     is_at))
 
 -- ---- what a character reports that a lead byte begins
@@ -158,7 +159,7 @@ advances-single before may_read is_no_escape other no_lead control malformed =
 
 -- A call that reads the first byte of a character advances by what completes the character.
 pub advances-first : {V B given : Type 0} {call : ChunkCall V} {old new : V} {i j first : ℕ} {parser next : Machine B}
-    → MayReadByte call old (Text Nothing) parser i first → 0xc2 ≤ first → first < 0xf5
+    → MayReadByte call old (Text Empty) parser i first → 0xc2 ≤ first → first < 0xf5
     → Completes call old new (i + 1) j (One first) next
     → Advances (given × HasNoRunAt false call.bytes i) call old new i j parser next
 advances-first {call} {i} {first} {parser} may_read lead fits completes = record {
@@ -166,7 +167,7 @@ advances-first {call} {i} {first} {parser} may_read lead fits completes = record
   goes_on = λ value stream position.
       completes.is_at_position value stream (in_text parser (One first)) refl
       (reads-byte_at may_read.within may_read.looked_at may_read.may_go_on
-      (takes_bytes-opened may_read.begun (λ is_escape. omega (arith, is_escape, lead))
+      (takes_bytes-opened may_read.in_state (λ is_escape. omega (arith, is_escape, lead))
       (refl, first_truncated first lead fits) refl) position);
   -- If bytes are left, the parser is between characters again.
   settled = λ within. settled-same_state (completes.text within) tt;
@@ -175,12 +176,12 @@ advances-first {call} {i} {first} {parser} may_read lead fits completes = record
       -- After the first byte, the call is inside the character.
       let inside =
       reads-byte_at may_read.within may_read.looked_at may_read.may_go_on
-      (takes_bytes-opened may_read.begun (λ is_escape. omega (arith, is_escape, lead))
+      (takes_bytes-opened may_read.in_state (λ is_escape. omega (arith, is_escape, lead))
       (refl, first_truncated first lead fits) refl) position in
       -- For a performer that keeps all events (`recorded-at`), the same says that the first byte reported nothing.
       let silent = reads-byte_at {call = keeping call.limit call.bytes} may_read.within may_read.looked_at
-      (λ does. absurd (false≢true does))
-      (takes_bytes-opened {step = keep} may_read.begun (λ is_escape. omega (arith, is_escape, lead))
+      (λ asks. absurd (false≢true asks))
+      (takes_bytes-opened {step = keep} may_read.in_state (λ is_escape. omega (arith, is_escape, lead))
       (refl, first_truncated first lead fits) refl)
       (recorded-at position) in
       -- So what the character reports is what `completes` adds.

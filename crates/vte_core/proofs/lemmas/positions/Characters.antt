@@ -1,12 +1,13 @@
 -- A call inside a character, over any number of its bytes: it reports nothing while the character goes on (`GoesOn`),
--- and then completes it (`completes-all`, `completes-whole`, `completes-broken`), a byte at a time.
-use Rattle.vte_core.proofs.Common.{added, All-cons, All-nil, ap, append-nil, append_assoc, arith, bytes_of, Carries, character_event, ChunkCall, drop, drop_more, Event, from_to, HasReadWithLimit, inl, inr, InText, is_in, is_truncated, is_well_formed, IsAtPlace, IsAtPosition, IsInsidePosition, IsOutsideRuns, IsPlaceOfState, length, List, Machine, may_continue, Nothing, One, open_character, Option, Place, Print, ProgressInside, refl, replacement, rules, scalar_of, second_range, slice_index, subst, sym, take, take-add, Text, Three, true, Two, Unfinished, ℕ, [], ◌++◌, ◌+◌, ◌<◌, ◌∙◌, ◌∷◌, ◌≡◌, ◌≢◌, ◌≤◌}
-use Rattle.vte_core.specs.declared.utf8.Carried.TheVariants.{Broken, Unfinished as StillUnfinished, Whole}
+-- and then completes it (`completes-all`, `completes-well_formed`, `completes-malformed`), a byte at a time.
+use Rattle.vte_core.proofs.Common.{added, All-cons, All-nil, ap, append-nil, append_assoc, arith, bytes_of, character_event, ChunkCall, drop, drop_more, Empty, Event, Extends, from_to, HasReadWithLimit, inl, inr, InText, is_in, is_truncated, is_well_formed, IsAtPlace, IsAtPosition, IsInsidePosition, IsOutsideRuns, IsPlaceOfState, length, List, Machine, may_continue, One, open_character, Option, Place, Print, ProgressInside, refl, replacement, rules, scalar_of, second_range, slice_index, subst, sym, take, take-add, Text, Three, true, Two, Unfinished, ℕ, [], ◌++◌, ◌+◌, ◌<◌, ◌∙◌, ◌∷◌, ◌≡◌, ◌≢◌, ◌≤◌}
+use Rattle.vte_core.specs.declared.utf8.Extended.TheVariants.{Malformed, Truncated, WellFormed}
 use Rattle.vte_core.proofs.lemmas.fields.PlaceOfState.{is_at-by, is_at-in, is_at-place, may_continue-truncated}
 use Rattle.vte_core.proofs.lemmas.places.PlaceLeads.{text-unfinished, text-well_formed}
-use Rattle.vte_core.proofs.lemmas.streams.After.{after-open_character, carried_is_no_escape}
+use Rattle.vte_core.proofs.lemmas.streams.After.{after-open_character, extending_is_no_escape}
 use Rattle.vte_core.proofs.lemmas.shapes.BrokenCharacters.{breaks-broken, breaks-unfinished, breaks-well_formed}
-use Rattle.vte_core.proofs.lemmas.positions.Progress.{inside-all, inside-moved, progress-broken, progress-carried, progress-settled}
+use Rattle.vte_core.proofs.lemmas.positions.Progress.{progress-broken, progress-extended, progress-settled}
+use Rattle.vte_core.proofs.lemmas.positions.CallEnds.{inside-all, inside-moved}
 use Rattle.vte_core.proofs.lemmas.places.BytesInStream.{bytes_lead-byte}
 use Rattle.vte_core.proofs.lemmas.bytes.Scalars.{second-open, third-open}
 use Rattle.vte_core.specs.private.Progress.{Completes}
@@ -16,7 +17,8 @@ use Rattle.std.proofs.lemmas.List.{drop-drop}
 
 -- ---- a byte
 
--- The character goes on with it, is whole, or is broken before it (`carried-more`, `carried-whole`, `carried-broken`).
+-- The character goes on with it, is whole, or is broken before it (`extended-truncated`, `extended-well_formed`,
+-- `extended-malformed`).
 -- The place is a text with these bytes open, so `places/PlaceLeads` and `shapes` say what the byte reports.
 
 is_at-in_text : {B : Type 0} {limit : Option ℕ} {parser : Machine B} {longer : Unfinished} {opened : List ℕ}
@@ -32,9 +34,9 @@ record AtText (unfinished : Unfinished) (place : Place) : Type 0 where
   same : place ≡ InText (bytes_of unfinished)
   begun : may_continue (bytes_of unfinished) ≡ true
 
-text-by_place : {B : Type 0} (limit : Option ℕ) (parser : Machine B) {unfinished : Unfinished} {place : Place}
+at_text-by_fields : {B : Type 0} (limit : Option ℕ) (parser : Machine B) {unfinished : Unfinished} {place : Place}
     → IsPlaceOfState limit (Text unfinished) parser place → AtText unfinished place
-text-by_place limit parser fields = search (rules, arith)
+at_text-by_fields limit parser fields = search (rules, arith)
 
 -- An unfinished character isn't empty.
 pub unfinished-some : (first : ℕ) (rest : List ℕ) → first ∷ rest ≢ []
@@ -48,51 +50,53 @@ truncated-some (b ∷ opened) more empty = cc
 module _ {V B : Type 0} {call : ChunkCall V} {old mid : V} {stream : List ℕ} where
   inside-open : {i : ℕ} {unfinished : Unfinished} {parser : Machine B} → parser.state ≡ Text unfinished
       → IsInsidePosition call old mid stream i parser → may_continue (bytes_of unfinished) ≡ true
-  inside-open {unfinished} {parser} begun inside = (text-by_place call.limit parser (is_at-in begun inside.is_at)).begun
+  inside-open {unfinished} {parser} begun inside =
+      (at_text-by_fields call.limit parser (is_at-in begun inside.is_at)).begun
 
   -- A byte that continues a character leads to the next position inside it.
-  carried-more : {i b : ℕ} {unfinished longer : Unfinished} {parser next : Machine B} → parser.state ≡ Text unfinished
-      → is_truncated (bytes_of unfinished) ≡ true → Carries (bytes_of unfinished) b (StillUnfinished longer)
+  extended-truncated : {i b : ℕ} {unfinished longer : Unfinished} {parser next : Machine B}
+      → parser.state ≡ Text unfinished
+      → is_truncated (bytes_of unfinished) ≡ true → Extends (bytes_of unfinished) b (Truncated longer)
       → next.state ≡ Text longer
       → IsInsidePosition call old mid stream i parser → i < length call.bytes → b ≡ slice_index call.bytes i
       → IsInsidePosition call old mid stream (i + 1) next
-  carried-more {i} {b} {unfinished} {longer} {parser} {next} begun opened carries state inside within byte_is =
-      let at_text = text-by_place call.limit parser (is_at-in begun inside.is_at) in
+  extended-truncated {i} {b} {unfinished} {longer} {parser} {next} begun opened extends state inside within byte_is =
+      let at_text = at_text-by_fields call.limit parser (is_at-in begun inside.is_at) in
       let more : is_truncated (bytes_of unfinished ++ b ∷ []) ≡ true =
-      subst (λ bytes. is_truncated bytes ≡ true) carries.0 carries.1 in
+      subst (λ bytes. is_truncated bytes ≡ true) extends.0 extends.1 in
       record {
         place = InText (bytes_of unfinished ++ b ∷ []);
         is_at =
-            is_at-in_text state carries.0
+            is_at-in_text state extends.0
             (may_continue-truncated (bytes_of unfinished ++ b ∷ []) more);
         progress =
-            progress-carried {these = []} at_text.begun within byte_is (truncated-some (bytes_of unfinished) opened)
+            progress-extended {these = []} at_text.begun within byte_is (truncated-some (bytes_of unfinished) opened)
             (breaks-unfinished (bytes_of unfinished) b more)
             (bytes_lead-byte
-            (carried_is_no_escape (bytes_of unfinished) b opened (inr more))
+            (extending_is_no_escape (bytes_of unfinished) b opened (inr more))
             text-unfinished) refl (may_continue-truncated (bytes_of unfinished ++ b ∷ []) more)
             (subst (ProgressInside call old mid stream i) at_text.same inside.progress);
       }
 
   -- A byte that ends a character leads to the position after it.
-  carried-whole : {new : V} {i j b scalar : ℕ} {unfinished : Unfinished} {parser next : Machine B}
+  extended-well_formed : {new : V} {i j b scalar : ℕ} {unfinished : Unfinished} {parser next : Machine B}
       → parser.state ≡ Text unfinished
-      → is_truncated (bytes_of unfinished) ≡ true → Carries (bytes_of unfinished) b (Whole scalar)
-      → next.state ≡ Text Nothing
+      → is_truncated (bytes_of unfinished) ≡ true → Extends (bytes_of unfinished) b (WellFormed scalar)
+      → next.state ≡ Text Empty
       → new ≡ call.step mid (character_event scalar) → IsInsidePosition call old mid stream i parser
       → i < length call.bytes
       → b ≡ slice_index call.bytes i → j ≡ i + 1 → IsAtPosition call old new stream j next
-  carried-whole {new} {i} {b} {unfinished} {parser}
-      {next} begun opened carries state performed inside within byte_is later =
-      let at_text = text-by_place call.limit parser (is_at-in begun inside.is_at) in
+  extended-well_formed {new} {i} {b} {unfinished} {parser}
+      {next} begun opened extends state performed inside within byte_is later =
+      let at_text = at_text-by_fields call.limit parser (is_at-in begun inside.is_at) in
       let come =
-      progress-carried {new = new} {next = InText []}
+      progress-extended {new = new} {next = InText []}
       {these = character_event (scalar_of (bytes_of unfinished ++ b ∷ [])) ∷ []} at_text.begun within byte_is
       (truncated-some (bytes_of unfinished) opened)
-      (breaks-well_formed (bytes_of unfinished) b carries.0)
+      (breaks-well_formed (bytes_of unfinished) b extends.0)
       (bytes_lead-byte
-      (carried_is_no_escape (bytes_of unfinished) b opened (inl carries.0)) (text-well_formed carries.0))
-      (performed ∙ ap (λ n. call.step mid (character_event n)) carries.1) refl
+      (extending_is_no_escape (bytes_of unfinished) b opened (inl extends.0)) (text-well_formed extends.0))
+      (performed ∙ ap (λ n. call.step mid (character_event n)) extends.1) refl
       (subst (ProgressInside call old mid stream i) at_text.same inside.progress) in
       subst (λ n. IsAtPosition call old new stream n next) (sym later)
       (record {
@@ -103,20 +107,21 @@ module _ {V B : Type 0} {call : ChunkCall V} {old mid : V} {stream : List ℕ} w
       })
 
   -- A byte that breaks a character is still to be read.
-  carried-broken : {new : V} {i b : ℕ} {unfinished : Unfinished} {parser next : Machine B}
+  extended-malformed : {new : V} {i b : ℕ} {unfinished : Unfinished} {parser next : Machine B}
       → parser.state ≡ Text unfinished
-      → is_truncated (bytes_of unfinished) ≡ true → Carries (bytes_of unfinished) b Broken → next.state ≡ Text Nothing
+      → is_truncated (bytes_of unfinished) ≡ true → Extends (bytes_of unfinished) b Malformed
+      → next.state ≡ Text Empty
       → new ≡ call.step mid (Print replacement) → IsInsidePosition call old mid stream i parser → i < length call.bytes
       → b ≡ slice_index call.bytes i → IsAtPosition call old new stream i next
-  carried-broken {i} {b} {unfinished} {parser} {next} begun opened carries state performed inside within byte_is =
-      let at_text = text-by_place call.limit parser (is_at-in begun inside.is_at) in
+  extended-malformed {i} {b} {unfinished} {parser} {next} begun opened extends state performed inside within byte_is =
+      let at_text = at_text-by_fields call.limit parser (is_at-in begun inside.is_at) in
       record {
         place = InText [];
         is_at = is_at-in_text state refl refl;
         settled = λ _. refl;
         progress =
             progress-broken at_text.begun within byte_is
-            (breaks-broken (bytes_of unfinished) b opened carries.0 carries.1) performed
+            (breaks-broken (bytes_of unfinished) b opened extends.0 extends.1) performed
             (subst (ProgressInside call old mid stream i) at_text.same inside.progress);
       }
 
@@ -125,7 +130,7 @@ pub opens-text : {B : Type 0} {limit : Option ℕ} {stream : List ℕ} {unfinish
     → parser.state ≡ Text unfinished → bytes_of unfinished ≢ [] → HasReadWithLimit limit parser stream
     → open_character stream ≡ [] → ⊥
 opens-text {limit} {stream} {unfinished} parser begun has_begun has_read closed =
-    search (rules, arith, text-by_place, is_at-in, after-open_character, is_at-place)
+    search (rules, arith, at_text-by_fields, is_at-in, after-open_character, is_at-place)
 
 -- ---- any number of bytes
 
@@ -167,19 +172,19 @@ module _ {V B : Type 0} {call : ChunkCall V} {value : V} {i : ℕ} {begun : Unfi
 
   pub goes-more : {j b : ℕ} {unfinished longer : Unfinished} {parser next : Machine B}
       → GoesOn call value i j begun unfinished parser
-      → (is_truncated (bytes_of unfinished) ≡ true → Carries (bytes_of unfinished) b (StillUnfinished longer))
+      → (is_truncated (bytes_of unfinished) ≡ true → Extends (bytes_of unfinished) b (Truncated longer))
       → j < length call.bytes
       → b ≡ slice_index call.bytes j → GoesOn call value i (j + 1) begun longer next
-  goes-more goes carries within byte_is = record {
+  goes-more goes extends within byte_is = record {
     inside = λ old stream parser is_text inside. let more = goes.more (inside-open is_text inside) in
-        carried-more refl more (carries more) refl (goes.inside old stream parser is_text inside) within byte_is;
+        extended-truncated refl more (extends more) refl (goes.inside old stream parser is_text inside) within byte_is;
     kept = λ stream parser is_text inside. let more = goes.more (inside-open is_text inside) in
-        carried-more refl more (carries more) refl (goes.kept stream parser is_text inside) within byte_is;
-    more = λ opened. (carries (goes.more opened)).1;
+        extended-truncated refl more (extends more) refl (goes.kept stream parser is_text inside) within byte_is;
+    more = λ opened. (extends (goes.more opened)).1;
     n = goes.n + 1;
     far = omega (arith, goes.far);
     bytes_are =
-        λ opened. (carries (goes.more opened)).0
+        λ opened. (extends (goes.more opened)).0
         ∙ character-byte call.bytes i goes.n (bytes_of begun) within goes.far byte_is (goes.bytes_are opened);
   }
 
@@ -203,27 +208,27 @@ module _ {V B : Type 0} {call : ChunkCall V} {value : V} {i : ℕ} {begun : Unfi
   }
 
   -- A byte that ends the character completes it.
-  pub completes-whole : {new : V} {j k b scalar : ℕ} {unfinished : Unfinished} {parser next : Machine B}
+  pub completes-well_formed : {new : V} {j k b scalar : ℕ} {unfinished : Unfinished} {parser next : Machine B}
       → GoesOn call value i j begun unfinished parser
-      → (is_truncated (bytes_of unfinished) ≡ true → Carries (bytes_of unfinished) b (Whole scalar))
-      → next.state ≡ Text Nothing → new ≡ call.step value (character_event scalar) → j < length call.bytes
+      → (is_truncated (bytes_of unfinished) ≡ true → Extends (bytes_of unfinished) b (WellFormed scalar))
+      → next.state ≡ Text Empty → new ≡ call.step value (character_event scalar) → j < length call.bytes
       → b ≡ slice_index call.bytes j → k ≡ j + 1 → Completes call value new i k begun next
-  completes-whole {scalar} {unfinished} {next} goes carries state performed within byte_is later = record {
+  completes-well_formed {scalar} {unfinished} {next} goes extends state performed within byte_is later = record {
     is_at_position = λ old stream parser is_text inside. let more = goes.more (inside-open is_text inside) in
-        carried-whole refl more (carries more) state performed
+        extended-well_formed refl more (extends more) state performed
         (goes.inside old stream parser is_text inside) within byte_is later;
     text = λ _. state;
     adds = λ old stream parser is_text inside.
         let opened = inside-open is_text inside in
         let more = goes.more opened in
-        let whole = carries more in
+        let whole = extends more in
         let same =
         character-byte call.bytes i goes.n (bytes_of begun) within goes.far byte_is (goes.bytes_are opened) in
         record {
           events = character_event scalar ∷ [];
           parts =
               sym (reported-at
-              (carried-whole {next = next} refl more whole state refl
+              (extended-well_formed {next = next} refl more whole state refl
               (goes.kept stream parser is_text (recorded-inside inside)) within byte_is later));
           events_are = inr (record {
             n = goes.n + 1;
@@ -238,14 +243,14 @@ module _ {V B : Type 0} {call : ChunkCall V} {value : V} {i : ℕ} {begun : Unfi
   }
 
   -- A byte that breaks the character completes it too, and is still to be read.
-  pub completes-broken : {new : V} {j b : ℕ} {unfinished : Unfinished} {parser next : Machine B}
+  pub completes-malformed : {new : V} {j b : ℕ} {unfinished : Unfinished} {parser next : Machine B}
       → GoesOn call value i j begun unfinished parser
-      → (is_truncated (bytes_of unfinished) ≡ true → Carries (bytes_of unfinished) b Broken)
-      → next.state ≡ Text Nothing → new ≡ call.step value (Print replacement) → j < length call.bytes
+      → (is_truncated (bytes_of unfinished) ≡ true → Extends (bytes_of unfinished) b Malformed)
+      → next.state ≡ Text Empty → new ≡ call.step value (Print replacement) → j < length call.bytes
       → b ≡ slice_index call.bytes j → Completes call value new i j begun next
-  completes-broken {next} goes carries state performed within byte_is = record {
+  completes-malformed {next} goes extends state performed within byte_is = record {
     is_at_position = λ old stream parser is_text inside. let more = goes.more (inside-open is_text inside) in
-        carried-broken refl more (carries more) state performed
+        extended-malformed refl more (extends more) state performed
         (goes.inside old stream parser is_text inside) within byte_is;
     text = λ _. state;
     adds = λ old stream parser is_text inside.
@@ -254,7 +259,7 @@ module _ {V B : Type 0} {call : ChunkCall V} {value : V} {i : ℕ} {begun : Unfi
           events = Print replacement ∷ [];
           parts =
               sym (reported-at
-              (carried-broken {next = next} refl more (carries more) state refl
+              (extended-malformed {next = next} refl more (extends more) state refl
               (goes.kept stream parser is_text (recorded-inside inside)) within byte_is));
           events_are = inl (All-cons IsOutsideRuns (Print replacement) [] refl (All-nil IsOutsideRuns));
         };

@@ -1,5 +1,5 @@
 -- What a call ensures: the facts of `drive`, put into the contract of each call, of both parsers.
-use Rattle.vte_core.proofs.Common.{arith, Bool, chunk_call, ChunkCall, Err, Event, false, IfErr, IfOk, length, List, Machine, None, Ok, read_count, ReadsUntilRefused, ReadsUpTo, refl, Refused, ReportsOutsideRuns, Result, rules, true, ℕ, ◌+◌, ◌≡◌}
+use Rattle.vte_core.proofs.Common.{arith, Bool, chunk_call, ChunkCall, Err, Event, false, IfErr, IfOk, length, List, Machine, None, Ok, per_byte, read_count, ReadsUntilRefused, ReadsUpTo, refl, Refused, ReportsOutsideRuns, Result, rules, true, ℕ, ◌+◌, ◌≡◌}
 use Rattle.vte_core.specs.private.Costs.{Costs}
 use Rattle.vte_core.specs.declared.reader.run.Run.{Run}
 use Rattle.vte_core.specs.declared.reader.run.RunRange.{RunRange}
@@ -11,10 +11,11 @@ use Rattle.vte_core.specs.private.ToRun.{bytes_at, ComesToRun, IsTaken}
 use Rattle.vte_core.proofs.lemmas.positions.ToRun.{reads-run, returns-run}
 use Rattle.vte_core.specs.declared.parser.long.LongParser.{LongParser}
 use Rattle.vte_core.specs.LongParser.{HasReadLong}
-use Rattle.vte_core.specs.Looks.{counted}
+use Rattle.vte_core.specs.Looks.{total_looks}
 use Rattle.vte_core.specs.Parser.{reading}
 use Rattle.vte_core.proofs.lemmas.positions.Open.{inside-reads, lacks_all, meets_data, refuses-inside, stores_pieces}
-use Rattle.vte_core.proofs.lemmas.positions.Progress.{all_read-unless_asked, call_ends-performs, call_ends-reads, call_ends-reads_all, call_ends-stops}
+use Rattle.vte_core.proofs.lemmas.positions.SettledStates.{all_read-unless_asked}
+use Rattle.vte_core.proofs.lemmas.positions.CallEnds.{call_ends-performs, call_ends-reads, call_ends-reads_all, call_ends-stops}
 
 -- ---- looks
 
@@ -29,25 +30,25 @@ costs-added {result} {earlier} no_looks sum costs = search (rules, arith)
 
 module _ {V B : Type 0} {call : ChunkCall V} {old new : V} {before parser : Machine B} {start end : ℕ} where
   pub reads-bytes : {read : ℕ} → read ≡ length call.bytes → ReadsUpTo call old new read before parser
-      → Costs 5 call.bytes (Ok read) read before parser start end
+      → Costs (per_byte 5) call.bytes (Ok read) read before parser start end
       → ReadsBytes call.step old new call.bytes (reading call.limit before start) (reading call.limit parser end)
   reads-bytes all reads costs = record {
     performs = λ stream has_read. call_ends-performs all (reads.is_at_position stream has_read);
     reads = λ stream has_read. call_ends-reads_all all (reads.is_at_position stream has_read);
-    count = costs.count;
-    at_least = omega (arith, all, costs.at_least);
+    looks_at_most = costs.looks_at_most;
+    looks_at_least = omega (arith, all, costs.looks_at_least);
   }
 
   pub reads-until : {read : ℕ} → call.may_stop ≡ true → ReadsUpTo call old new read before parser
-      → Costs 5 call.bytes (Ok read) read before parser start end
+      → Costs (per_byte 5) call.bytes (Ok read) read before parser start end
       → ReadsUntilTerminated call.step call.is_terminated read old new call.bytes (reading call.limit before start)
       (reading call.limit parser end)
-  reads-until does reads costs = record {
+  reads-until asks reads costs = record {
     within = reads.within;
-    stops = λ stream has_read. call_ends-stops does reads.within reads.stops (reads.is_at_position stream has_read);
+    stops = λ stream has_read. call_ends-stops asks reads.within reads.stops (reads.is_at_position stream has_read);
     reads = λ stream has_read. call_ends-reads (reads.is_at_position stream has_read);
-    count = costs.count_if_ok;
-    at_least = costs.at_least;
+    looks_at_most = costs.looks_at_most_if_ok;
+    looks_at_least = costs.looks_at_least;
   }
 
 -- ---- without a limit
@@ -56,7 +57,8 @@ module _ {A V : Type 0} {step : V → Event → V} {old new : V} {bytes : List �
   is_refused : {may_stop : Bool} {asked : V → Bool} (is_terminated : V → Bool) {rate n : ℕ} {Answer : Type 0}
       {result : Result Answer Refused}
       → ReadsUntilRefused (chunk_call may_stop step asked None bytes) old new n parser.machine next.machine
-      → Costs rate bytes result n parser.machine next.machine (counted parser.looks) (counted next.looks)
+      → Costs rate bytes result n parser.machine next.machine
+      (total_looks parser.looks) (total_looks next.looks)
       → ((stream : List ℕ) → HasReadLong parser stream
       → NeverStopsBefore step is_terminated old None stream bytes n)
       → is_terminated new ≡ false → IsRefusedMemory rate step is_terminated old new bytes parser next n
@@ -70,10 +72,10 @@ module _ {A V : Type 0} {step : V → Event → V} {old new : V} {bytes : List �
     not_stopped = not_stopped;
     reads = λ stream has_read. inside-reads (refuses-inside refuses stream has_read);
     meets = λ stream has_read. meets_data refuses.refused has_read;
-    lacks = refuses.refused.lacks;
+    lacks_memory = refuses.refused.lacks_memory;
     lacks_all = λ stream has_read. lacks_all refuses stream has_read costs.memory;
-    count = costs.count;
-    at_least = costs.at_least;
+    looks_at_most = costs.looks_at_most;
+    looks_at_least = costs.looks_at_least;
   }
 
 module _ {A V : Type 0} {step : V → Event → V} {is_terminated : V → Bool} {old new : V} {bytes : List ℕ}
@@ -81,7 +83,8 @@ module _ {A V : Type 0} {step : V → Event → V} {is_terminated : V → Bool} 
   -- A call that may stop ensures `IsRefusedMemory` if it is refused memory.
   is_refused-asked : {rate n : ℕ} {Answer : Type 0} {result : Result Answer Refused}
       → ReadsUntilRefused (chunk_call true step is_terminated None bytes) old new n parser.machine next.machine
-      → Costs rate bytes result n parser.machine next.machine (counted parser.looks) (counted next.looks)
+      → Costs rate bytes result n parser.machine next.machine
+      (total_looks parser.looks) (total_looks next.looks)
       → IsRefusedMemory rate step is_terminated old new bytes parser next n
   is_refused-asked refuses costs =
       is_refused is_terminated refuses costs
@@ -92,8 +95,10 @@ module _ {A V : Type 0} {step : V → Event → V} {is_terminated : V → Bool} 
   pub advance-refused : (refused : Refused) {drove : Result ℕ Refused}
       → ReadsUntilRefused (chunk_call false step is_terminated None bytes) old new refused.read parser.machine
       next.machine
-      → Costs 5 bytes drove refused.read parser.machine next.machine (counted parser.looks) (counted next.looks)
-      → ReadsLong 5 step (λ _. false) old new bytes parser next (Err refused) (λ (_ : Unit {0}). ReadsBytes step)
+      → Costs (per_byte 5) bytes drove refused.read parser.machine next.machine
+      (total_looks parser.looks) (total_looks next.looks)
+      → ReadsLong (per_byte 5) step (λ _. false) old new bytes parser next (Err refused)
+      (λ (_ : Unit {0}). ReadsBytes step)
   advance-refused refused refuses costs = record {
     reads = tt;
     refuses = is_refused (λ _. false) refuses costs (λ stream has_read start before starts. refl) refl;
@@ -103,8 +108,9 @@ module _ {A V : Type 0} {step : V → Event → V} {is_terminated : V → Bool} 
 
   pub advance-read : {read : ℕ}
       → ReadsUpTo (chunk_call false step is_terminated None bytes) old new read parser.machine next.machine
-      → Costs 5 bytes (Ok read) read parser.machine next.machine (counted parser.looks) (counted next.looks)
-      → ReadsLong 5 step (λ _. false) old new bytes parser next (Ok tt) (λ (_ : Unit {0}). ReadsBytes step)
+      → Costs (per_byte 5) bytes (Ok read) read parser.machine next.machine
+      (total_looks parser.looks) (total_looks next.looks)
+      → ReadsLong (per_byte 5) step (λ _. false) old new bytes parser next (Ok tt) (λ (_ : Unit {0}). ReadsBytes step)
   advance-read reads costs = record {
     reads = reads-bytes (all_read-unless_asked _ _ reads.within reads.asked) reads costs;
     refuses = tt;
@@ -119,9 +125,10 @@ module _ {A V : Type 0} {step : V → Event → V} {is_terminated : V → Bool} 
       → IfErr result
       (λ refused. ReadsUntilRefused (chunk_call true step is_terminated None bytes) old new refused.read
       parser.machine next.machine)
-      → Costs 5 bytes result (read_count result) parser.machine next.machine (counted parser.looks)
-      (counted next.looks)
-      → ReadsLong 5 step is_terminated old new bytes parser next result (ReadsUntilTerminated step is_terminated)
+      → Costs (per_byte 5) bytes result (read_count result) parser.machine next.machine (total_looks parser.looks)
+      (total_looks next.looks)
+      → ReadsLong (per_byte 5) step is_terminated old new bytes parser next result
+      (ReadsUntilTerminated step is_terminated)
   advance-until (Ok read) reads refuses costs = record {
     reads = reads-until refl reads costs;
     refuses = tt;
@@ -139,8 +146,10 @@ module _ {A V : Type 0} {step : V → Event → V} {is_terminated : V → Bool} 
   pub to_run-refused : (refused : Refused) {drove : Result RunRange Refused}
       → ReadsUntilRefused (chunk_call true step is_terminated None bytes) old new refused.read parser.machine
       next.machine
-      → Costs 7 bytes drove refused.read parser.machine next.machine (counted parser.looks) (counted next.looks)
-      → ReadsLong 7 step is_terminated old new bytes parser next (Err refused) (ReadsToRun step is_terminated)
+      → Costs (per_byte 7) bytes drove refused.read parser.machine next.machine
+      (total_looks parser.looks) (total_looks next.looks)
+      → ReadsLong (per_byte 7) step is_terminated old new bytes parser next (Err refused)
+      (ReadsToRun step is_terminated)
   to_run-refused refused refuses costs = record {
     reads = tt;
     refuses = is_refused-asked refuses costs;
@@ -151,16 +160,17 @@ module _ {A V : Type 0} {step : V → Event → V} {is_terminated : V → Bool} 
   pub to_run-read : (run : Run) {range : RunRange}
       → ComesToRun (chunk_call true step is_terminated None bytes) old new range parser.machine next.machine
       → run.start ≡ range.start → run.end ≡ range.end → IsTaken range.kind (bytes_at bytes range) run.taken
-      → Costs 7 bytes (Ok range) range.end parser.machine next.machine (counted parser.looks) (counted next.looks)
+      → Costs (per_byte 7) bytes (Ok range) range.end parser.machine next.machine
+      (total_looks parser.looks) (total_looks next.looks)
       → ((stream : List ℕ) → HasReadLong parser stream → ReportsOutsideRuns None stream bytes range.start)
-      → ReadsLong 7 step is_terminated old new bytes parser next (Ok run) (ReadsToRun step is_terminated)
+      → ReadsLong (per_byte 7) step is_terminated old new bytes parser next (Ok run) (ReadsToRun step is_terminated)
   to_run-read run comes starts ends taken costs others = record {
     reads = record {
       returns = returns-run run comes starts ends taken refl;
       reads = reads-run run comes starts ends taken;
       outside_runs = λ stream has_read. rw starts (others stream has_read);
-      count = rw ends costs.count_if_ok;
-      at_least = rw ends costs.at_least;
+      looks_at_most = rw ends costs.looks_at_most_if_ok;
+      looks_at_least = rw ends costs.looks_at_least;
     };
     refuses = tt;
     memory = costs.memory;

@@ -5,15 +5,17 @@ use Rattle.vte_core.specs.declared.head.HeadEnd.{HeadEnd}
 use Rattle.vte_core.specs.private.ParserFields.{ReadsHeadUpTo}
 use Rattle.vte_core.specs.private.Progress.{MayRead}
 use Rattle.vte_core.specs.private.ToRun.{IsOutsideRunsInState}
-use Rattle.vte_core.proofs.Common.{Advances, append-nil, append_assoc, AreInClass, arith, ChunkCall, class_of, Collected, ControlSequence, CountsNumbers, DeviceControl, drop, drop-drop, drop_more, ends_body, Entry, Event, false, false≢true, HasReadHead, HeadProgress, InControlSequence, InDeviceControl, is_final, is_head_byte, is_parameter_text, IsAtPlace, IsAtPosition, IsPlaceOfState, IsSettled, IsSettledPlace, Leads, length, List, Machine, MatchOption, MayGoOn, None, Option, Parameters, Place, progress_after, ProgressAt, ReadsHead, refl, rules, SameIntermediates, slice_index, Some, State, subst, suc, sym, take, take-add, TakesByte, TakesBytes, true, zero, ℕ, [], ◌++◌, ◌+◌, ◌-◌, ◌<◌, ◌∷◌, ◌≡◌, ◌≤◌, ◌⊎◌}
+use Rattle.vte_core.proofs.Common.{Advances, append-nil, append_assoc, AreInClass, arith, ChunkCall, class_of, Collected, ControlSequence, CountsNumbers, DeviceControl, drop, drop-drop, drop_more, ends_sequence, Entry, Event, false, false≢true, HasReadHead, HeadProgress, InControlSequence, InDeviceControl, is_final, is_head_byte, is_parameter_byte, IsAtPlace, IsAtPosition, IsPlaceOfState, IsSettled, IsSettledPlace, Leads, length, List, Machine, MatchOption, MayGoOn, None, Option, Parameters, Place, progress_after, ProgressAt, ReadsHead, refl, rules, SameIntermediates, slice_index, Some, State, subst, suc, sym, take, take-add, TakesByte, TakesBytes, true, zero, ℕ, [], ◌++◌, ◌+◌, ◌-◌, ◌<◌, ◌∷◌, ◌≡◌, ◌≤◌, ◌⊎◌}
 use Rattle.vte_core.proofs.lemmas.bytes.Classes.{AreInClass-append, final_ends_nothing, head_ends_nothing, parameter_is_head}
-use Rattle.vte_core.proofs.lemmas.positions.Progress.{progress-byte, progress-settled, settled-same_state}
-use Rattle.vte_core.proofs.lemmas.positions.Stretches.{advances-byte, advances-given, advances-then, advances-to_same, takes_bytes-in}
+use Rattle.vte_core.proofs.lemmas.positions.SettledStates.{settled-same_state}
+use Rattle.vte_core.proofs.lemmas.positions.Progress.{progress-byte, progress-settled}
+use Rattle.vte_core.proofs.lemmas.positions.Stretches.{advances-byte, advances-given, advances-then, advances-to_same}
+use Rattle.vte_core.proofs.lemmas.positions.TakenBytes.{takes_bytes-in}
 use Rattle.vte_core.proofs.lemmas.fields.Heads.{holds-parameter}
-use Rattle.vte_core.proofs.lemmas.fields.PlaceOfState.{is_at-in, IsPlace}
+use Rattle.vte_core.proofs.lemmas.fields.PlaceOfState.{is_at-in, IsReachable}
 use Rattle.vte_core.proofs.lemmas.places.PlaceLeads.{control-head, device-head}
 use Rattle.vte_core.proofs.lemmas.positions.AddedEvents.{adds-same, recorded-at, reported-at}
-use Rattle.vte_core.proofs.lemmas.bytes.Runs.{one_byte}
+use Rattle.vte_core.proofs.lemmas.bytes.Each.{one_byte}
 use Rattle.vte_core.proofs.lemmas.places.BytesInStream.{bytes_lead-byte, no_escape}
 
 -- ---- `ReadsHead` of no bytes, of two stretches, of a byte
@@ -71,7 +73,7 @@ progress_after-may reached from to may = search (rules, arith)
 -- A head is read further by a digit or a separator.
 pub reads_head-parameter : {bytes : List ℕ} {from i b : ℕ} {reached : HeadProgress} {first old new : Collected}
     → (reached ≡ Entry) ⊎ (reached ≡ Parameters)
-    → i < length bytes → b ≡ slice_index bytes i → is_parameter_text (class_of b) ≡ true → SameIntermediates old new
+    → i < length bytes → b ≡ slice_index bytes i → is_parameter_byte (class_of b) ≡ true → SameIntermediates old new
     → ((text : List ℕ) → CountsNumbers old text → CountsNumbers new (text ++ b ∷ []))
     → ReadsHead bytes from i reached (progress_after reached from i) first old
     → ReadsHead bytes from (i + 1) reached (progress_after reached from (i + 1)) first new
@@ -113,16 +115,16 @@ head-is_at : {B : Type 0} (shape : Shape) {limit : Option ℕ} (progress : HeadP
     (head : List ℕ)
     → parser.state ≡ state_of shape progress
     → HasReadHead parser.collected progress head → IsAtPlace limit parser (in_head shape head)
-head-is_at shape progress head begun has_read = search (rules, arith)
+head-is_at shape progress head in_state has_read = search (rules, arith)
 
 head-leads : (shape : Shape) {limit : Option ℕ} (head : List ℕ) {b : ℕ} → is_head_byte (class_of b) ≡ true
     → Leads limit (in_head shape head) b [] (in_head shape (head ++ b ∷ []))
 head-leads ControlHead head is_head = control-head is_head
 head-leads DeviceHead head is_head = device-head is_head
 
-head-is_place : (shape : Shape) (head : List ℕ) → IsPlace (in_head shape head)
-head-is_place ControlHead head = tt
-head-is_place DeviceHead head = tt
+head-is_reachable : (shape : Shape) (head : List ℕ) → IsReachable (in_head shape head)
+head-is_reachable ControlHead head = tt
+head-is_reachable DeviceHead head = tt
 
 head-settled_place : (shape : Shape) (head : List ℕ) → IsSettledPlace (in_head shape head)
 head-settled_place ControlHead head = tt
@@ -149,7 +151,7 @@ module _ {V : Type 0} {call : ChunkCall V} where
       let b : ℕ = slice_index call.bytes i in
       let cut : drop i call.bytes ≡ b ∷ drop (i + 1) call.bytes = drop_more call.bytes i 0 here in
       let both : AreInClass is_head_byte (b ∷ take n (drop (i + 1) call.bytes)) = rw cut at more in
-      let place = head-is_place shape (head ++ b ∷ []) in
+      let place = head-is_reachable shape (head ++ b ∷ []) in
       let reads =
       bytes_lead-byte
       (no_escape b (head_ends_nothing (class_of b) both.0)) (head-leads shape head both.0) in
@@ -167,8 +169,8 @@ module _ {V : Type 0} {call : ChunkCall V} where
       → next.state ≡ state_of shape progress → IsAtPosition call old value stream i parser
       → IsAtPosition call old value stream j next
   is_at-head {old} {value} {stream} {i} {j} {reached} {progress}
-      {parser} {next} shape begun reads may_go_on state position =
-      let at_head = head-place shape call.limit reached parser position.place (is_at-in begun position.is_at) in
+      {parser} {next} shape in_state reads may_go_on state position =
+      let at_head = head-place shape call.limit reached parser position.place (is_at-in in_state position.is_at) in
       let here : ProgressAt call old value stream i (in_head shape at_head.head) =
       subst (ProgressAt call old value stream i) at_head.same position.progress in
       let end : i + (j - i) ≡ j = omega (arith, reads.low) in
@@ -187,12 +189,13 @@ module _ {V : Type 0} {call : ChunkCall V} where
       (shape : Shape) → parser.state ≡ state_of shape reached
       → ReadsHead call.bytes i j reached progress parser.collected next.collected → MayGoOn call value
       → next.state ≡ state_of shape progress → Advances outside call value value i j parser next
-  advances-head {progress} {next} shape begun reads may_go_on state = record {
-    goes_on = λ old stream position. is_at-head shape begun reads may_go_on state position;
+  advances-head {progress} {next} shape in_state reads may_go_on state = record {
+    goes_on = λ old stream position. is_at-head shape in_state reads may_go_on state position;
     settled = λ _. settled-same_state state (head-settled shape progress);
     outside_runs = λ _ old stream position.
         adds-same (reported-at
-        (is_at-head {next = next} shape begun reads (λ does. absurd (false≢true does)) state (recorded-at position)));
+        (is_at-head {next = next} shape in_state reads (λ asks. absurd (false≢true asks)) state
+        (recorded-at position)));
   }
 
   -- A call reads a part of a head and the byte after it, if the caller says what that byte does.
@@ -206,22 +209,22 @@ module _ {V : Type 0} {call : ChunkCall V} where
       → IsSettledPlace place
       → TakesBytes call.step old new call.limit place (b ∷ []) next) → IsSettled next.state
       → Advances outside call old new i (j + 1) parser next
-  advances-past_head {B} {progress} {parser} {held} shape begun reads next_byte may_go_on performs settled =
+  advances-past_head {B} {progress} {parser} {held} shape in_state reads next_byte may_go_on performs settled =
       let head : Machine B = record { state = state_of shape progress; collected = held; command = parser.command } in
-      advances-then (advances-head {next = head} shape begun reads may_go_on refl)
+      advances-then (advances-head {next = head} shape in_state reads may_go_on refl)
       (advances-given (head-outside_runs shape progress _)
       (advances-byte next_byte.0 next_byte.1 may_go_on performs settled))
 
 -- For a byte of a head other than CAN, SUB and ESC, it is enough to say what it does after each such head.
 pub takes_bytes-head : {V B : Type 0} {step : V → Event → V} {old new : V} {limit : Option ℕ} {b : ℕ}
     {parser next : Machine B} (shape : Shape) (progress : HeadProgress)
-    → parser.state ≡ state_of shape progress → ends_body (class_of b) ≡ false
+    → parser.state ≡ state_of shape progress → ends_sequence (class_of b) ≡ false
     → ((head : List ℕ) → HasReadHead parser.collected progress head
     → TakesByte step old new limit (in_head shape head) b next)
     → (place : Place) → IsAtPlace limit parser place → IsSettledPlace place
     → TakesBytes step old new limit place (b ∷ []) next
 takes_bytes-head {step} {old} {new} {limit} {b} {parser}
-    {next} shape progress begun ordinary takes = takes_bytes-in begun ordinary (λ place is_at.
+    {next} shape progress in_state ordinary takes = takes_bytes-in in_state ordinary (λ place is_at.
     let at_head = head-place shape limit progress parser place is_at in
     subst (λ p. TakesByte step old new limit p b next) (sym at_head.same) (takes at_head.head at_head.is_at))
 
@@ -234,18 +237,19 @@ pub advances-control_sequence : {V B outside : Type 0} {call : ChunkCall V} {old
     → ((head : List ℕ) → HasReadHead held progress head
     → TakesByte call.step old new call.limit (InControlSequence head) b next)
     → IsSettled next.state → k ≡ j + 1 → Advances outside call old new i k parser next
-advances-control_sequence {progress} begun reads next_byte may_go_on final takes settled end =
+advances-control_sequence {progress} in_state reads next_byte may_go_on final takes settled end =
     advances-to_same (sym end)
-    (advances-past_head ControlHead begun reads next_byte may_go_on
+    (advances-past_head ControlHead in_state reads next_byte may_go_on
     (takes_bytes-head ControlHead progress refl (final_ends_nothing _ final) takes) settled)
 
 -- The same holds if the head is read up to its end (`ReadsHeadUpTo`), and the final byte is there.
 pub advances-final_byte : {V B outside : Type 0} {call : ChunkCall V} {old new : V} {i k b : ℕ}
     {reached : HeadProgress} {end : HeadEnd} {parser next : Machine B} {held : Collected}
     → MayRead call old (ControlSequence reached) parser i
-    → ReadsHeadUpTo call.bytes i reached end parser.collected held → end.next ≡ Some b → is_final (class_of b) ≡ true
+    → ReadsHeadUpTo call.bytes i reached end parser.collected held → end.next_byte ≡ Some b
+    → is_final (class_of b) ≡ true
     → ((head : List ℕ) → HasReadHead held end.progress head
     → TakesByte call.step old new call.limit (InControlSequence head) b next)
     → IsSettled next.state → k ≡ end.position + 1 → Advances outside call old new i k parser next
 advances-final_byte may_read reads next_is =
-    advances-control_sequence may_read.begun reads.head (rw next_is at reads.next) may_read.may_go_on
+    advances-control_sequence may_read.in_state reads.head (rw next_is at reads.next_byte) may_read.may_go_on

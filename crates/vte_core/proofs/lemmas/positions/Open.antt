@@ -1,18 +1,19 @@
 -- What is open where a parser is, and what is stored of it where memory may be refused: both are said of the place,
 -- so they hold of every parser that is at one.
-use Rattle.vte_core.proofs.Common.{added, ap, arith, AtEscape, Bool, ChunkCall, class_of, CommandToClose, concat, Digit, eqb, escape, EscapeSequence, Event, events_from, false, HasReadWithLimit, InControlSequence, InDeviceControl, InDeviceData, InEscape, InIgnoredString, InSystemCommand, InText, is_truncated, IsAfter, IsAtPlace, IsInsidePosition, IsPlaceOfState, IsRefusedInCommand, Leads, left_at, length, length-take, List, loses_data, Machine, MeetsData, None, open_command_size, open_data_count, Option, outcome, Place, Print, ProgressAt, ReadsUntilRefused, refl, replacement, rules, sequence_kind, slice_index, State, subst, sym, SystemCommand, take, Text, ToClose, true, ℕ, [], ◌++◌, ◌+◌, ◌<◌, ◌∙◌, ◌∷◌, ◌≡◌, ◌≢◌, ◌≤◌}
+use Rattle.vte_core.proofs.Common.{added, ap, arith, AtEscape, Bool, ChunkCall, class_of, CommandToClose, concat, Digit, eqb, escape, EscapeSequence, Event, events_from, false, HasReadWithLimit, InControlSequence, InDeviceControl, InDeviceData, InEscape, InIgnoredString, InSystemCommand, InText, is_truncated, IsAfter, IsAtPlace, IsDataOfOpenCommand, IsInsidePosition, IsPlaceOfState, IsRefusedInCommand, Leads, left_at, length, length-take, List, loses_data, Machine, None, open_command_size, open_data_count, Option, outcome, Place, Print, ProgressAt, ReadsUntilRefused, refl, replacement, rules, sequence_kind, slice_index, State, subst, sym, SystemCommand, take, Text, ToClose, true, ℕ, [], ◌++◌, ◌+◌, ◌<◌, ◌∙◌, ◌∷◌, ◌≡◌, ◌≢◌, ◌≤◌}
 use Rattle.vte_core.proofs.lemmas.bytes.Utf8.{ascii-breaks}
-use Rattle.vte_core.proofs.lemmas.fields.PlaceOfState.{in_command, is_at-by, is_at-place, IsPlace}
+use Rattle.vte_core.proofs.lemmas.fields.PlaceOfState.{in_command, is_at-by, is_at-place, IsReachable}
 use Rattle.vte_core.proofs.lemmas.places.PlaceLeads.{command-item, control-head, data-put, device-head, escape-end, ignored-more, intermediate-end}
 use Rattle.vte_core.proofs.lemmas.shapes.FirstSegment.{text_outcome-broken}
 use Rattle.vte_core.proofs.lemmas.streams.After.{added-after, added-reads, after-events, after-left, after-nothing, after-reads, events-empty, open_at_end-any}
 use Rattle.vte_core.proofs.lemmas.places.BytesInStream.{bytes_lead-byte, bytes_lead-item, waits-byte}
-use Rattle.vte_core.proofs.lemmas.positions.Progress.{place-settled_text, progress-command}
-use Rattle.vte_core.proofs.lemmas.positions.ToRun.{reads-anew}
+use Rattle.vte_core.proofs.lemmas.positions.SettledStates.{place-settled_text}
+use Rattle.vte_core.proofs.lemmas.positions.Progress.{progress-command}
+use Rattle.vte_core.proofs.lemmas.positions.ToRun.{reads-again}
 use Rattle.vte_core.specs.Open.{kind_to_close, open_at_end}
 use Rattle.vte_core.specs.Stream.{IsFinished, IsUnfinished}
 use Rattle.vte_core.specs.declared.parser.open.Open.TheVariants as kind
-use Rattle.vte_core.specs.declared.utf8.Unfinished.TheVariants.{Nothing}
+use Rattle.vte_core.specs.declared.utf8.Unfinished.TheVariants.{Empty}
 use Rattle.vte_core.specs.private.ParserFields.{open_in}
 use Rattle.vte_core.proofs.lemmas.fields.Stores.{open_for, pieces_stored}
 use Rattle.vte_core.proofs.lemmas.streams.StreamSteps.{counts_data}
@@ -36,7 +37,7 @@ probe-zero = search (rules, arith)
 
 -- After a stream, a digit adds what it reports at the place of the stream.
 probe-gives : {limit : Option ℕ} {stream : List ℕ} {place next : Place} {b : ℕ} {reported : List Event}
-    → IsProbe b → IsAfter limit stream place → Leads limit place b reported next → IsPlace next
+    → IsProbe b → IsAfter limit stream place → Leads limit place b reported next → IsReachable next
     → added limit stream (b ∷ []) ≡ reported
 probe-gives {limit} {stream} {place} {next} {b} {reported} probe is_after leads =
     added-reads is_after (bytes_lead-byte probe.other leads)
@@ -54,23 +55,24 @@ probe-in_character {limit} {opened} {b} probe truncated is_after =
 
 -- A digit is printed alone only between characters.
 probe-not_alone : {limit : Option ℕ} {stream : List ℕ} {place : Place} {b : ℕ}
-    → IsProbe b → IsPlace place → IsAfter limit stream place → place ≢ InText []
+    → IsProbe b → IsReachable place → IsAfter limit stream place → place ≢ InText []
     → added limit stream (b ∷ []) ≢ Print b ∷ []
-probe-not_alone {place = InText []} probe is_place is_after other = absurd (other refl)
-probe-not_alone {place = InText (c ∷ u)} {b} probe is_place is_after other = search (rules, arith, probe-in_character)
-probe-not_alone {place = AtEscape} probe is_place is_after other = λ alone.
+probe-not_alone {place = InText []} probe is_reachable is_after other = absurd (other refl)
+probe-not_alone {place = InText (c ∷ u)} {b} probe is_reachable is_after other =
+    search (rules, arith, probe-in_character)
+probe-not_alone {place = AtEscape} probe is_reachable is_after other = λ alone.
     let same = sym alone ∙ probe-gives probe is_after (escape-end probe.class refl probe.key) refl in cc
-probe-not_alone {place = InEscape ints} probe is_place is_after other = λ alone.
+probe-not_alone {place = InEscape ints} probe is_reachable is_after other = λ alone.
     let same = sym alone ∙ probe-gives probe is_after (intermediate-end probe.class refl) refl in cc
-probe-not_alone {place = InControlSequence head} probe is_place is_after other = λ alone.
+probe-not_alone {place = InControlSequence head} probe is_reachable is_after other = λ alone.
     let same = sym alone ∙ probe-gives probe is_after (control-head (rw probe.class refl)) tt in cc
-probe-not_alone {place = InDeviceControl head} probe is_place is_after other = λ alone.
+probe-not_alone {place = InDeviceControl head} probe is_reachable is_after other = λ alone.
     let same = sym alone ∙ probe-gives probe is_after (device-head (rw probe.class refl)) tt in cc
-probe-not_alone {place = InDeviceData} probe is_place is_after other = λ alone.
+probe-not_alone {place = InDeviceData} probe is_reachable is_after other = λ alone.
     let same = sym alone ∙ probe-gives probe is_after (data-put (rw probe.class refl)) tt in cc
-probe-not_alone {place = InSystemCommand items} probe is_place is_after other = λ alone.
+probe-not_alone {place = InSystemCommand items} probe is_reachable is_after other = λ alone.
     let same = sym alone ∙ probe-gives probe is_after (command-item probe.low) tt in cc
-probe-not_alone {place = InIgnoredString} probe is_place is_after other = λ alone.
+probe-not_alone {place = InIgnoredString} probe is_reachable is_after other = λ alone.
     let same = sym alone ∙ probe-gives probe is_after (ignored-more (rw probe.class refl)) tt in cc
 
 -- ---- what is open in the state is open at the place, and at the end of the stream
@@ -86,8 +88,8 @@ which_is_open {limit} {stream} {parser} has_read =
 
 -- Nothing is open only between characters.
 
-settled-open_in : (state : State) → open_in state ≡ kind.Nothing → state ≡ Text Nothing
-settled-open_in (Text Nothing) none_open = refl
+settled-open_in : (state : State) → open_in state ≡ kind.Nothing → state ≡ Text Empty
+settled-open_in (Text Empty) none_open = refl
 settled-open_in _ none_open = cc
 
 state-settled : {B : Type 0} (limit : Option ℕ) (state : State) (parser : Machine B)
@@ -105,7 +107,7 @@ pub closed_is_finished : {B : Type 0} {limit : Option ℕ} {stream : List ℕ} (
     → open_in parser.state ≡ kind.Nothing → HasReadWithLimit limit parser stream
     → HasReadWithLimit limit parser [] × IsFinished limit stream
 closed_is_finished {limit} {stream} parser nothing has_read =
-    search (rules, arith, settled-open_in, place-settled_text, reads-anew, is_finished-settled)
+    search (rules, arith, settled-open_in, place-settled_text, reads-again, is_finished-settled)
 
 pub open_is_unfinished : {B : Type 0} {limit : Option ℕ} {stream : List ℕ} {parser : Machine B}
     → open_in parser.state ≢ kind.Nothing → HasReadWithLimit limit parser stream → IsUnfinished limit stream
@@ -126,7 +128,7 @@ left-at_place parser stream has_read = after-left has_read.is_after (is_at-place
 -- A byte that is refused is a data byte of an open command.
 pub meets_data : {B : Type 0} {parser : Machine B} {stream bytes : List ℕ} {from : ℕ}
     → IsRefusedInCommand None parser.state parser.command bytes from
-    → HasReadWithLimit None parser stream → MeetsData stream (slice_index bytes from)
+    → HasReadWithLimit None parser stream → IsDataOfOpenCommand stream (slice_index bytes from)
 meets_data {parser} {stream} {bytes} {from} refused has_read =
     let byte : ℕ = slice_index bytes from in
     let at_command = in_command refused.inside has_read.is_at in
@@ -170,8 +172,8 @@ refuses-inside {call} {old} {new} {n} {parser} refuses stream has_read =
 pub stored_is_open : {B : Type 0} {parser : Machine B} {stream : List ℕ} → parser.state ≡ SystemCommand
     → HasReadWithLimit None parser stream
     → length parser.command.bytes ≡ open_command_size stream
-stored_is_open {parser} {stream} begun has_read =
-    let at_command = in_command begun has_read.is_at in
+stored_is_open {parser} {stream} in_state has_read =
+    let at_command = in_command in_state has_read.is_at in
     pieces_stored at_command.keeps
     ∙ sym (ap open_data_count (left-at_place parser stream has_read ∙ ap (left_at None) at_command.same))
 
@@ -231,8 +233,8 @@ lacks_all {call} {n} {parser} refuses stream has_read kept =
       arith,
       stored,
       (counts_data stream read).left,
-      refuses.refused.lacks.lacks,
-      refuses.refused.lacks.within,
+      refuses.refused.lacks_memory.lacks_memory,
+      refuses.refused.lacks_memory.within,
       refuses.within,
       length-take n call.bytes,
       kept,

@@ -1,65 +1,20 @@
--- How a call comes from one position to the next, to its end, or to a stop. A stretch of bytes that leads to a place
--- adds its events to those reported so far. A call that may stop does so only at the start of a character or sequence.
+-- How a call comes from one position to the next, as places say it. A stretch of bytes that leads to a place adds its
+-- events to those reported so far. A call that may stop does so only at the start of a character or sequence.
 --
 -- `progress-nothing`: the start of a call
--- `progress-byte`: past a byte before which the call may stop; `progress-carried`: past one inside a character
+-- `progress-byte`: past a byte before which the call may stop; `progress-extended`: past one inside a character
 -- `progress-further`: past any stretch of bytes; `progress-items`: past data bytes of a command
 -- `progress-settled`, `progress-all`, `progress-broken`: where something may start, because no character is open, no
 -- byte is left, or the next byte breaks the open one; `progress-command`: back from there
 -- `progress-starts`: there something starts
 -- `progress-comes`, `progress-all_read`: the public clauses of a call that stops, and of one that reads all
--- `starts-X`, `call_ends-X`, `settles`: where a call starts, where it stops or ends, and where no character is open
-use Rattle.vte_core.proofs.Common.{added, after, ap, append-nil, append_assoc, arith, breaks, breaks_at, bytes_of, BytesLead, cases_Bool, cases_lt, ChunkCall, ComesTo, drop, drop_more, eqb, Event, false, HasReadWithLimit, inl, inr, InSystemCommand, InText, IsAfter, IsAtPlace, IsAtPosition, IsInsidePosition, IsPlaceOfState, IsSettled, IsSettledPlace, IsStart, length, List, Machine, MayGoOn, nat_tests, not, Nothing, open_at, open_character, Option, Place, Print, ProgressAt, ProgressInside, ReadsUpTo, refl, replacement, reported_before, resumed_stream, rules, slice_index, State, StopsExactly, subst, suc, sym, take, take-add, Text, true, Unfinished, zero, ℕ, [], ◌++◌, ◌+◌, ◌-◌, ◌<◌, ◌∙◌, ◌∷◌, ◌≡◌, ◌≤◌}
-use Rattle.vte_core.proofs.lemmas.fields.PlaceOfState.{is_at-in, is_at-place, IsPlace, open_at-settled}
+use Rattle.vte_core.proofs.Common.{added, after, ap, append-nil, append_assoc, arith, breaks, breaks_at, BytesLead, cases_Bool, cases_lt, ChunkCall, ComesTo, drop, drop_more, Event, false, inl, inr, InSystemCommand, InText, IsAfter, IsSettledPlace, IsStart, length, List, MayGoOn, open_at, open_character, Option, Place, Print, ProgressAt, ProgressInside, refl, replacement, reported_before, resumed_stream, rules, slice_index, subst, suc, sym, take, take-add, true, zero, ℕ, [], ◌++◌, ◌+◌, ◌-◌, ◌<◌, ◌∙◌, ◌∷◌, ◌≡◌, ◌≤◌}
+use Rattle.vte_core.proofs.lemmas.fields.PlaceOfState.{IsReachable, open_at-settled}
 use Rattle.vte_core.proofs.lemmas.places.BytesInStream.{bytes_lead-item}
 use Rattle.vte_core.proofs.lemmas.streams.After.{added-nothing, added-reads, after-left, after-nothing, after-open_character, after-reads, after_events-append}
-use Rattle.vte_core.proofs.lemmas.shapes.BrokenCharacters.{breaks_at-all, breaks_at-byte, breaks_at-settled, no_start, reported-all, reported-broken, reported-settled, resumed_stream-all, resumed_stream-broken, resumed_stream-settled, starts-broken, starts-settled}
-use Rattle.vte_core.proofs.lemmas.bytes.Runs.{one_byte}
+use Rattle.vte_core.proofs.lemmas.shapes.BrokenCharacters.{breaks_at-all, breaks_at-byte, breaks_at-settled, no_start, reported-all, reported-broken, reported-settled, resumed_stream-broken, resumed_stream-settled, starts-broken, starts-settled}
+use Rattle.vte_core.proofs.lemmas.bytes.Each.{one_byte}
 use Rattle.vte_core.proofs.lemmas.EarlyStops.{added_from, after_from, breaks_there, goes_on_from}
-
--- ---- the place of a state in which no character is open
-
-text-by_place : {B : Type 0} (limit : Option ℕ) (parser : Machine B) (place : Place)
-    → IsPlaceOfState limit (Text Nothing) parser place → place ≡ InText []
-text-by_place limit parser place fields = search (rules, arith)
-
--- Between characters of a text there is only one place.
-pub place-settled_text : {B : Type 0} {limit : Option ℕ} {parser : Machine B} {place : Place}
-    → parser.state ≡ Text Nothing → IsAtPlace limit parser place → place ≡ InText []
-place-settled_text {limit} {parser} {place} begun is_at = text-by_place limit parser place (is_at-in begun is_at)
-
--- In a settled state, no character is open at the place.
-settled-by_place : {B : Type 0} (limit : Option ℕ) (state : State) (parser : Machine B) (place : Place)
-    → IsSettled state → IsPlaceOfState limit state parser place → IsSettledPlace place
-settled-by_place limit state parser place settled fields = search (rules, arith)
-
-settled-place : {B : Type 0} {limit : Option ℕ} (parser : Machine B) → IsSettled parser.state → (place : Place)
-    → IsAtPlace limit parser place → IsSettledPlace place
-settled-place {limit} parser settled place is_at = settled-by_place limit parser.state parser place settled is_at.fields
-
-pub settled-same_state : {state other : State} → state ≡ other → IsSettled other → IsSettled state
-settled-same_state same settled = subst IsSettled (sym same) settled
-
-pub settled-nothing : (unfinished : Unfinished) → bytes_of unfinished ≡ [] → IsSettled (Text unfinished)
-settled-nothing Nothing empty = tt
-settled-nothing _ empty = cc
-
-pub settled-outside : (state : State) → ((unfinished : Unfinished) → state ≡ Text unfinished → ⊥) → IsSettled state
-settled-outside (Text u) no_text = absurd (no_text u refl)
-settled-outside _ no_text = tt
-
--- ---- whether a call asks
-
--- A const parameter that is a `bool` is a number in proofs.
-pub may_stop-some : (n : ℕ) → (n ≡ 0 → ⊥) → not (eqb n 0) ≡ true
-may_stop-some n nonzero = grind (arith, nat_tests)
-
-pub may_stop-none : {n : ℕ} → n ≡ 0 → not (eqb n 0) ≡ true → ⊥
-may_stop-none is_zero stops = let same : not (eqb 0 0) ≡ true = rw is_zero at stops in cc
-
--- A call that may not stop reads all bytes.
-pub all_read-unless_asked : (n size : ℕ) → n ≤ size → (n < size → false ≡ true) → n ≡ size
-all_read-unless_asked n size within asked = search (rules, arith)
 
 -- ---- the bytes of a call from one position to the next
 
@@ -67,7 +22,7 @@ all_read-unless_asked n size within asked = search (rules, arith)
 
 stretch-ends : (bytes : List ℕ) (i j : ℕ) → i < j → take j bytes ≡ take i bytes ++ take (j - i) (drop i bytes)
 stretch-ends bytes i j further =
-    let place : j ≡ i + (j - i) = omega (arith, further) in ap (λ n. take n bytes) place ∙ take-add i (j - i) bytes
+    let end_is : j ≡ i + (j - i) = omega (arith, further) in ap (λ n. take n bytes) end_is ∙ take-add i (j - i) bytes
 
 -- If unread bytes break a character, so does each of their prefixes that isn't empty.
 breaks-prefix : (opened unread : List ℕ) (n : ℕ) → 0 < n → breaks opened unread ≡ true
@@ -112,24 +67,24 @@ module _ {V : Type 0} {call : ChunkCall V} {old : V} {stream : List ℕ} where
       rw (reported-settled call.limit stream call.bytes i whole, resumed_stream-settled stream call.bytes i whole)
       progress
 
-  pub progress-settled : {value : V} {i : ℕ} {place : Place} → IsPlace place → IsSettledPlace place
+  pub progress-settled : {value : V} {i : ℕ} {place : Place} → IsReachable place → IsSettledPlace place
       → ProgressInside call old value stream i place → ProgressAt call old value stream i place
-  progress-settled {i} {place} is_place between progress =
+  progress-settled {i} {place} is_reachable between progress =
       progress-whole
       (breaks_at-settled stream call.bytes i
-      (after-open_character progress.is_after is_place
+      (after-open_character progress.is_after is_reachable
       ∙ open_at-settled place between)) progress
 
-  progress-all : {value : V} {i : ℕ} {place : Place} → length call.bytes ≤ i
+  pub progress-all : {value : V} {i : ℕ} {place : Place} → length call.bytes ≤ i
       → ProgressInside call old value stream i place → ProgressAt call old value stream i place
   progress-all {i} all progress = progress-whole (breaks_at-all stream call.bytes i all) progress
 
   -- U+FFFD is reported for a character that the next byte breaks, and the parser is as it was at first.
-  pub progress-broken : {value new : V} {i b : ℕ} {place : Place} → IsPlace place → i < length call.bytes
+  pub progress-broken : {value new : V} {i b : ℕ} {place : Place} → IsReachable place → i < length call.bytes
       → b ≡ slice_index call.bytes i → breaks (open_at place) (b ∷ []) ≡ true
       → new ≡ call.step value (Print replacement) → ProgressInside call old value stream i place
       → ProgressAt call old new stream i (InText [])
-  progress-broken {i} {b} {place} is_place within byte_is broken performed progress =
+  progress-broken {i} {b} {place} is_reachable within byte_is broken performed progress =
       search (
         rules,
         arith,
@@ -150,27 +105,27 @@ module _ {V : Type 0} {call : ChunkCall V} {old : V} {stream : List ℕ} where
       → (call.may_stop ≡ true → (k : ℕ) → i < k → k < j
       → call.is_terminated (after call.step old (reported_before call.limit stream call.bytes k)) ≡ false)
       → BytesLead call.limit place (take (j - i) (drop i call.bytes)) these next → new ≡ after call.step value these
-      → IsPlace next → ProgressAt call old value stream i place → ProgressInside call old new stream j next
+      → IsReachable next → ProgressAt call old value stream i place → ProgressInside call old new stream j next
   progress-further {value} {i} {j} {place} {next}
-      {these} in_order within here inside reads performed is_place progress = record {
+      {these} in_order within here inside reads performed is_reachable progress = record {
         performed =
             performed ∙ ap (λ v. after call.step v these) progress.performed
             ∙ sym (after_events-append call.step old (reported_before call.limit stream call.bytes i) these)
             ∙ ap (after call.step old) (sym (stretch-added call.limit stream call.bytes i j in_order
             ∙ ap (λ (events : List Event). reported_before call.limit stream call.bytes i ++ events)
-            (added-reads progress.is_after reads is_place)));
+            (added-reads progress.is_after reads is_reachable)));
         is_after =
             stretch-after call.limit stream call.bytes i j in_order next
-            (after-reads progress.is_after reads is_place);
-        earlier = λ does k below start. elim (cases_lt k i) [
-          | inl prefix ↦ progress.earlier does k prefix start
+            (after-reads progress.is_after reads is_reachable);
+        earlier = λ asks k below start. elim (cases_lt k i) [
+          | inl prefix ↦ progress.earlier asks k prefix start
           | inr from ↦ elim (cases_lt i k) [
-            | inl past ↦ inside does k past below
+            | inl past ↦ inside asks k past below
             | inr same ↦
                 let same : k ≡ i = omega (arith, from, same) in
                 subst (λ n. IsStart stream call.bytes n
                 → call.is_terminated (after call.step old (reported_before call.limit stream call.bytes n)) ≡ false)
-                (sym same) (λ s. ap call.is_terminated (sym progress.performed) ∙ here does s) start
+                (sym same) (λ s. ap call.is_terminated (sym progress.performed) ∙ here asks s) start
           ]
         ];
       }
@@ -178,34 +133,34 @@ module _ {V : Type 0} {call : ChunkCall V} {old : V} {stream : List ℕ} where
   progress-one : {value new : V} {i b : ℕ} {place next : Place} {these : List Event} → i < length call.bytes
       → b ≡ slice_index call.bytes i
       → (call.may_stop ≡ true → IsStart stream call.bytes i → call.is_terminated value ≡ false)
-      → BytesLead call.limit place (b ∷ []) these next → new ≡ after call.step value these → IsPlace next
+      → BytesLead call.limit place (b ∷ []) these next → new ≡ after call.step value these → IsReachable next
       → ProgressAt call old value stream i place → ProgressInside call old new stream (i + 1) next
   progress-one {i} {b} {place} {next} {these} within byte_is goes_on reads =
       let one = one_byte call.bytes i b within byte_is in
       progress-further (omega arith) (omega (arith, within)) goes_on
-      (λ does k past below. absurd (omega (arith, past, below)))
+      (λ asks k past below. absurd (omega (arith, past, below)))
       (subst (λ bytes. BytesLead call.limit place bytes these next) (sym one) reads)
 
   -- If the performer may go on, a byte makes progress whatever it starts, even if it breaks a character.
   pub progress-byte : {value new : V} {i b : ℕ} {place next : Place} {these : List Event} → i < length call.bytes
       → b ≡ slice_index call.bytes i → MayGoOn call value → BytesLead call.limit place (b ∷ []) these next
-      → new ≡ after call.step value these → IsPlace next → ProgressAt call old value stream i place
+      → new ≡ after call.step value these → IsReachable next → ProgressAt call old value stream i place
       → ProgressInside call old new stream (i + 1) next
-  progress-byte within byte_is may_go_on reads performed is_place progress =
-      progress-one within byte_is (λ does _. may_go_on does) reads performed is_place progress
+  progress-byte within byte_is may_go_on reads performed is_reachable progress =
+      progress-one within byte_is (λ asks _. may_go_on asks) reads performed is_reachable progress
 
   -- A byte of an open character makes progress inside it.
-  pub progress-carried : {value new : V} {i b : ℕ} {place next : Place} {these : List Event} → IsPlace place
+  pub progress-extended : {value new : V} {i b : ℕ} {place next : Place} {these : List Event} → IsReachable place
       → i < length call.bytes → b ≡ slice_index call.bytes i → (open_at place ≡ [] → ⊥)
       → breaks (open_at place) (b ∷ []) ≡ false → BytesLead call.limit place (b ∷ []) these next
-      → new ≡ after call.step value these → IsPlace next → ProgressInside call old value stream i place
+      → new ≡ after call.step value these → IsReachable next → ProgressInside call old value stream i place
       → ProgressInside call old new stream (i + 1) next
-  progress-carried {i} {b} {place} is_here within byte_is has_begun whole reads performed is_place progress =
+  progress-extended {i} {b} {place} is_here within byte_is has_begun whole reads performed is_reachable progress =
       let ends : open_character (stream ++ take i call.bytes) ≡ open_at place =
       after-open_character progress.is_after is_here in
       progress-one within byte_is
       (λ _ start. absurd (no_start within byte_is ends has_begun whole start)) reads
-      performed is_place
+      performed is_reachable
       (progress-whole (breaks_at-byte stream call.bytes i within byte_is ends ∙ whole) progress)
 
   -- Data bytes of a command make progress if the performer may go on before the first.
@@ -229,7 +184,7 @@ module _ {V : Type 0} {call : ChunkCall V} {old : V} {stream : List ℕ} where
 
   -- ---- the start of a call
 
-  progress-nothing : {place : Place} → IsAfter call.limit stream place → ProgressInside call old old stream 0 place
+  pub progress-nothing : {place : Place} → IsAfter call.limit stream place → ProgressInside call old old stream 0 place
   progress-nothing {place} is_after = search (rules, arith, added-nothing, append-nil)
 
   progress-back : {value : V} {i : ℕ} {place : Place} → breaks_at stream call.bytes i ≡ false
@@ -256,9 +211,10 @@ module _ {V : Type 0} {call : ChunkCall V} {old : V} {stream : List ℕ} where
 
   -- ---- where something starts
 
-  progress-starts : {value : V} {i : ℕ} {place : Place} → IsPlace place → IsSettledPlace place → i < length call.bytes
+  pub progress-starts : {value : V} {i : ℕ} {place : Place} → IsReachable place → IsSettledPlace place
+      → i < length call.bytes
       → ProgressAt call old value stream i place → IsStart stream call.bytes i
-  progress-starts {i} {place} is_place between within progress =
+  progress-starts {i} {place} is_reachable between within progress =
       search (
         rules,
         arith,
@@ -272,15 +228,15 @@ module _ {V : Type 0} {call : ChunkCall V} {old : V} {stream : List ℕ} where
   -- ---- the end of a call
 
   -- A call that may stop ensures its public clauses: `starts` comes from the loop's exit.
-  progress-comes : {value : V} {n : ℕ} {place : Place} → call.may_stop ≡ true → n ≤ length call.bytes
+  pub progress-comes : {value : V} {n : ℕ} {place : Place} → call.may_stop ≡ true → n ≤ length call.bytes
       → (n < length call.bytes → IsStart stream call.bytes n) → ProgressAt call old value stream n place
       → ComesTo call.step call.is_terminated old call.limit stream call.bytes value n
-  progress-comes {n} does within starts progress =
+  progress-comes {n} asks within starts progress =
       let unread : List ℕ = drop n call.bytes in
       record {
         within = within;
         performed = progress.performed;
-        earlier = progress.earlier does;
+        earlier = progress.earlier asks;
         starts = starts;
         goes_on =
             ap (λ v. after call.step v
@@ -295,105 +251,7 @@ module _ {V : Type 0} {call : ChunkCall V} {old : V} {stream : List ℕ} where
       }
 
   -- A call that has read all bytes has performed all their events.
-  progress-all_read : {value : V} {n : ℕ} {place : Place} → n ≡ length call.bytes
+  pub progress-all_read : {value : V} {n : ℕ} {place : Place} → n ≡ length call.bytes
       → ProgressAt call old value stream n place → value ≡ after call.step old (added call.limit stream call.bytes)
   progress-all_read {n} all progress =
       progress.performed ∙ ap (after call.step old) (reported-all call.limit stream call.bytes n all)
-
--- ---- the same of a parser that is there
-
--- A settled state has a settled place, so `progress-X` applies.
-
-module _ {V B : Type 0} {call : ChunkCall V} where
-  -- ---- from inside a character to where something starts
-
-  pub settles : {old value : V} {stream : List ℕ} {i : ℕ} {parser : Machine B} → IsSettled parser.state
-      → IsInsidePosition call old value stream i parser → IsAtPosition call old value stream i parser
-  settles {parser} settled inside =
-      let place_is = settled-place parser settled inside.place inside.is_at in
-      record {
-        place = inside.place;
-        is_at = inside.is_at;
-        settled = λ _. place_is;
-        progress = progress-settled (is_at-place inside.is_at) place_is inside.progress;
-      }
-
-  pub inside-all : {old value : V} {stream : List ℕ} {i : ℕ} {parser : Machine B}
-      → IsInsidePosition call old value stream i parser → length call.bytes ≤ i
-      → IsAtPosition call old value stream i parser
-  inside-all inside all =
-      record {
-        place = inside.place;
-        is_at = inside.is_at;
-        settled = λ within. absurd (omega arith);
-        progress = progress-all all inside.progress;
-      }
-
-  pub inside-moved : {old value : V} {stream : List ℕ} {i j : ℕ} {parser : Machine B} → i ≡ j
-      → IsInsidePosition call old value stream i parser → IsInsidePosition call old value stream j parser
-  inside-moved {old} {value} {stream} {parser} same inside = search (rules, arith)
-
-  -- ---- the start and the end of a call
-
-  pub starts-inside : {old : V} {stream : List ℕ} {parser : Machine B} → HasReadWithLimit call.limit parser stream
-      → IsInsidePosition call old old stream 0 parser
-  starts-inside has_read = record {
-    place = has_read.place;
-    is_at = has_read.is_at;
-    progress = progress-nothing has_read.is_after;
-  }
-
-  pub starts-at : {old : V} {stream : List ℕ} {parser : Machine B} → IsSettled parser.state
-      → HasReadWithLimit call.limit parser stream → IsAtPosition call old old stream 0 parser
-  starts-at settled has_read = settles settled (starts-inside has_read)
-
-  pub call_ends-comes : {old value : V} {stream : List ℕ} {n : ℕ} {parser : Machine B} → call.may_stop ≡ true
-      → n ≤ length call.bytes → IsAtPosition call old value stream n parser
-      → ComesTo call.step call.is_terminated old call.limit stream call.bytes value n
-  call_ends-comes {parser} does within position =
-      progress-comes does within
-      (λ left. progress-starts (is_at-place position.is_at)
-      (position.settled left) left position.progress) position.progress
-
-  pub call_ends-stops : {old value : V} {stream : List ℕ} {n : ℕ} {parser : Machine B} → call.may_stop ≡ true
-      → n ≤ length call.bytes → (n < length call.bytes → call.is_terminated value ≡ true)
-      → IsAtPosition call old value stream n parser
-      → StopsExactly call.step call.is_terminated old call.limit stream call.bytes value n
-  call_ends-stops does within stops position =
-      record {
-        comes = call_ends-comes does within position;
-        stops = stops;
-        all = λ all. progress-all_read all position.progress;
-      }
-
-  pub call_ends-reads : {old value : V} {stream : List ℕ} {n : ℕ} {parser : Machine B}
-      → IsAtPosition call old value stream n parser
-      → HasReadWithLimit call.limit parser (resumed_stream stream call.bytes n)
-  call_ends-reads position = record {
-    place = position.place;
-    is_at = position.is_at;
-    is_after = position.progress.is_after;
-  }
-
-  -- A call at the position after all bytes has performed all their events.
-  pub call_ends-performs : {old value : V} {stream : List ℕ} {n : ℕ} {parser : Machine B} → n ≡ length call.bytes
-      → IsAtPosition call old value stream n parser → value ≡ after call.step old (added call.limit stream call.bytes)
-  call_ends-performs all position = progress-all_read all position.progress
-
-  pub call_ends-reads_all : {old value : V} {stream : List ℕ} {n : ℕ} {parser : Machine B} → n ≡ length call.bytes
-      → IsAtPosition call old value stream n parser → HasReadWithLimit call.limit parser (stream ++ call.bytes)
-  call_ends-reads_all {stream} {n} {parser} all position =
-      subst (HasReadWithLimit call.limit parser) (resumed_stream-all stream call.bytes n all) (call_ends-reads position)
-
-  -- ---- where the loop of a call ends: at a stop, or with all bytes read
-
-  pub call_ends-at_stop : {old value : V} {n : ℕ} {before parser : Machine B} → call.may_stop ≡ true
-      → call.is_terminated value ≡ true → n ≤ length call.bytes
-      → ((stream : List ℕ) → HasReadWithLimit call.limit before stream → IsAtPosition call old value stream n parser)
-      → ReadsUpTo call old value n before parser
-  call_ends-at_stop does stopped within is_at = search (rules, arith)
-
-  pub call_ends-with_all : {old value : V} {n : ℕ} {before parser : Machine B} → n ≡ length call.bytes
-      → ((stream : List ℕ) → HasReadWithLimit call.limit before stream → IsAtPosition call old value stream n parser)
-      → ReadsUpTo call old value n before parser
-  call_ends-with_all all is_at = search (rules, arith)

@@ -1,11 +1,14 @@
 -- What a run of text does to a call's progress: its characters one by one do the same. By induction over the
 -- characters, and for the performer by its contract over the whole run.
-use Rattle.vte_core.proofs.Common.{added, Advances, after, All, All-append, All-head, All-nil, All-tail, ap, append-nil, arith, Bool, breaks_at, BytesLead, cases_Bool, character_event, chars, ChunkCall, cut_at_escape, drop, encode, encodes, escape, Event, events, false, inl, inr, InText, is_control_character, IsAtPlace, IsAtPosition, IsInsidePosition, IsPrintedAscii, IsUtf8, IsUtf8Run, length, List, Machine, malformed_event, map, MayGoOn, nat_tests, NoCharacterStops, Nothing, Option, outcome_from, Print, PrintsRun, ProgressAt, refl, replacement, reported_before, resumed_stream, rules, run_event, slice_index, StaysInRun, subst, sym, take, take-append-drop, Text, text_outcome, true, with_bodies, ℕ, [], ◌++◌, ◌+◌, ◌-◌, ◌<◌, ◌∙◌, ◌∷◌, ◌≡◌, ◌≢◌, ◌≤◌}
+use Rattle.vte_core.proofs.Common.{added, Advances, after, All, All-append, All-head, All-nil, All-tail, ap, append-nil, arith, Bool, breaks_at, BytesLead, cases_Bool, character_event, chars, ChunkCall, cut_at_escape, drop, Empty, encode, encodes, escape, Event, events, false, inl, inr, InText, is_control_character, IsAtPlace, IsAtPosition, IsInsidePosition, IsPrintedAscii, IsUtf8, IsUtf8Run, length, List, Machine, malformed_event, map, MayGoOn, nat_tests, NoCharacterStops, Option, outcome_from, Print, PrintsRun, ProgressAt, refl, replacement, reported_before, resumed_stream, rules, run_event, slice_index, StaysInRun, subst, sym, take, take-append-drop, Text, text_outcome, true, with_bodies, ℕ, [], ◌++◌, ◌+◌, ◌-◌, ◌<◌, ◌∙◌, ◌∷◌, ◌≡◌, ◌≢◌, ◌≤◌}
 use Rattle.std.proofs.lemmas.List.{take-take}
 use Rattle.std.proofs.lemmas.Str.{encodes-chars, scalars-chars}
-use Rattle.vte_core.proofs.lemmas.bytes.Runs.{chars-one, each-one, layout-is_control_character, run-ascii, run_event-no_control, run_event-printed}
+use Rattle.vte_core.proofs.lemmas.bytes.Each.{each-one}
+use Rattle.vte_core.proofs.lemmas.bytes.Runs.{chars-one, layout-is_control_character, run-ascii, run_event-no_control, run_event-printed}
 use Rattle.vte_core.proofs.lemmas.dividing.Utf8Agrees.{cut-text, text_outcome-encodes}
-use Rattle.vte_core.proofs.lemmas.positions.Progress.{place-settled_text, progress-further, settled-same_state, settles, stretch-added}
+use Rattle.vte_core.proofs.lemmas.positions.SettledStates.{place-settled_text, settled-same_state}
+use Rattle.vte_core.proofs.lemmas.positions.Progress.{progress-further, stretch-added}
+use Rattle.vte_core.proofs.lemmas.positions.CallEnds.{settles}
 use Rattle.vte_core.proofs.lemmas.streams.After.{added-reads, after_events-append}
 use Rattle.vte_core.proofs.lemmas.shapes.Outcomes.{with_bodies-report}
 use Rattle.vte_core.proofs.lemmas.shapes.BrokenCharacters.{reported-broken, reported-settled}
@@ -20,7 +23,7 @@ bytes_lead-characters : {limit : Option ℕ} {text : List ℕ} → IsUtf8 text �
     → BytesLead limit (InText []) text (map character_event (chars text)) (InText [])
 unfolding outcome_from
 bytes_lead-characters {limit} {text} is_utf8 no_escapes = record {
-  reads = λ more.
+  leads = λ more.
       let cut = cut_at_escape more in
       ap (λ c. with_bodies limit (text_outcome c.text) c.bodies) (cut-text text more no_escapes)
       ∙ ap (λ bytes. with_bodies limit (text_outcome (bytes ++ cut.text)) cut.bodies) (sym (encodes-chars text is_utf8))
@@ -120,32 +123,32 @@ module _ {V : Type 0} (layout : Bool) (call : ChunkCall V)
 pub may_go_on-text : {V : Type 0} {layout : Bool} (call : ChunkCall V) {old new : V} {i j : ℕ}
     → (call.may_stop ≡ true → NoCharacterStops layout call.step call.is_terminated) → MayGoOn call old
     → PrintsRun layout call.step old new call.bytes i j → MayGoOn call new
-may_go_on-text {layout} call {old} {i} {j} never may_go_on prints does =
+may_go_on-text {layout} call {old} {i} {j} never may_go_on prints asks =
     let cs = chars (take (j - i) (drop i call.bytes)) in
     ap call.is_terminated prints.printed
-    ∙ not_stopped layout call (never does) old (map (run_event layout) cs) [] cs
-    (append-nil (map (run_event layout) cs)) (may_go_on does)
+    ∙ not_stopped layout call (never asks) old (map (run_event layout) cs) [] cs
+    (append-nil (map (run_event layout) cs)) (may_go_on asks)
 
 -- What is malformed in runs is reported by U+FFFD, which is a character too.
 pub may_go_on-malformed : {V : Type 0} (layout : Bool) (call : ChunkCall V) {old new : V} {b : ℕ}
     → (call.may_stop ≡ true → NoCharacterStops layout call.step call.is_terminated) → MayGoOn call old → 0xa0 ≤ b
     → new ≡ call.step old (malformed_event (b ∷ [])) → MayGoOn call new
 unfolding malformed_event
-may_go_on-malformed layout call {old} {b} never may_go_on high performed does =
+may_go_on-malformed layout call {old} {b} never may_go_on high performed asks =
     let printed : is_control_character b ≡ false = grind (arith, nat_tests) in
     let event : malformed_event (b ∷ []) ≡ run_event layout replacement =
     rw printed (sym (run_event-no_control layout refl)) in
-    rw (performed, event) (never does old replacement (may_go_on does))
+    rw (performed, event) (never asks old replacement (may_go_on asks))
 
 -- A call advances by a run of text.
 pub advances-text : {V B : Type 0} {call : ChunkCall V} {layout : Bool} {old new : V} {i j : ℕ} {parser : Machine B}
     → (call.may_stop ≡ true → NoCharacterStops layout call.step call.is_terminated) → MayGoOn call old
-    → parser.state ≡ Text Nothing → i < j → j ≤ length call.bytes
+    → parser.state ≡ Text Empty → i < j → j ≤ length call.bytes
     → PrintsRun layout call.step old new call.bytes i j → Advances ⊥ call old new i j parser parser
 advances-text {V} {call} {layout} {old} {new} {i} {j} {parser}
-    never may_go_on begun in_order high prints = record {
-      goes_on = λ value stream position. settles (settled-same_state begun tt) (inside-next value stream position);
-      settled = λ _. settled-same_state begun tt;
+    never may_go_on in_state in_order high prints = record {
+      goes_on = λ value stream position. settles (settled-same_state in_state tt) (inside-next value stream position);
+      settled = λ _. settled-same_state in_state tt;
       outside_runs = λ no. absurd no;
     }
   where
@@ -156,7 +159,7 @@ advances-text {V} {call} {layout} {old} {new} {i} {j} {parser}
     inside : (value : V) (stream : List ℕ) → ProgressAt call value old stream i (InText []) → call.may_stop ≡ true
         → (k : ℕ) → i < k → k < j
         → call.is_terminated (after call.step value (reported_before call.limit stream call.bytes k)) ≡ false
-    inside value stream progress does k past below =
+    inside value stream progress asks k past below =
         let from : List ℕ = resumed_stream stream call.bytes i in
         let prefix : List ℕ = take (k - i) (drop i call.bytes) in
         let rest : List ℕ = drop (k - i) run in
@@ -168,26 +171,26 @@ advances-text {V} {call} {layout} {old} {new} {i} {j} {parser}
         sym (added-append call.limit from prefix rest) ∙ ap (added call.limit from) (sym parts)
         ∙ added-reads progress.is_after
         (bytes_lead-text prints.run) refl in
-        not_stopped-reported layout call (never does) value stream k
+        not_stopped-reported layout call (never asks) value stream k
         (ap (λ events. call.is_terminated (after call.step value events))
         (stretch-added call.limit stream call.bytes i k past)
         ∙ ap call.is_terminated
         (after_events-append call.step value (reported_before call.limit stream call.bytes i)
         (added call.limit from prefix)
         ∙ ap (λ v. after call.step v (added call.limit from prefix)) (sym progress.performed))
-        ∙ not_stopped layout call (never does) old (added call.limit from prefix)
-        (added call.limit (from ++ prefix) rest) (chars run) all (may_go_on does))
+        ∙ not_stopped layout call (never asks) old (added call.limit from prefix)
+        (added call.limit (from ++ prefix) rest) (chars run) all (may_go_on asks))
 
     inside-next : (value : V) (stream : List ℕ) → IsAtPosition call value old stream i parser
         → IsInsidePosition call value new stream j parser
     inside-next value stream s =
-        let here : s.place ≡ InText [] = place-settled_text begun s.is_at in
+        let here : s.place ≡ InText [] = place-settled_text in_state s.is_at in
         let progress : ProgressAt call value old stream i (InText []) =
         subst (ProgressAt call value old stream i) here s.progress in
         record {
           place = InText [];
           is_at = subst (IsAtPlace call.limit parser) here s.is_at;
           progress =
-              progress-further in_order high (λ does _. may_go_on does) (inside value stream progress)
+              progress-further in_order high (λ asks _. may_go_on asks) (inside value stream progress)
               (bytes_lead-text prints.run) prints.printed refl progress;
         }

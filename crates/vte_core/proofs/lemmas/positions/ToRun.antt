@@ -1,18 +1,19 @@
 -- Runs that a caller takes from its own input: bytes that lead from the parser's place back to it, so the parser
 -- needn't change, and that no further printed character or data byte follows.
-use Rattle.vte_core.proofs.Common.{append-nil, arith, BytesLead, ChunkCall, class_of, DeviceData, drop, drop_more, false, HasNoRunAt, HasReadWithLimit, InDeviceData, IsAtPlace, IsAtPosition, IsPlaceOfState, IsRange, IsRun, IsSettled, length, length-drop, length-take, List, Machine, map, Nothing, Option, Place, Put, refl, resumed_stream, rules, slice_index, State, subst, suc, sym, take, Text, true, Unfinished, zero, ℕ, [], ◌++◌, ◌+◌, ◌-◌, ◌<◌, ◌≡◌, ◌≤◌}
+use Rattle.vte_core.proofs.Common.{append-nil, ArePositions, arith, BytesLead, ChunkCall, class_of, DeviceData, drop, drop_more, Empty, false, HasNoRunAt, HasReadWithLimit, InDeviceData, IsAtPlace, IsAtPosition, IsPlaceOfState, IsRun, IsSettled, length, length-drop, length-take, List, Machine, map, Option, Place, Put, refl, resumed_stream, rules, slice_index, State, subst, suc, sym, take, Text, true, Unfinished, zero, ℕ, [], ◌++◌, ◌+◌, ◌-◌, ◌<◌, ◌≡◌, ◌≤◌}
 use Rattle.vte_core.specs.private.Prelude.{AreOfKind, ArePut, ComesToRun, IsDeviceData, IsOutsideTextAndData, IsTaken}
 use Rattle.vte_core.specs.private.ToRun.{bytes_at, HasRun, IsWholeAt, kind_events}
 use Rattle.vte_core.specs.AdvanceToRun.{IsLongestRun, IsRunIn, ReturnsRun, run_bytes, taken_bytes, taken_events}
 use Rattle.vte_core.specs.declared.reader.run.Run.{Run}
 use Rattle.vte_core.specs.declared.reader.run.RunKind.{RunKind}
-use Rattle.vte_core.specs.declared.reader.run.RunKind.TheVariants.{Data as DataKind, Nothing as NoKind, Text as TextKind}
+use Rattle.vte_core.specs.declared.reader.run.RunKind.TheVariants.{Data as DataKind, NoRun, Text as TextKind}
 use Rattle.vte_core.specs.declared.reader.run.RunRange.{RunRange}
 use Rattle.vte_core.specs.declared.reader.run.Taken.{Taken}
 use Rattle.vte_core.proofs.lemmas.bytes.Classes.{data_ends_nothing}
-use Rattle.vte_core.proofs.lemmas.positions.Progress.{call_ends-comes, call_ends-reads, place-settled_text}
+use Rattle.vte_core.proofs.lemmas.positions.SettledStates.{place-settled_text}
+use Rattle.vte_core.proofs.lemmas.positions.CallEnds.{call_ends-comes, call_ends-reads}
 use Rattle.vte_core.proofs.lemmas.positions.TextRuns.{bytes_lead-text}
-use Rattle.vte_core.proofs.lemmas.fields.PlaceOfState.{is_at-in, IsPlace}
+use Rattle.vte_core.proofs.lemmas.fields.PlaceOfState.{is_at-in, IsReachable}
 use Rattle.vte_core.proofs.lemmas.places.PlaceLeads.{data-put}
 use Rattle.vte_core.proofs.lemmas.streams.After.{added-nothing, added-reads, after-nothing, after-reads}
 use Rattle.vte_core.proofs.lemmas.places.BytesInStream.{bytes_lead-append, bytes_lead-byte, bytes_lead-nothing, no_escape}
@@ -21,7 +22,7 @@ use Rattle.vte_core.proofs.lemmas.places.BytesInStream.{bytes_lead-append, bytes
 
 has-nowhere : {B : Type 0} {limit : Option ℕ} {bytes : List ℕ} {from : ℕ} {range : RunRange} {parser : Machine B}
     → from ≤ length bytes → range.start ≡ from → range.end ≡ from
-    → range.kind ≡ NoKind → HasRun limit bytes range parser
+    → range.kind ≡ NoRun → HasRun limit bytes range parser
 has-nowhere {limit} {bytes} {from} {range} {parser} within starts ends kind =
     search (rules, arith, added-nothing, append-nil)
 
@@ -34,22 +35,22 @@ outside-text_and_data state no_text no_data = search (rules, arith)
 -- ---- a run of text leads from between characters back there
 
 pub settled-text : {state : State} {unfinished : Unfinished} → state ≡ Text unfinished → IsSettled state
-    → state ≡ Text Nothing
+    → state ≡ Text Empty
 settled-text {unfinished} is_text settled = search (rules, arith)
 
 -- A run has bytes that lead from the parser's place to the same place.
 has-run : {B : Type 0} {limit : Option ℕ} {bytes : List ℕ} {range : RunRange} {parser : Machine B} {here : Place}
-    → IsPlace here
+    → IsReachable here
     → ((place : Place) → IsAtPlace limit parser place → place ≡ here)
     → BytesLead limit here (bytes_at bytes range) (kind_events range.kind (bytes_at bytes range)) here
-    → IsRange bytes range.start range.end → AreOfKind range.kind (bytes_at bytes range)
+    → ArePositions bytes range.start range.end → AreOfKind range.kind (bytes_at bytes range)
     → IsWholeAt bytes range range.kind → HasRun limit bytes range parser
-has-run {limit} {bytes} {range} {parser} {here} is_place only reads is_range kind whole =
+has-run {limit} {bytes} {range} {parser} {here} is_reachable only reads is_range kind whole =
     search (rules, arith, added-reads, after-reads)
 
 -- The text from one position to another is a run.
 pub has-text : {B : Type 0} {limit : Option ℕ} {bytes : List ℕ} {from end : ℕ} {parser : Machine B}
-    → parser.state ≡ Text Nothing → from < end → end ≤ length bytes
+    → parser.state ≡ Text Empty → from < end → end ≤ length bytes
     → IsRun false bytes from end → HasNoRunAt false bytes end
     → HasRun limit bytes (record { start = from; end = end; kind = TextKind }) parser
 has-text {limit} {bytes} {from} {end} {parser} between low high is_run ended =
@@ -84,8 +85,8 @@ pub has-data : {B : Type 0} {limit : Option ℕ} {bytes : List ℕ} {from end : 
     → parser.state ≡ DeviceData → from < end → end ≤ length bytes
     → ArePut bytes from end → (end < length bytes → IsDeviceData (slice_index bytes end) → ⊥)
     → HasRun limit bytes (record { start = from; end = end; kind = DataKind }) parser
-has-data {limit} {bytes} {from} {end} {parser} begun low high are_put ended =
-    has-run tt (λ place is_at. data-by_place limit parser place (is_at-in begun is_at))
+has-data {limit} {bytes} {from} {end} {parser} in_state low high are_put ended =
+    has-run tt (λ place is_at. data-by_place limit parser place (is_at-in in_state is_at))
     (bytes_lead-data bytes (end - from) from (omega (arith, low, high))
     (λ k above below. are_put k above (omega (arith, low, below))))
     (record { in_order = omega (arith, low); within = high }) tt (low, ended)
@@ -93,9 +94,9 @@ has-data {limit} {bytes} {from} {end} {parser} begun low high are_put ended =
 -- ---- nothing open
 
 -- Between characters, a parser goes on as a new one does.
-pub reads-anew : {B : Type 0} {limit : Option ℕ} {stream : List ℕ} (parser : Machine B) → parser.state ≡ Text Nothing
+pub reads-again : {B : Type 0} {limit : Option ℕ} {stream : List ℕ} (parser : Machine B) → parser.state ≡ Text Empty
     → HasReadWithLimit limit parser stream → HasReadWithLimit limit parser []
-reads-anew {limit} parser begun has_read = search (rules, arith, place-settled_text, after-nothing)
+reads-again {limit} parser in_state has_read = search (rules, arith, place-settled_text, after-nothing)
 
 -- ---- a call comes to a run, or ends without one
 
@@ -110,7 +111,7 @@ module _ {V B : Type 0} {call : ChunkCall V} {old new : V} {range : RunRange} {b
 
   -- A call that finds no run ends at its position.
   pub comes-nowhere : {from : ℕ} → from ≤ length call.bytes → range.start ≡ from → range.end ≡ from
-      → range.kind ≡ NoKind
+      → range.kind ≡ NoRun
       → ((stream : List ℕ) → HasReadWithLimit call.limit before stream → IsAtPosition call old new stream from parser)
       → (from < length call.bytes → call.is_terminated new ≡ true) → ComesToRun call old new range before parser
   comes-nowhere within starts ends kind is_at stops = record {
@@ -137,7 +138,7 @@ takes-by_kind : (bytes : List ℕ) (range : RunRange) (kind : RunKind) (taken : 
     → TakesRun bytes range.end (bytes_at bytes range) kind taken
 takes-by_kind bytes range kind taken same of_kind size whole = search (rules, arith)
 
-run-size : (bytes : List ℕ) (range : RunRange) → IsRange bytes range.start range.end
+run-size : (bytes : List ℕ) (range : RunRange) → ArePositions bytes range.start range.end
     → length (bytes_at bytes range) ≡ range.end - range.start
 run-size bytes range is_range = search (rules, arith, length-take, length-drop)
 
@@ -158,14 +159,14 @@ module _ {V B : Type 0} {call : ChunkCall V} {old new : V} (run : Run) {range : 
     (taken : IsTaken range.kind (bytes_at call.bytes range) run.taken) where
   pub returns-run : call.may_stop ≡ true
       → ReturnsRun call.step call.is_terminated old new call.limit (HasReadWithLimit call.limit before) call.bytes run
-  returns-run does =
+  returns-run asks =
       let these = takes-run run.taken come.has taken in
       record {
         is_run = is_run-in come.has starts ends taken;
         comes =
             λ stream has_read.
             rw starts
-            (call_ends-comes does (omega (arith, come.has.is_range.in_order, come.has.is_range.within))
+            (call_ends-comes asks (omega (arith, come.has.is_range.in_order, come.has.is_range.within))
             (come.is_at_position stream has_read));
         adds =
             λ stream has_read.

@@ -1,6 +1,6 @@
 -- What a head gives, from its prefix. The parts of a head are cut off its prefix (`head_of-parts`), so a byte more
 -- changes only the last part that was reached.
-use Rattle.vte_core.proofs.Common.{append-nil, AreInClass, arith, Bool, Class, class_of, false, head_after, head_of, Intermediate, is_intermediate, is_marker, is_parameter_text, is_well_shaped, IsMarker, List, list_all, Marker, nat_tests, refl, rules, true, ℕ, [], ◌++◌, ◌∷◌, ◌≡◌}
+use Rattle.vte_core.proofs.Common.{append-nil, AreInClass, arith, Bool, Class, class_of, false, head_after, head_of, Intermediate, is_intermediate, is_marker, is_parameter_byte, is_well_shaped, IsMarker, List, list_all, Marker, nat_tests, refl, rules, true, ℕ, [], ◌++◌, ◌∷◌, ◌≡◌}
 use Rattle.vte_core.proofs.lemmas.bytes.Classes.{class-intermediate}
 
 -- The bytes don't begin with one of these classes.
@@ -8,12 +8,12 @@ abbrev BeginsWithout : (Class → Bool) → List ℕ → Type 0
 BeginsWithout has [] = Unit {0}
 BeginsWithout has (b ∷ rest) = has (class_of b) ≡ false
 
-parameter_is_no_marker : (class : Class) → is_parameter_text class ≡ true → is_marker class ≡ false
+parameter_is_no_marker : (class : Class) → is_parameter_byte class ≡ true → is_marker class ≡ false
 parameter_is_no_marker Marker parameter = cc
 parameter_is_no_marker _ parameter = refl
 
-head_after-parts : (marker parameters rest : List ℕ) → AreInClass is_parameter_text parameters
-    → BeginsWithout is_parameter_text rest
+head_after-parts : (marker parameters rest : List ℕ) → AreInClass is_parameter_byte parameters
+    → BeginsWithout is_parameter_byte rest
     → head_after marker (parameters ++ rest)
     ≡ record { marker = marker; parameter_text = parameters; tail = rest }
 head_after-parts marker [] [] are_parameters begins_without = refl
@@ -22,8 +22,8 @@ head_after-parts marker (p ∷ parameters) rest are_parameters begins_without =
     search (rules, arith, (head_after-parts marker parameters rest are_parameters.1 begins_without))
 
 -- `head_of` finds the three parts of a head.
-pub head_of-parts : (marker parameters rest : List ℕ) → IsMarker marker → AreInClass is_parameter_text parameters
-    → BeginsWithout is_parameter_text rest
+pub head_of-parts : (marker parameters rest : List ℕ) → IsMarker marker → AreInClass is_parameter_byte parameters
+    → BeginsWithout is_parameter_byte rest
     → (marker ++ parameters ≡ [] → BeginsWithout is_marker rest)
     → head_of (marker ++ (parameters ++ rest))
     ≡ record { marker = marker; parameter_text = parameters; tail = rest }
@@ -56,7 +56,7 @@ list_all-not [] b more no_intermediate = rw no_intermediate refl
 list_all-not (a ∷ bytes) b more no_intermediate = grind (arith, nat_tests, list_all-not bytes b more no_intermediate)
 
 -- `head_of` finds the parts of a head that is well shaped so far.
-pub held-parts : (marker parameters intermediates : List ℕ) → IsMarker marker → AreInClass is_parameter_text parameters
+pub held-parts : (marker parameters intermediates : List ℕ) → IsMarker marker → AreInClass is_parameter_byte parameters
     → AreInClass is_intermediate intermediates
     → head_of (marker ++ (parameters ++ intermediates))
     ≡ record { marker = marker; parameter_text = parameters; tail = intermediates }
@@ -64,7 +64,7 @@ held-parts marker parameters intermediates is_marker are_parameters are_intermed
     search (rules, arith, begins-intermediates, head_of-parts, append-nil)
 
 pub held-well_shaped : (marker parameters intermediates : List ℕ) → IsMarker marker
-    → AreInClass is_parameter_text parameters
+    → AreInClass is_parameter_byte parameters
     → AreInClass is_intermediate intermediates
     → is_well_shaped (head_of (marker ++ (parameters ++ intermediates))) ≡ true
 unfolding is_well_shaped

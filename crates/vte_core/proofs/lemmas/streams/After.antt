@@ -7,7 +7,7 @@ use Rattle.std.proofs.Common.{eqb-true}
 use Rattle.vte_core.proofs.lemmas.bytes.Utf8.{ascii-breaks, Tests}
 use Rattle.vte_core.proofs.lemmas.shapes.Outcomes.{report-append}
 use Rattle.vte_core.proofs.lemmas.shapes.FirstSegment.{text_outcome-broken}
-use Rattle.vte_core.proofs.lemmas.fields.PlaceOfState.{events_from-nothing, IsPlace, may_continue-truncated, open_bytes-at, outcome_from-nothing}
+use Rattle.vte_core.proofs.lemmas.fields.PlaceOfState.{events_from-nothing, IsReachable, may_continue-truncated, open_bytes-at, outcome_from-nothing}
 use Rattle.vte_core.proofs.lemmas.places.BytesInStream.{bytes_lead-byte, events-after_nothing, outcome_from-escape, waits-byte}
 use Rattle.vte_core.specs.Open.{kind_to_close, open_at_end}
 
@@ -29,15 +29,15 @@ takes_bytes-one is_no_escape takes = record {
   next = takes.next;
   performed = takes.performed;
   is_at = takes.is_at;
-  reads = bytes_lead-byte is_no_escape takes.leads;
+  leads = bytes_lead-byte is_no_escape takes.leads;
 }
 
 -- ---- a byte that is offered to an open character
 
 -- A byte that belongs to an open character is no ESC.
-pub carried_is_no_escape : (opened : List ℕ) (b : ℕ) → is_truncated opened ≡ true
+pub extending_is_no_escape : (opened : List ℕ) (b : ℕ) → is_truncated opened ≡ true
     → (is_well_formed (opened ++ b ∷ []) ≡ true) ⊎ (is_truncated (opened ++ b ∷ []) ≡ true) → eqb b escape ≡ false
-carried_is_no_escape opened b truncated carried = elim (cases_Bool (eqb b escape)) [
+extending_is_no_escape opened b truncated carried = elim (cases_Bool (eqb b escape)) [
   | inl is_escape ↦
       let same : b ≡ escape = eqb-true b escape is_escape in
       let tests : Tests (opened ++ b ∷ []) false false = ascii-breaks opened b truncated (omega arith) in
@@ -148,23 +148,23 @@ unfolding events
 after-events {limit} {stream} more is_after = search (rules, arith)
 
 -- What the stream leaves open is open at the place.
-pub after-left : {limit : Option ℕ} {stream : List ℕ} {place : Place} → IsAfter limit stream place → IsPlace place
+pub after-left : {limit : Option ℕ} {stream : List ℕ} {place : Place} → IsAfter limit stream place → IsReachable place
     → (outcome limit stream).left ≡ left_at limit place
-after-left {limit} {stream} {place} is_after is_place =
+after-left {limit} {stream} {place} is_after is_reachable =
     ap (λ s. (outcome limit s).left) (sym (append-nil stream)) ∙ ap (λ o. o.left) (is_after.goes_on [])
-    ∙ ap (λ o. o.left) (outcome_from-nothing limit place is_place)
+    ∙ ap (λ o. o.left) (outcome_from-nothing limit place is_reachable)
 
 pub after-open_character : {limit : Option ℕ} {stream : List ℕ} {place : Place} → IsAfter limit stream place
-    → IsPlace place
+    → IsReachable place
     → open_character stream ≡ open_at place
-after-open_character {limit} {stream} {place} is_after is_place =
-    sym (open_bytes-any limit stream) ∙ ap open_bytes (after-left is_after is_place) ∙ open_bytes-at limit place
+after-open_character {limit} {stream} {place} is_after is_reachable =
+    sym (open_bytes-any limit stream) ∙ ap open_bytes (after-left is_after is_reachable) ∙ open_bytes-at limit place
 
 -- If the bytes after a stream lead from its place to a next one, the longer stream leads to that place.
 pub after-reads : {limit : Option ℕ} {stream bytes : List ℕ} {place next : Place} {these : List Event}
-    → IsAfter limit stream place → BytesLead limit place bytes these next → IsPlace next
+    → IsAfter limit stream place → BytesLead limit place bytes these next → IsReachable next
     → IsAfter limit (stream ++ bytes) next
-after-reads {limit} {stream} {bytes} {next} {these} is_after reads is_place = record {
+after-reads {limit} {stream} {bytes} {next} {these} is_after reads is_reachable = record {
   goes_on = λ more. outcome_reads more ∙ ap (λ events. report events (outcome_from limit next more)) (sym events_read);
 }
   where
@@ -174,7 +174,7 @@ after-reads {limit} {stream} {bytes} {next} {these} is_after reads is_place = re
     outcome_reads more =
         ap (outcome limit) (append_assoc stream bytes more)
         ∙ is_after.goes_on (bytes ++ more)
-        ∙ ap (report (events limit stream)) (reads.reads more)
+        ∙ ap (report (events limit stream)) (reads.leads more)
         ∙ sym (report-append (events limit stream) these (outcome_from limit next more))
 
     events_read : events limit (stream ++ bytes) ≡ events limit stream ++ these
@@ -182,7 +182,7 @@ after-reads {limit} {stream} {bytes} {next} {these} is_after reads is_place = re
         ap (events limit) (sym (append-nil (stream ++ bytes)))
         ∙ events-reported limit ((stream ++ bytes) ++ [])
         ∙ ap (λ o. o.reported) (outcome_reads [])
-        ∙ ap (λ es. (events limit stream ++ these) ++ es) (events_from-nothing limit next is_place)
+        ∙ ap (λ es. (events limit stream ++ these) ++ es) (events_from-nothing limit next is_reachable)
         ∙ append-nil (events limit stream ++ these)
 
 -- What is added to a stream is what follows its place.
@@ -192,12 +192,12 @@ added-after {limit} {stream} bytes {place} is_after = search (rules, arith, afte
 
 -- What bytes that lead to a place add is what they report.
 pub added-reads : {limit : Option ℕ} {stream bytes : List ℕ} {place next : Place} {these : List Event}
-    → IsAfter limit stream place → BytesLead limit place bytes these next → IsPlace next
+    → IsAfter limit stream place → BytesLead limit place bytes these next → IsReachable next
     → added limit stream bytes ≡ these
-added-reads {limit} {bytes} {place} {next} {these} is_after reads is_place =
+added-reads {limit} {bytes} {place} {next} {these} is_after reads is_reachable =
     added-after bytes is_after
-    ∙ ap (events_from limit place) (sym (append-nil bytes)) ∙ ap (λ o. o.reported) (reads.reads [])
-    ∙ ap (λ events. these ++ events) (events_from-nothing limit next is_place) ∙ append-nil these
+    ∙ ap (events_from limit place) (sym (append-nil bytes)) ∙ ap (λ o. o.reported) (reads.leads [])
+    ∙ ap (λ events. these ++ events) (events_from-nothing limit next is_reachable) ∙ append-nil these
 
 -- A parser between characters of a text has read what gives no events.
 pub has_read-nothing : {B : Type 0} {limit : Option ℕ} {parser : Machine B} → IsAtPlace limit parser (InText [])

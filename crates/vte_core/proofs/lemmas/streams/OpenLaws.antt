@@ -1,6 +1,6 @@
 -- What is open at the end of a stream: nothing before the last ESC has a say in it, and an open character is the last
 -- bytes of the stream. By the definitions, part by part.
-use Rattle.vte_core.proofs.Common.{All, ap, append-nil, append_assoc, arith, body_outcome, body_rest, Bool, cases_Bool, class_of, concat, control_sequence_outcome, cut_at_escape, device_control_after_head, device_control_outcome, device_data_outcome, ends_command, ends_device_data, ends_head, eqb-true, escape, escape_outcome, EscapeSequence, from_first, inl, inr, is_cancel, is_key, length, List, None, open_at, open_bytes, open_character, Option, Outcome, outcome, Place, refl, rules, segments, segments_outcome, sequence_kind, sequence_outcome, SequenceKind, subst, sym, system_command_outcome, system_command_rest, text_outcome, with_bodies, ℕ, [], ◌++◌, ◌∙◌, ◌∷◌, ◌≡◌, ◌≢◌, ◌≤◌, ◌⊎◌}
+use Rattle.vte_core.proofs.Common.{All, ap, append-nil, append_assoc, arith, body_outcome, body_rest, Bool, cases_Bool, class_of, concat, control_sequence_outcome, cut_at_escape, device_control_after_head, device_control_outcome, device_data_outcome, ends_device_data, ends_head, ends_system_command, eqb-true, escape, escape_outcome, EscapeSequence, from_first, inl, inr, is_cancel, is_key, length, List, None, open_at, open_bytes, open_character, Option, Outcome, outcome, Place, refl, rules, segments, segments_outcome, sequence_kind, sequence_outcome, SequenceKind, subst, sym, system_command_outcome, system_command_rest, text_outcome, with_bodies, ℕ, [], ◌++◌, ◌∙◌, ◌∷◌, ◌≡◌, ◌≢◌, ◌≤◌, ◌⊎◌}
 use Rattle.vte_core.specs.Class.{ends_escape}
 use Rattle.vte_core.specs.ControlSequence.{control_sequence_rest}
 use Rattle.vte_core.specs.declared.parser.open.Open.TheVariants as kind
@@ -13,7 +13,7 @@ use Rattle.vte_core.specs.SequenceKind.{ControlSequence, DeviceControl, IgnoredS
 use Rattle.vte_core.proofs.lemmas.bytes.Utf8.{truncated-long}
 use Rattle.vte_core.proofs.lemmas.dividing.Division.{all_divided}
 use Rattle.vte_core.proofs.lemmas.dividing.Utf8Agrees.{cut-text}
-use Rattle.vte_core.proofs.lemmas.fields.PlaceOfState.{IsPlace}
+use Rattle.vte_core.proofs.lemmas.fields.PlaceOfState.{IsReachable}
 use Rattle.vte_core.proofs.lemmas.streams.After.{after-open_character}
 use Rattle.vte_core.proofs.lemmas.streams.StreamSteps.{leads_to}
 
@@ -44,7 +44,7 @@ ends-then {last} ends ends_on = record {
 ends-from_first : (passes : ℕ → Bool) (bytes : List ℕ) → Ends bytes (from_first passes bytes)
 ends-from_first passes [] = ends-all []
 ends-from_first passes (b ∷ bytes) = elim (cases_Bool (passes b)) [
-  | inl does ↦ rw does (ends-all (b ∷ bytes))
+  | inl asks ↦ rw asks (ends-all (b ∷ bytes))
   | inr not ↦ rw not (ends-after (b ∷ []) (ends-from_first passes bytes))
 ]
 
@@ -110,7 +110,7 @@ ends-device bytes = ends-then (ends-from_first (λ b. ends_head (class_of b)) by
 
 ends-command : (limit : Option ℕ) (bytes : List ℕ) → EndsOpen bytes (system_command_outcome limit bytes)
 unfolding system_command_outcome
-ends-command limit bytes = ends-then (ends-from_first ends_command bytes) (ends-rest _ _ _)
+ends-command limit bytes = ends-then (ends-from_first ends_system_command bytes) (ends-rest _ _ _)
   where
     ends-rest : (pieces : List (List ℕ)) (lost : Bool) (bytes : List ℕ)
         → EndsOpen bytes (system_command_rest pieces lost bytes)
@@ -203,13 +203,13 @@ opens-text text no_escapes =
 
 -- ---- an open character has at most three bytes, and the law
 
-open_at-at_most : (place : Place) → IsPlace place → length (open_at place) ≤ 3
-open_at-at_most place is_place = search (rules, arith, truncated-long)
+open_at-at_most : (place : Place) → IsReachable place → length (open_at place) ≤ 3
+open_at-at_most place is_reachable = search (rules, arith, truncated-long)
 
 open_character-at_most : (stream : List ℕ) → length (open_character stream) ≤ 3
 open_character-at_most stream =
     let leads = leads_to {limit = None} {stream = stream} in
-    rw (after-open_character leads.is_after leads.is_place) (open_at-at_most leads.place leads.is_place)
+    rw (after-open_character leads.is_after leads.is_reachable) (open_at-at_most leads.place leads.is_reachable)
 
 pub opens_late : OpensLate
 unfolding open_character

@@ -9,7 +9,7 @@ use Rattle.vte_core.specs.Outcome.{closing_events}
 use Rattle.vte_core.proofs.lemmas.streams.After.{added-reads, after-left, after-open_character, events-empty, events-reported, waits-broken}
 use Rattle.vte_core.proofs.lemmas.places.BytesInStream.{bytes_lead-escape, outcome-after_nothing}
 use Rattle.vte_core.proofs.lemmas.streams.StreamSteps.{events_grow, leads_to, LeadsTo, resynchronises}
-use Rattle.vte_core.proofs.lemmas.fields.PlaceOfState.{IsPlace}
+use Rattle.vte_core.proofs.lemmas.fields.PlaceOfState.{IsReachable}
 use Rattle.vte_core.proofs.lemmas.shapes.Outcomes.{report-append}
 use Rattle.vte_core.proofs.lemmas.shapes.BrokenCharacters.{breaks-no_byte}
 
@@ -136,18 +136,19 @@ ends_with_escape limit part =
     let leads : LeadsTo limit part = leads_to in
     events_grow limit part (escape ∷ [])
     ∙ ap (λ es. events limit part ++ es)
-    (added-reads leads.is_after (bytes_lead-escape leads.is_place) tt
-    ∙ ap closing_events (sym (after-left leads.is_after leads.is_place)))
+    (added-reads leads.is_after (bytes_lead-escape leads.is_reachable) tt
+    ∙ ap closing_events (sym (after-left leads.is_after leads.is_reachable)))
     ∙ ap (λ events. events ++ closing_events (outcome limit part).left) (events-reported limit part)
 
 -- ---- a stream goes on after a broken character as one that begins with the byte that broke it
 
 -- The byte that broke a character is the first one to be read after it.
-outcome_from-broken : (limit : Option ℕ) (place : Place) (b : ℕ) (unread more : List ℕ) → IsPlace place
+outcome_from-broken : (limit : Option ℕ) (place : Place) (b : ℕ) (unread more : List ℕ) → IsReachable place
     → breaks (open_at place) (b ∷ unread) ≡ true
     → outcome_from limit place (b ∷ more)
     ≡ report (Print replacement ∷ []) (outcome_from limit (InText []) (b ∷ more))
-outcome_from-broken limit place b unread more is_place broken = search (rules, arith, and_parts, waits-broken, not-true)
+outcome_from-broken limit place b unread more is_reachable broken =
+    search (rules, arith, and_parts, waits-broken, not-true)
 
 -- After a broken character, the stream goes on as one that begins with what is unread.
 outcome-broken : (limit : Option ℕ) (stream unread more : List ℕ) → breaks (open_character stream) unread ≡ true
@@ -158,10 +159,10 @@ outcome-broken limit stream (b ∷ unread) more broken =
     let leads = leads_to in
     let here : breaks (open_at leads.place) (b ∷ unread) ≡ true =
     ap (λ (u : List ℕ). breaks u (b ∷ unread))
-    (sym (after-open_character leads.is_after leads.is_place)) ∙ broken in
+    (sym (after-open_character leads.is_after leads.is_reachable)) ∙ broken in
     leads.is_after.goes_on (b ∷ (unread ++ more))
     ∙ ap (report (events limit stream))
-    (outcome_from-broken limit leads.place b unread (unread ++ more) leads.is_place here)
+    (outcome_from-broken limit leads.place b unread (unread ++ more) leads.is_reachable here)
     ∙ sym
     (report-append (events limit stream) (Print replacement ∷ [])
     (outcome_from limit (InText []) (b ∷ (unread ++ more))))

@@ -1,13 +1,13 @@
 -- A stream of any bytes, from its prefix: each byte leads from a place to a place (`arrives`), so what a stream gives
 -- stays as it is whatever follows, and it begins again when all places lead to the same.
 use Rattle.vte_core.specs.Laws.{Grows, OpensSilently, Resyncs, ResyncsAfter}
-use Rattle.vte_core.proofs.Common.{added, All, All-append, All-nil, ap, append_assoc, AreFromOneByte, arith, AtEscape, BytesLead, Cancel, cases_lt, character_event, class_of, CommandToClose, CountsData, drop, escape, Event, events, events_from, inl, inr, InSystemCommand, InText, is_control_character, is_well_formed, IsAfter, IsBounded, IsOutsideRuns, left_at, length, length-append, List, nat_tests, None, open_at, open_character, open_data_count, Option, Place, PrintsNoAscii, refl, rules, scalar_of, Some, sym, ToClose, true, ℕ, [], ◌++◌, ◌+◌, ◌<◌, ◌∙◌, ◌∷◌, ◌≡◌, ◌≢◌, ◌≤◌}
+use Rattle.vte_core.proofs.Common.{added, All, All-append, All-nil, ap, append_assoc, AreBrief, arith, AtEscape, BytesLead, Cancel, cases_lt, character_event, class_of, CommandToClose, CountsData, drop, escape, Event, events, events_from, inl, inr, InSystemCommand, InText, is_control_character, is_well_formed, IsAfter, IsBounded, IsOutsideRuns, left_at, length, length-append, List, nat_tests, None, open_at, open_character, open_data_count, Option, Place, PrintsNoAscii, refl, rules, scalar_of, Some, sym, ToClose, true, ℕ, [], ◌++◌, ◌+◌, ◌<◌, ◌∙◌, ◌∷◌, ◌≡◌, ◌≢◌, ◌≤◌}
 use Rattle.vte_core.proofs.lemmas.places.BytesInStream.{bytes_lead-append, bytes_lead-byte, bytes_lead-escape, bytes_lead-nothing, cancel_is_no_escape, events-after_nothing, outcome_from-escape}
 use Rattle.vte_core.proofs.lemmas.places.Steps.{FitsLeft, Steps}
 use Rattle.vte_core.proofs.lemmas.places.TextSteps.{byte-cancels}
 use Rattle.vte_core.proofs.lemmas.streams.After.{added-after, added-reads, after-events, after-left, after-nothing, after-open_character, after-reads, events-empty}
 use Rattle.vte_core.proofs.lemmas.places.PlaceSteps.{steps}
-use Rattle.vte_core.proofs.lemmas.fields.PlaceOfState.{IsPlace}
+use Rattle.vte_core.proofs.lemmas.fields.PlaceOfState.{IsReachable}
 use Rattle.vte_core.proofs.lemmas.fields.Pieces.{pieces_fit}
 use Rattle.std.proofs.lemmas.Str.{length-encode}
 use Rattle.vte_core.proofs.lemmas.dividing.Utf8Agrees.{well_formed_is_encoded}
@@ -25,37 +25,37 @@ size_at limit place = open_data_count (left_at limit place)
 pub record Arrives (limit size : Option ℕ) (place : Place) (bytes : List ℕ) : Type 0 where
   pub reported : List Event
   pub next : Place
-  pub is_place : IsPlace next
-  pub reads : BytesLead limit place bytes reported next
+  pub is_reachable : IsReachable next
+  pub leads : BytesLead limit place bytes reported next
   pub bounded : All (IsBounded size) reported
   pub grows : limit ≡ None → size_at limit next ≤ size_at limit place + length bytes
 
-brief_bounded : (limit : Option ℕ) (reported : List Event) → AreFromOneByte limit reported
+brief_bounded : (limit : Option ℕ) (reported : List Event) → AreBrief limit reported
     → All (IsBounded limit) reported
 brief_bounded limit reported brief = search (rules, arith)
 
 -- The bytes arrive at a place, if the pieces that are left fit into the size at each place on the way.
-arrives : (limit size : Option ℕ) (place : Place) (bytes : List ℕ) → IsPlace place
+arrives : (limit size : Option ℕ) (place : Place) (bytes : List ℕ) → IsReachable place
     → ((on_way : Place) → (limit ≡ None → size_at limit on_way ≤ size_at limit place + length bytes)
     → FitsLeft size (left_at limit on_way)) → Arrives limit size place bytes
-arrives limit size place [] is_place fits =
+arrives limit size place [] is_reachable fits =
     record {
       reported = [];
       next = place;
-      is_place = is_place;
-      reads = bytes_lead-nothing;
+      is_reachable = is_reachable;
+      leads = bytes_lead-nothing;
       bounded = All-nil (IsBounded size);
       grows = λ _. omega arith;
     }
-arrives limit size place (b ∷ bytes) is_place fits =
-    let first = steps is_place in
-    let rest = arrives limit size first.next bytes first.is_place
+arrives limit size place (b ∷ bytes) is_reachable fits =
+    let first = steps is_reachable in
+    let rest = arrives limit size first.next bytes first.is_reachable
     (λ on_way at_most. fits on_way (λ no_limit. omega (arith, at_most no_limit, first.grows no_limit))) in
     record {
       reported = first.reported ++ rest.reported;
       next = rest.next;
-      is_place = rest.is_place;
-      reads = bytes_lead-append first.reads rest.reads;
+      is_reachable = rest.is_reachable;
+      leads = bytes_lead-append first.leads rest.leads;
       bounded =
           All-append (IsBounded size) first.reported rest.reported
           (brief_bounded size first.reported (first.brief size (fits place (λ _. omega arith)))) rest.bounded;
@@ -64,16 +64,16 @@ arrives limit size place (b ∷ bytes) is_place fits =
 
 -- ---- the events of a stream from the events that it reports
 
-pub reported_by_stream : {limit : Option ℕ} {next : Place} {stream : List ℕ} {reported : List Event} → IsPlace next
+pub reported_by_stream : {limit : Option ℕ} {next : Place} {stream : List ℕ} {reported : List Event} → IsReachable next
     → BytesLead limit (InText []) stream reported next → events limit stream ≡ reported
-reported_by_stream {limit} {stream} is_place reads =
+reported_by_stream {limit} {stream} is_reachable reads =
     ap (λ es. drop (length es) (events limit stream)) (sym (events-empty limit))
-    ∙ added-reads after-nothing reads is_place
+    ∙ added-reads after-nothing reads is_reachable
 
 -- The stream leads to a place, with events of bounded size.
 pub record LeadsTo (limit : Option ℕ) (stream : List ℕ) : Type 0 where
   pub place : Place
-  pub is_place : IsPlace place
+  pub is_reachable : IsReachable place
   pub is_after : IsAfter limit stream place
   pub bounded : All (IsBounded limit) (events limit stream)
 
@@ -83,9 +83,9 @@ leads_to {limit} {stream} =
     arrives limit limit (InText []) stream refl (λ place _. left-fits limit place) in
     record {
       place = arrives_there.next;
-      is_place = arrives_there.is_place;
-      is_after = after-reads after-nothing arrives_there.reads arrives_there.is_place;
-      bounded = rw (reported_by_stream arrives_there.is_place arrives_there.reads) arrives_there.bounded;
+      is_reachable = arrives_there.is_reachable;
+      is_after = after-reads after-nothing arrives_there.leads arrives_there.is_reachable;
+      bounded = rw (reported_by_stream arrives_there.is_reachable arrives_there.leads) arrives_there.bounded;
     }
 
 -- ---- the laws: events only grow, and a stream begins again at ESC and after CAN and SUB
@@ -98,10 +98,10 @@ events_grow limit stream more =
 
 grows_after : {limit : Option ℕ} (stream : List ℕ) {bytes : List ℕ} (more : List ℕ)
     (leads : LeadsTo limit stream) {next : Place}
-    {reported : List Event} → IsPlace next
+    {reported : List Event} → IsReachable next
     → BytesLead limit leads.place bytes reported next
     → events limit (stream ++ (bytes ++ more)) ≡ events limit (stream ++ bytes) ++ events_from limit next more
-grows_after {limit} stream {bytes} more leads is_place reads =
+grows_after {limit} stream {bytes} more leads is_reachable reads =
     search (rules, arith, append_assoc, after-events, after-reads)
 
 -- After CAN or SUB, what follows is read as a new stream.
@@ -110,7 +110,7 @@ resyncs_after limit end is_class stream more =
     let leads = leads_to in
     let last =
     bytes_lead-byte (cancel_is_no_escape end is_class)
-    (byte-cancels leads.is_place is_class) in
+    (byte-cancels leads.is_reachable is_class) in
     grows_after stream more leads refl last
     ∙ ap (λ es. events limit (stream ++ end ∷ []) ++ es) (sym (events-after_nothing limit more))
 
@@ -126,7 +126,7 @@ resynchronises limit = record {
   substitute = resyncs_after limit 0x1a refl;
   escape = λ stream more.
       let leads = leads_to in
-      grows_after stream more leads tt (bytes_lead-escape leads.is_place)
+      grows_after stream more leads tt (bytes_lead-escape leads.is_reachable)
       ∙ ap (λ es. events limit (stream ++ escape ∷ []) ++ es) (sym (escape_at_first limit more));
 }
 
@@ -142,17 +142,17 @@ pub record AddedByByte (limit : Option ℕ) (stream : List ℕ) (b : ℕ) : Type
 pub added-byte : (limit : Option ℕ) (stream : List ℕ) (b : ℕ) → AddedByByte limit stream b
 added-byte limit stream b =
     let leads = leads_to in
-    let step = steps leads.is_place in
-    let later = after-reads leads.is_after step.reads step.is_place in
+    let step = steps leads.is_reachable in
+    let later = after-reads leads.is_after step.leads step.is_reachable in
     record {
       place = leads.place;
-      begun = after-open_character leads.is_after leads.is_place;
+      begun = after-open_character leads.is_after leads.is_reachable;
       step = step;
-      ends = after-open_character later step.is_place;
-      reported = added-reads leads.is_after step.reads step.is_place;
+      ends = after-open_character later step.is_reachable;
+      reported = added-reads leads.is_after step.leads step.is_reachable;
     }
 
-pub bytes_are_brief : (limit : Option ℕ) (stream : List ℕ) (b : ℕ) → AreFromOneByte limit (added limit stream (b ∷ []))
+pub bytes_are_brief : (limit : Option ℕ) (stream : List ℕ) (b : ℕ) → AreBrief limit (added limit stream (b ∷ []))
 bytes_are_brief limit stream b =
     let adds = added-byte limit stream b in rw adds.reported (adds.step.brief limit (left-fits limit adds.place))
 
@@ -179,12 +179,12 @@ FitsLeft-by n _ within = tt
 pub counts_data : (stream bytes : List ℕ) → CountsData stream bytes
 counts_data stream bytes =
     let leads = leads_to {limit = None} {stream = stream} in
-    let c = arrives None (Some (size_at None leads.place + length bytes)) leads.place bytes leads.is_place
+    let c = arrives None (Some (size_at None leads.place + length bytes)) leads.place bytes leads.is_reachable
     (λ place at_most. FitsLeft-by _ (left_at None place) (at_most refl)) in
-    let before = ap open_data_count (after-left leads.is_after leads.is_place) in
-    let later = ap open_data_count (after-left (after-reads leads.is_after c.reads c.is_place) c.is_place) in
+    let before = ap open_data_count (after-left leads.is_after leads.is_reachable) in
+    let later = ap open_data_count (after-left (after-reads leads.is_after c.leads c.is_reachable) c.is_reachable) in
     record {
-      reported = rw (before, added-reads leads.is_after c.reads c.is_place) c.bounded;
+      reported = rw (before, added-reads leads.is_after c.leads c.is_reachable) c.bounded;
       left = omega (arith, before, later, c.grows refl);
     }
 

@@ -8,11 +8,11 @@ from_u32_unchecked-requires c =
     let spells =
     spells-four c.requires.lead.low c.requires.lead.high
     c.requires.second c.requires.third c.requires.fourth in
-    spells-scalar _ _ (spells-same spells c.number_of_four.ensures)
+    spells-scalar _ _ (spells-same spells c.code_point_of_four.ensures)
 
 pub returns : goal.returns
 returns c =
     let spells =
     spells-four c.requires.lead.low c.requires.lead.high
     c.requires.second c.requires.third c.requires.fourth in
-    c.from_u32_unchecked.ensures ∙ c.number_of_four.ensures ∙ spells.same
+    c.from_u32_unchecked.ensures ∙ c.code_point_of_four.ensures ∙ spells.same

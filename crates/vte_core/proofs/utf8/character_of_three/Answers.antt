@@ -8,11 +8,11 @@ from_u32_unchecked-requires c =
     let spells =
     spells-three c.requires.lead.low c.requires.lead.high c.requires.second
     c.requires.third in
-    spells-scalar _ _ (spells-same spells c.number_of_three.ensures)
+    spells-scalar _ _ (spells-same spells c.code_point_of_three.ensures)
 
 pub returns : goal.returns
 returns c =
     let spells =
     spells-three c.requires.lead.low c.requires.lead.high c.requires.second
     c.requires.third in
-    c.from_u32_unchecked.ensures ∙ c.number_of_three.ensures ∙ spells.same
+    c.from_u32_unchecked.ensures ∙ c.code_point_of_three.ensures ∙ spells.same

@@ -3,4 +3,4 @@ use Rattle.vte_types.proofs.lemmas.Words.{after_word-append, after_word-other}
 use Rattle.vte_types.proofs.laws.words_are_prefixes.Goals as goal
 
 pub returns : goal.returns
-returns c = record { front = after_word-append; other = after_word-other }
+returns c = record { front = after_word-append; no_prefix = after_word-other }

@@ -3,4 +3,4 @@ use Rattle.vte_types.proofs.lemmas.Words.{bytes_eq-longer, bytes_eq-other, bytes
 use Rattle.vte_types.proofs.laws.words_differ_from_other_texts.Goals as goal
 
 pub returns : goal.returns
-returns c = record { other = bytes_eq-other; shorter = bytes_eq-shorter; longer = bytes_eq-longer }
+returns c = record { unequal = bytes_eq-other; shorter = bytes_eq-shorter; longer = bytes_eq-longer }

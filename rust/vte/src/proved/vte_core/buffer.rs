@@ -25,8 +25,8 @@ pub(crate) trait Buffer {
     fn append(&mut self, reader: Reader, input: &[u8], from: usize, to: usize);
 }
 
-/// An array, once there are bytes: to clear it takes time, and a parser that C makes for one call
-/// seldom needs it.
+/// An array that is made when the first byte comes: clearing one takes time, and a parser that C
+/// makes for one call seldom needs it.
 impl<const N: usize> Buffer for Option<ArrayVec<u8, N>> {
     fn bytes(&self) -> &[u8] {
         match self {

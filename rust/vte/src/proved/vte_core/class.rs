@@ -22,23 +22,22 @@ pub(crate) fn is_layout(byte: u8) -> bool {
 }
 
 /// Returns whether a byte is CAN, SUB or ESC, which end whatever is open.
-pub(crate) fn ends_body(byte: u8) -> bool {
+pub(crate) fn ends_sequence(byte: u8) -> bool {
     byte == CANCEL || byte == SUBSTITUTE || byte == ESCAPE
 }
 
-/// Returns whether a byte is surely none of CAN, SUB and ESC, because it isn't one of 18..1B, which
-/// compilers test by one comparison.
+/// Returns whether a byte is outside 18..1B, and so none of CAN, SUB and ESC. Compilers test this
+/// by one comparison.
 pub(crate) fn cannot_end(byte: u8) -> bool {
     byte < CANCEL || byte > ESCAPE
 }
 
-/// Returns whether a byte is one of the data of a device control string: plain controls and
-/// 20..7E.
+/// Returns whether a byte is data of a device control string: a plain control or 20..7E.
 pub(crate) fn is_device_data(byte: u8) -> bool {
     (byte >= 0x20 && byte < 0x7f) || is_plain_control(byte)
 }
 
-/// Returns whether a byte is data of an operating system command, and no `;`.
+/// Returns whether a byte is data of an operating system command, other than `;`.
 #[inline(always)]
 pub(crate) fn is_command_data(byte: u8) -> bool {
     // One comparison passes most bytes.
@@ -61,11 +60,11 @@ pub(crate) fn digit_of(byte: u8) -> Option<u32> {
 }
 
 /// Returns whether a byte is a digit or a separator `0`..`;`.
-pub(crate) fn is_parameter_text(byte: u8) -> bool {
+pub(crate) fn is_parameter_byte(byte: u8) -> bool {
     byte >= b'0' && byte <= b';'
 }
 
-/// Returns whether a byte is part of a head: 20..3F.
+/// Returns whether a byte belongs to a head: 20..3F.
 pub(crate) fn is_head_byte(byte: u8) -> bool {
     byte >= 0x20 && byte < 0x40
 }
@@ -81,8 +80,7 @@ pub(crate) fn dispatches_escape(byte: u8) -> bool {
     byte >= 0x30 && byte < 0x7f
 }
 
-/// Returns whether a byte begins a string that means nothing after ESC: `X`, `^` and `_` for SOS,
-/// PM and APC.
+/// Returns whether a byte after ESC begins an ignored string: `X` (SOS), `^` (PM) or `_` (APC).
 pub(crate) fn begins_ignored_string(byte: u8) -> bool {
     byte == b'X' || byte == b'^' || byte == b'_'
 }

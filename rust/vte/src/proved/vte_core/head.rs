@@ -3,7 +3,7 @@
 //! control string.
 
 use crate::adapter::array_vec::ArrayVec;
-use crate::proved::vte_core::class::{digit_of, is_head_byte, is_intermediate, is_parameter_text};
+use crate::proved::vte_core::class::{digit_of, is_head_byte, is_intermediate, is_parameter_byte};
 use crate::proved::vte_core::params::Params;
 use crate::proved::vte_core::reader::Reader;
 
@@ -30,12 +30,13 @@ impl HeadProgress {
     }
 }
 
-/// How far a head has been read, and up to which position. The byte there was looked at.
+/// How far a head has been read, and up to which position. `next_byte` is the byte there, if there
+/// is one.
 #[derive(Clone, Copy)]
 pub(crate) struct HeadEnd {
     pub(crate) progress: HeadProgress,
     pub(crate) position: usize,
-    pub(crate) next: Option<u8>,
+    pub(crate) next_byte: Option<u8>,
 }
 
 /// What is collected of a sequence: intermediates and parameters.
@@ -64,14 +65,14 @@ impl Collected {
         }
     }
 
-    /// Forgets the intermediates.
-    pub(crate) fn begin_escape(&mut self) {
+    /// Removes the intermediates.
+    pub(crate) fn clear_intermediates(&mut self) {
         self.intermediates.clear();
         self.too_many_intermediates = false;
     }
 
-    /// Forgets the numbers, before a head. The ESC before it has forgotten the intermediates.
-    pub(crate) fn begin_head(&mut self) {
+    /// Removes the numbers before a head. The ESC before it has removed the intermediates.
+    pub(crate) fn clear_numbers(&mut self) {
         self.params.clear();
         self.number = 0;
         self.joined = false;
@@ -84,10 +85,10 @@ impl Collected {
         }
     }
 
-    /// Moves a number that was read into the parameters, or returns true if there are 32 already.
-    /// `joined` is the field: a caller that knows its value passes a constant, and needn't load it.
+    /// Adds a number to the parameters, or returns true if there are 32 already. `joined` is the
+    /// value of the field: a caller that knows it passes a constant, and needn't load it.
     #[inline(always)]
-    fn settle_number(&mut self, joined: bool, number: u16) -> bool {
+    fn store_number(&mut self, joined: bool, number: u16) -> bool {
         if self.params.is_full() {
             return true;
         }
@@ -98,7 +99,7 @@ impl Collected {
     /// Collects a `;` after a number that doesn't follow a colon.
     #[inline(always)]
     pub(crate) fn end_number(&mut self) {
-        let _ = self.settle_number(false, self.number);
+        let _ = self.store_number(false, self.number);
         self.number = 0;
     }
 
@@ -110,17 +111,16 @@ impl Collected {
             let number = (u32::from(self.number) * 10 + digit).min(u32::from(u16::MAX));
             self.number = number as u16;
         } else {
-            let _ = self.settle_number(self.joined, self.number);
+            let _ = self.store_number(self.joined, self.number);
             self.joined = byte == b':';
             self.number = 0;
         }
     }
 
-    /// Collects a byte of a head, or finds the head ill-shaped. Returns how far the head has been
-    /// read then.
+    /// Collects a byte of a head, or finds the head ill-shaped. Returns the new progress.
     #[inline(always)]
     fn collect_head_byte(&mut self, progress: HeadProgress, byte: u8) -> HeadProgress {
-        if is_parameter_text(byte) && progress.may_have_parameters() {
+        if is_parameter_byte(byte) && progress.may_have_parameters() {
             self.collect_parameter_byte(byte);
             return HeadProgress::Parameters;
         }
@@ -139,31 +139,31 @@ impl Collected {
         HeadProgress::IllShaped
     }
 
-    /// Reads the digits at a position of a head, if any, and `;` too if there may be `several`
-    /// numbers. Most heads have nothing else.
+    /// Reads the digits at a position in a head, if any, and also `;` if `reads_separators`. Most
+    /// heads have nothing else.
     #[inline(always)]
     pub(crate) fn read_numbers(
         &mut self,
         reader: Reader,
         reached: HeadProgress,
-        several: bool,
+        reads_separators: bool,
         input: &[u8],
         from: usize,
     ) -> HeadEnd {
         // A local, because the field would be cut to 16 bits and stored at each digit.
         let mut number = u32::from(self.number);
         let mut position = from;
-        let mut next = None;
+        let mut next_byte = None;
         while position < input.len() {
             let byte = reader.byte_at(input, position);
             if let Some(digit) = digit_of(byte) {
                 // 65,535 stands for all greater numbers.
                 number = (number * 10 + digit).min(u32::from(u16::MAX));
-            } else if several && byte == b';' {
-                let _ = self.settle_number(false, number as u16);
+            } else if reads_separators && byte == b';' {
+                let _ = self.store_number(false, number as u16);
                 number = 0;
             } else {
-                next = Some(byte);
+                next_byte = Some(byte);
                 break;
             }
             position += 1;
@@ -177,12 +177,12 @@ impl Collected {
         HeadEnd {
             progress,
             position,
-            next,
+            next_byte,
         }
     }
 
-    /// Reads the rest of a head that has come to `reached`, up to the first byte that isn't part
-    /// of it.
+    /// Reads the rest of a head, which has been read as far as `reached`, up to the first byte that
+    /// doesn't belong to it.
     #[inline(always)]
     pub(crate) fn read_head(
         &mut self,
@@ -193,11 +193,11 @@ impl Collected {
     ) -> HeadEnd {
         let mut progress = reached;
         let mut position = from;
-        let mut next = None;
+        let mut next_byte = None;
         while position < input.len() {
             let byte = reader.byte_at(input, position);
             if !is_head_byte(byte) {
-                next = Some(byte);
+                next_byte = Some(byte);
                 break;
             }
             progress = self.collect_head_byte(progress, byte);
@@ -206,15 +206,15 @@ impl Collected {
         HeadEnd {
             progress,
             position,
-            next,
+            next_byte,
         }
     }
 
-    /// Moves the last number into the parameters, and returns whether there were too many numbers
-    /// or intermediates. `joined` is the field, as in `settle_number`.
+    /// Adds the last number to the parameters, and returns whether there were too many numbers or
+    /// intermediates. `joined` is the value of the field, as in `store_number`.
     #[inline(always)]
     pub(crate) fn end_head(&mut self, joined: bool) -> bool {
-        let too_many_numbers = self.settle_number(joined, self.number);
+        let too_many_numbers = self.store_number(joined, self.number);
         self.too_many_intermediates || too_many_numbers
     }
 }

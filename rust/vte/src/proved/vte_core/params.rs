@@ -49,24 +49,25 @@ impl Params {
     /// Adds a number: to the last group if `joined`, or else as a group of its own.
     #[inline(always)]
     pub(crate) fn push(&mut self, joined: bool, value: u16) {
-        let length = take_joined(&mut self.lengths, joined);
+        let length = pop_if_joined(&mut self.lengths, joined);
         self.numbers.push(value);
         self.lengths.push(length.unwrap_or(0) + 1);
     }
 
-    /// How many numbers are in each group, and all numbers in a row.
+    /// Returns how many numbers are in each group, and all numbers in a row.
     #[cfg(feature = "__own")]
-    pub(crate) fn parts(&self) -> (&[u8], &[u16]) {
+    pub(crate) fn raw_parts(&self) -> (&[u8], &[u16]) {
         (self.lengths.as_slice(), self.numbers.as_slice())
     }
 
-    /// Returns the parameters with these parts, or none if the lengths don't cover all numbers.
+    /// Returns the parameters with these numbers in groups of these lengths, or none if the lengths
+    /// don't cover all numbers.
     #[cfg(feature = "__own")]
-    pub(crate) fn from_parts(
+    pub(crate) fn from_raw_parts(
         lengths: ArrayVec<u8, MAX_NUMBERS>,
         numbers: ArrayVec<u16, MAX_NUMBERS>,
     ) -> Self {
-        if are_lengths(lengths.as_slice(), numbers.as_slice()) {
+        if are_flat_groups(lengths.as_slice(), numbers.as_slice()) {
             Params { numbers, lengths }
         } else {
             Params::new()
@@ -93,9 +94,9 @@ impl Params {
     }
 }
 
-/// Removes the length of the last group if the next number joins it.
+/// Removes and returns the length of the last group, if the next number joins it.
 #[inline]
-fn take_joined(lengths: &mut ArrayVec<u8, MAX_NUMBERS>, joined: bool) -> Option<u8> {
+fn pop_if_joined(lengths: &mut ArrayVec<u8, MAX_NUMBERS>, joined: bool) -> Option<u8> {
     if joined {
         lengths.pop()
     } else {
@@ -105,7 +106,7 @@ fn take_joined(lengths: &mut ArrayVec<u8, MAX_NUMBERS>, joined: bool) -> Option<
 
 /// Returns whether these are the lengths of groups with these numbers.
 #[cfg(feature = "__own")]
-fn are_lengths(lengths: &[u8], numbers: &[u16]) -> bool {
+fn are_flat_groups(lengths: &[u8], numbers: &[u16]) -> bool {
     let mut left = numbers.len();
     for length in lengths {
         let length = usize::from(*length);

@@ -118,8 +118,8 @@ impl<const OSC_RAW_BUF_SIZE: usize> Parser<OSC_RAW_BUF_SIZE> {
         self.machine.is_open()
     }
 
-    /// Returns whether the operating system command that is open lost data bytes, or if none is
-    /// open, the last one: those that don't fit into the buffer, and those after the 16th piece.
+    /// Returns whether the open operating system command has lost data bytes, or the last one if
+    /// none is open. It loses those that don't fit into the buffer, and those after the 16th piece.
     pub fn command_lost_data(&self) -> bool {
         self.machine.command_lost_data()
     }

@@ -28,10 +28,10 @@ pub trait Perform {
     /// Called when the device control string ends.
     fn unhook(&mut self) {}
 
-    /// Called when an operating system command ends, with its pieces, which are 1 to 16, and
-    /// whether BEL ended it.
+    /// Called when an operating system command ends, with its 1 to 16 pieces, and whether BEL ended
+    /// it.
     ///
-    /// A command that CAN, SUB or ESC cancelled comes as one that `ESC \` ended. The next event
+    /// A command that CAN, SUB or ESC cancelled comes like one that `ESC \` ended. The next event
     /// tells: [`execute`](Self::execute) of CAN (18) or SUB (1A) if one of these cancelled it, and
     /// [`esc_dispatch`](Self::esc_dispatch) with the byte `\` if it ended. What follows the 16th
     /// piece, and what is over the parser's limit, is dropped without an event: a link (OSC 8) is

@@ -1,5 +1,8 @@
 // Written by tools/erase from crates/vte_core/src/reader.rt: edit that one.
 //! The only module that has the bytes of a call, and the only way to report events.
+//!
+//! A function of the parser that takes a byte and its position doesn't read that byte again: its
+//! caller has read it.
 
 mod advance;
 #[cfg(any(feature = "std", feature = "ansi"))]
@@ -22,8 +25,8 @@ pub use granularity::{ByCharacter, InRuns};
 pub use run::{Run, Taken};
 pub(crate) use run::{RunKind, RunRange};
 
-/// Reads the bytes of a call and reports events. It has no bytes: only Rattle's contracts need
-/// its count.
+/// Reads the bytes of a call and reports events. It takes no space at run time: only Rattle's
+/// contracts need its count.
 #[derive(Clone, Copy)]
 pub(crate) struct Reader {}
 
@@ -45,11 +48,12 @@ pub(crate) fn up_to(input: &[u8], to: usize) -> &[u8] {
 ///
 /// # Safety
 ///
-/// The bytes between them must be whole characters. They are if a search for the end of a run,
-/// begun at `from` or after whole characters that are there, ended at `to`: it passes one
-/// whole character at a time, a byte of ASCII, or a lead byte with all its continuation bytes,
-/// the first of which `may_begin_three` and `may_begin_four` test. Blocks whose bytes all fit, as
-/// `may_follow` tests, may end inside a character: the search then goes back to where it began.
+/// The bytes between the positions must be whole characters. They are if a search for the end of a
+/// run ended at `to`, and started at `from` or after whole characters that begin at `from`. Such a
+/// search passes whole characters: a byte of ASCII, or a lead byte with all its continuation bytes,
+/// the first of which `may_begin_three` and `may_begin_four` test. It also passes blocks whose
+/// bytes all fit, as `may_follow` tests. If a block ends inside a character, the search goes back
+/// to the start of that character.
 #[inline(always)]
 #[allow(unsafe_code)]
 pub(crate) unsafe fn text_between(bytes: &[u8], from: usize, to: usize) -> &str {
@@ -65,7 +69,7 @@ fn data_between(bytes: &[u8], from: usize, to: usize) -> &[u8] {
     &bytes[from..to]
 }
 
-/// Returns the run that is at a position, whose bytes were looked at.
+/// Returns the run in a range of the bytes.
 ///
 /// # Safety
 ///
@@ -76,7 +80,7 @@ unsafe fn take_run(bytes: &[u8], range: RunRange) -> Run<'_> {
         // SAFETY: this is what the caller promises.
         RunKind::Text => Taken::Text(unsafe { text_between(bytes, range.start, range.end) }),
         RunKind::Data => Taken::Data(data_between(bytes, range.start, range.end)),
-        RunKind::Nothing => Taken::Nothing,
+        RunKind::NoRun => Taken::Nothing,
     };
     Run {
         start: range.start,
@@ -113,8 +117,9 @@ impl Reader {
         Some(block)
     }
 
-    /// Returns the 19 bytes from a position on, or `None` if there are fewer. No copy is read at
-    /// two offsets, because loads across two stores wait for both.
+    /// Returns the 19 bytes from a position on, or `None` if there are fewer. Each array is loaded
+    /// from the input, because loads from a copy would span two stores and wait for both
+    /// (DECISIONS).
     #[inline(always)]
     pub(crate) fn get_window(self, input: &[u8], from: usize) -> Option<Window> {
         let bytes = first_chunk::<19>(&input[from..])?;
@@ -141,8 +146,8 @@ impl Reader {
         }
     }
 
-    /// Reports a byte that is neither printed nor a lead byte: a control, or a malformed sequence
-    /// alone.
+    /// Reports a byte that is neither printed nor a lead byte: it is a control, or malformed by
+    /// itself.
     #[inline(always)]
     pub(crate) fn report_lone_byte<P: CountedPerform<G> + ?Sized, G: Granularity>(
         self,

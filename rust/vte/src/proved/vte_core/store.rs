@@ -7,7 +7,7 @@ use crate::prelude::Vec;
 use crate::proved::vte_core::buffer::Buffer;
 use crate::proved::vte_core::reader::{CountedPerform, Granularity, Reader};
 
-/// The most pieces of a command.
+/// How many pieces of a command are kept.
 const MAX_PIECES: usize = 16;
 
 /// The items of a command, as far as they are kept.
@@ -57,7 +57,7 @@ impl<B: Buffer> Store<B> {
 
     /// Takes memory for this many more data bytes, unless they are dropped because 16 pieces have
     /// ended. Returns whether it is there.
-    pub(crate) fn take_memory(&mut self, more: usize) -> bool {
+    pub(crate) fn reserve_if_kept(&mut self, more: usize) -> bool {
         self.ends.is_full() || self.reserve(more)
     }
 
@@ -68,8 +68,8 @@ impl<B: Buffer> Store<B> {
         }
     }
 
-    /// Adds the data bytes of an input from one position to another, as many as there is room for;
-    /// none after 16 pieces.
+    /// Adds the data bytes of an input from one position to another, as many as there is room for.
+    /// Adds none after 16 pieces.
     pub(crate) fn push_data(&mut self, reader: Reader, input: &[u8], from: usize, to: usize) {
         let before = self.bytes.bytes().len();
         if !self.ends.is_full() {
@@ -114,7 +114,7 @@ impl<B: Buffer> Store<B> {
 impl<const N: usize> Store<Option<ArrayVec<u8, N>>> {
     /// Returns the data bytes, the ends of the first 16 pieces in them, and whether data bytes were
     /// dropped.
-    pub(crate) fn parts(&self) -> (&[u8], &[usize], bool) {
+    pub(crate) fn raw_parts(&self) -> (&[u8], &[usize], bool) {
         let bytes = match &self.bytes {
             Some(bytes) => bytes.as_slice(),
             None => &[],
@@ -122,7 +122,7 @@ impl<const N: usize> Store<Option<ArrayVec<u8, N>>> {
         (bytes, self.ends.as_slice(), self.lost)
     }
 
-    /// Holds these parts instead, without the ends if they can't be ends of pieces.
+    /// Replaces what is held. The ends are left out if they can't be ends of pieces.
     pub(crate) fn restore(&mut self, bytes: &[u8], ends: &[usize], lost: bool) {
         self.ends.clear();
         self.bytes = Some(ArrayVec::new());
@@ -146,15 +146,15 @@ impl Store<Vec<u8>> {
         self.bytes.len()
     }
 
-    /// Gives back the memory that its bytes don't need.
+    /// Frees the memory that the data bytes don't need.
     #[inline]
     pub(crate) fn shrink_to_fit(&mut self) {
         self.bytes.shrink_to_fit();
     }
 }
 
-/// Returns whether pieces with this many bytes in all can end at these positions, of which there
-/// are at most 16.
+/// Returns whether pieces with this many bytes in all can end at these positions, which are at most
+/// 16.
 #[cfg(feature = "__own")]
 fn are_piece_ends(ends: &[usize], count: usize) -> bool {
     ends.windows(2).all(|pair| pair[0] <= pair[1]) && ends.iter().all(|end| *end <= count)

@@ -5,7 +5,7 @@
 #[derive(Clone, Copy)]
 pub(crate) enum Unfinished {
     /// No character is open.
-    Nothing,
+    Empty,
     /// The first byte of two, three or four.
     One(u8),
     /// Two bytes of three or four.
@@ -16,41 +16,41 @@ pub(crate) enum Unfinished {
 
 /// What one more byte makes of an unfinished character.
 #[derive(Clone, Copy)]
-pub(crate) enum Carried {
+pub(crate) enum Extended {
     /// More bytes, and still no character.
-    Unfinished(Unfinished),
+    Truncated(Unfinished),
     /// The character is whole.
-    Whole(char),
+    WellFormed(char),
     /// The byte belongs to no character that the others began.
-    Broken,
+    Malformed,
 }
 
 impl Unfinished {
     /// Returns whether no character is open.
     pub(crate) fn is_nothing(self) -> bool {
-        matches!(self, Unfinished::Nothing)
+        matches!(self, Unfinished::Empty)
     }
 
     /// Adds a byte to those of an open character.
     #[inline(always)]
-    pub(crate) fn with_continuation(self, byte: u8) -> Carried {
+    pub(crate) fn extended_by(self, byte: u8) -> Extended {
         match self {
             Unfinished::One(first) if may_be_second(first, byte) => {
                 if first < 0xe0 {
-                    return whole_character(number_of_two(first, byte));
+                    return whole_character(code_point_of_two(first, byte));
                 }
-                Carried::Unfinished(Unfinished::Two(first, byte))
+                Extended::Truncated(Unfinished::Two(first, byte))
             }
             Unfinished::Two(first, second) if is_continuation(byte) => {
                 if first < 0xf0 {
-                    return whole_character(number_of_three(first, second, byte));
+                    return whole_character(code_point_of_three(first, second, byte));
                 }
-                Carried::Unfinished(Unfinished::Three(first, second, byte))
+                Extended::Truncated(Unfinished::Three(first, second, byte))
             }
             Unfinished::Three(first, second, third) if is_continuation(byte) => {
-                whole_character(number_of_four(first, second, third, byte))
+                whole_character(code_point_of_four(first, second, third, byte))
             }
-            _ => Carried::Broken,
+            _ => Extended::Malformed,
         }
     }
 }
@@ -97,33 +97,33 @@ pub(crate) fn is_continuation(byte: u8) -> bool {
     matches!(byte, 0x80..=0xbf)
 }
 
-// A remainder takes off the bits that only mark a byte as the first or a further one; what is left
-// are the digits of the character's number, six bits per further byte.
+// A remainder removes the bits that only mark a byte as the first or a further one. The others are
+// the digits of the character's number, six bits per further byte.
 
 /// Returns the number of the character of two bytes.
-fn number_of_two(first: u8, second: u8) -> u32 {
+fn code_point_of_two(first: u8, second: u8) -> u32 {
     (first % 32) as u32 * 0x40 + (second % 64) as u32
 }
 
 /// Returns the number of the character of three bytes.
-fn number_of_three(first: u8, second: u8, third: u8) -> u32 {
+fn code_point_of_three(first: u8, second: u8, third: u8) -> u32 {
     (first % 16) as u32 * 0x1000 + (second % 64) as u32 * 0x40 + (third % 64) as u32
 }
 
 /// Returns the number of the character of four bytes.
-fn number_of_four(first: u8, second: u8, third: u8, fourth: u8) -> u32 {
+fn code_point_of_four(first: u8, second: u8, third: u8, fourth: u8) -> u32 {
     (first % 8) as u32 * 0x40000
         + (second % 64) as u32 * 0x1000
         + (third % 64) as u32 * 0x40
         + (fourth % 64) as u32
 }
 
-/// Returns the character of this number, or `Broken` for a surrogate's, which no well-formed
-/// sequence has.
-fn whole_character(code: u32) -> Carried {
+/// Returns the character with this number, or `Malformed` for the number of a surrogate, which no
+/// well-formed sequence has.
+fn whole_character(code: u32) -> Extended {
     match char::from_u32(code) {
-        Some(c) => Carried::Whole(c),
-        None => Carried::Broken,
+        Some(c) => Extended::WellFormed(c),
+        None => Extended::Malformed,
     }
 }
 
@@ -131,7 +131,7 @@ fn whole_character(code: u32) -> Carried {
 #[inline(always)]
 pub(crate) fn character_of_two(first: u8, second: u8) -> char {
     // The remainders leave at most 7FF, below the surrogates: compilers see it, and drop the test.
-    char::from_u32(number_of_two(first, second)).unwrap_or(char::REPLACEMENT_CHARACTER)
+    char::from_u32(code_point_of_two(first, second)).unwrap_or(char::REPLACEMENT_CHARACTER)
 }
 
 /// Returns the character of three bytes.
@@ -141,7 +141,7 @@ pub(crate) fn character_of_three(first: u8, second: u8, third: u8) -> char {
     debug_assert!(may_begin_three(first, second) && is_continuation(third));
     // SAFETY: the remainders leave at most FFFF. Callers have tested `may_begin_three`, by which
     // the number isn't a surrogate, D800 to DFFF.
-    unsafe { char::from_u32_unchecked(number_of_three(first, second, third)) }
+    unsafe { char::from_u32_unchecked(code_point_of_three(first, second, third)) }
 }
 
 /// Returns the character of four bytes.
@@ -152,5 +152,5 @@ pub(crate) fn character_of_four(first: u8, second: u8, third: u8, fourth: u8) ->
     debug_assert!(is_continuation(third) && is_continuation(fourth));
     // SAFETY: callers have tested `may_begin_four`, by which the leading bits of the number are
     // 10000 to 10F000, and the remainders leave at most FFF for the others.
-    unsafe { char::from_u32_unchecked(number_of_four(first, second, third, fourth)) }
+    unsafe { char::from_u32_unchecked(code_point_of_four(first, second, third, fourth)) }
 }

@@ -19,8 +19,8 @@ pub const CSI: u8 = 6;
 pub const ESC: u8 = 7;
 
 /// An event, or the events of a text or of data. Groups of numbers and pieces of an operating
-/// system command are in the data area, from `start` on; a text or data is there if `flag` is 1,
-/// and otherwise in the input of the call.
+/// system command are in the data area, from `start` on. A text or data is in the data area if
+/// `flag` is 1, and otherwise in the input of the call.
 #[repr(C)]
 #[derive(Clone, Copy)]
 pub struct VteEvent {
@@ -106,7 +106,7 @@ impl VteEvent {
 
 /// Returns whether a kind is in a set of kinds.
 #[inline(always)]
-pub fn has(kinds: u32, kind: u8) -> bool {
+pub fn contains_kind(kinds: u32, kind: u8) -> bool {
     (kinds >> (kind % 32)) % 2 == 1
 }
 

@@ -4,23 +4,23 @@
 mod data;
 mod pause;
 
-use crate::proved::vte_c::event::{self, has, VteEvent};
+use crate::proved::vte_c::event::{self, contains_kind, VteEvent};
 use vte::{Params, Perform, Run, Taken};
 
-/// The most pieces of a command.
+/// How many pieces of a command the parser keeps.
 const MAX_PIECES: usize = 16;
 
-/// The most bytes of all pieces of a command, which is the limit of the parser.
+/// How many data bytes of a command the parser keeps.
 const MAX_PIECE_BYTES: usize = 1024;
 
 /// The most data bytes of one event: of a command, each piece after four bytes with its length.
-pub(crate) const MAX_DATA: usize = MAX_PIECE_BYTES + 4 * MAX_PIECES;
+pub(crate) const MAX_EVENT_DATA: usize = MAX_PIECE_BYTES + 4 * MAX_PIECES;
 
 /// The most data bytes of what one byte of a stream adds: an event, and a character after it.
-const MAX_ADDED: usize = MAX_DATA + 4;
+const MAX_DATA_PER_BYTE: usize = MAX_EVENT_DATA + 4;
 
-/// Returns whether a command has the most pieces, or with their lengths the most data bytes that a
-/// parser with a limit keeps. Any other has lost no data.
+/// Returns whether a command has 16 pieces, or at least 1,024 bytes with the lengths of its pieces.
+/// Only such a command may have lost data.
 fn is_at_limit(pieces: usize, size: usize) -> bool {
     pieces >= MAX_PIECES || size >= MAX_PIECE_BYTES
 }
@@ -33,12 +33,12 @@ fn bytes_of_one(number: u16) -> [u8; 3] {
 /// Writes events of some kinds into the caller's buffers, each as a whole or not at all.
 ///
 /// It is terminated if there is no room for what one byte may add: two events, and the data of one
-/// and of a character. It also is after a command that may have lost data, so that the parser can
-/// be asked whether it has, and after an event of the kinds that stop.
+/// and of a character. It is also terminated after an event of the kinds that stop, and after a
+/// command that may have lost data, so that the parser can be asked whether it has.
 pub(crate) struct EventWriter<'a> {
     events: &'a mut [VteEvent],
     area: &'a mut [u8],
-    // for how many data bytes there is room, whose offsets 32 bits hold
+    // how many data bytes there is room for, at offsets of 32 bits
     size: usize,
     // how many events and data bytes were written
     count: usize,
@@ -46,13 +46,13 @@ pub(crate) struct EventWriter<'a> {
     // the kinds to write, those after which to stop, and whether one of these was written
     kinds: u32,
     stops: u32,
-    met: bool,
-    // whether a command came of which the parser wasn't asked yet, and the index of its record
+    has_stopped: bool,
+    // whether a command came about which the parser wasn't asked yet, and the index of its record
     paused: bool,
-    command: usize,
-    // from how many events on the buffers are full: from none on once one that stops was written,
+    command_index: usize,
+    // the number of events at which the buffers are full: 0 once an event that stops was written,
     // in a pause, and if the area has little room left
-    full_count: usize,
+    full_at: usize,
 }
 
 impl<'a> EventWriter<'a> {
@@ -63,7 +63,7 @@ impl<'a> EventWriter<'a> {
         kinds: u32,
         stops: u32,
     ) -> Self {
-        let full_count = events.len() - 1;
+        let full_at = events.len() - 1;
         let size = area.len().min(u32::MAX as usize);
         EventWriter {
             events,
@@ -73,22 +73,22 @@ impl<'a> EventWriter<'a> {
             used: 0,
             kinds,
             stops,
-            met: false,
+            has_stopped: false,
             paused: false,
-            command: 0,
-            full_count,
+            command_index: 0,
+            full_at,
         }
     }
 
     /// Returns whether events of a kind are written.
     #[inline(always)]
     fn writes(&self, kind: u8) -> bool {
-        has(self.kinds, kind)
+        contains_kind(self.kinds, kind)
     }
 
     /// Returns whether there may be no room for what one byte adds, or a stop or a pause has come.
-    pub(crate) fn is_full(&self) -> bool {
-        self.count >= self.full_count
+    pub(crate) fn must_return(&self) -> bool {
+        self.count >= self.full_at
     }
 
     /// Returns how many events were written.
@@ -108,9 +108,9 @@ impl<'a> EventWriter<'a> {
         if count < self.events.len() {
             self.events[count] = event;
             self.count = count + 1;
-            if has(self.stops, event.kind) {
-                self.met = true;
-                self.full_count = 0;
+            if contains_kind(self.stops, event.kind) {
+                self.has_stopped = true;
+                self.full_at = 0;
             }
         }
     }
@@ -133,8 +133,8 @@ impl<'a> EventWriter<'a> {
         self.add_written(event, end);
     }
 
-    /// Writes a run that is in the input, where the parser returned it for the bytes from an offset
-    /// on. Without a run it goes on after a pause, in which the parser returns none.
+    /// Writes a run that is in the input. The parser returned it for the bytes from an offset on.
+    /// Without a run it goes on after a pause, in which the parser returns none.
     #[inline(always)]
     pub(crate) fn add_run(&mut self, from: usize, run: Run<'_>, lost_data: bool) {
         let start = (from + run.start) as u32;
@@ -217,13 +217,13 @@ impl<'a> EventWriter<'a> {
     /// Writes an operating system command.
     fn add_command(&mut self, pieces: &[&[u8]], bell_terminated: bool) {
         if self.writes(event::OSC) {
-            let (command, start) = (self.count, self.used);
+            let (command_index, start) = (self.count, self.used);
             let end = self.write_pieces(pieces);
             let event = VteEvent::new(event::OSC, 0)
                 .with_flag(bell_terminated)
                 .with_count(pieces.len());
             self.add_written(event, end);
-            self.pause_if(is_at_limit(pieces.len(), end - start), command);
+            self.pause_if(is_at_limit(pieces.len(), end - start), command_index);
         }
     }
 
@@ -233,8 +233,8 @@ impl<'a> EventWriter<'a> {
         if end <= self.size && self.count < self.events.len() {
             let start = self.used as u32;
             self.used = end;
-            if self.size - self.used < MAX_ADDED {
-                self.full_count = 0;
+            if self.size - self.used < MAX_DATA_PER_BYTE {
+                self.full_at = 0;
             }
             self.add_record(VteEvent { start, ..event });
         }
@@ -290,6 +290,6 @@ impl Perform for EventWriter<'_> {
     }
 
     fn terminated(&self) -> bool {
-        self.is_full()
+        self.must_return()
     }
 }

@@ -5,15 +5,15 @@ use crate::proved::vte_c::event::VteEvent;
 use crate::proved::vte_c::events::EventWriter;
 use vte::{Parser, Saved};
 
-/// For how many events there must be room: what two bytes add.
+/// The number of events for which there must be room: what two bytes add.
 pub(crate) const MIN_EVENTS: usize = 4;
 
-/// For how many data bytes there must be room: more than two bytes add. A call then reads at least
-/// one, for which 3 events and 1,095 bytes would do: first comes U+FFFD for a character that this
-/// byte breaks, and then there must be room for what one byte may add.
+/// The number of data bytes for which there must be room: more than two bytes add. A call then
+/// reads at least one byte, for which 3 events and 1,095 bytes would do: U+FFFD comes first for a
+/// character that this byte breaks, and then there must be room for what one byte may add.
 pub(crate) const MIN_DATA: usize = 2112;
 
-/// What a call with less room returns, which is no count of bytes.
+/// The return value of a call with less room, which is no count of bytes.
 pub(crate) const NO_ROOM: usize = usize::MAX;
 
 /// How many events, and how many bytes of the data area (`data` in vte.h), a call wrote.
@@ -67,7 +67,7 @@ fn read_into(saved: &mut Saved, bytes: &[u8], writer: &mut EventWriter<'_>) -> u
 /// Reads bytes until they end or the buffers are full.
 fn read_all(parser: &mut Parser<1024>, bytes: &[u8], writer: &mut EventWriter<'_>) -> usize {
     let mut position = 0;
-    while position < bytes.len() && !writer.is_full() {
+    while position < bytes.len() && !writer.must_return() {
         let read = read_more(parser, bytes, position, writer);
         if read == 0 {
             return position;
@@ -77,7 +77,7 @@ fn read_all(parser: &mut Parser<1024>, bytes: &[u8], writer: &mut EventWriter<'_
     position
 }
 
-/// Reads up to a run of text or data, and the run, whose record it writes.
+/// Reads bytes up to and including a run of text or data, and writes the record of the run.
 fn read_more(
     parser: &mut Parser<1024>,
     bytes: &[u8],

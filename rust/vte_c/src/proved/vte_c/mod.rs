@@ -1,7 +1,7 @@
 // Written by tools/erase from crates/vte_c/src/lib.rt: edit that one.
 //! The parser as a library for C, and for whatever links C.
 //!
-//! A parser is plain data that the caller owns, and so are the buffers for what it tells. The
+//! A parser is plain data that the caller owns, and so are the buffers for what it reports. The
 //! library never allocates, and keeps no pointer. `vte.h` declares these functions for C, and
 //! docs/C.md says how to use them. A pointer may be null only if its length is 0, and what is
 //! written may not overlap anything else that is passed.
@@ -26,11 +26,11 @@ const EVENT_SIZE: usize = size_of::<VteEvent>();
 /// Reads bytes, and writes the events of some kinds that they add to the stream. Returns how many
 /// bytes were read.
 ///
-/// Text is in runs, and so is the data of device control strings: a record says where one is in the
-/// bytes, or in the data area.
+/// Text is in runs, and so is the data of device control strings: a record says where a run is in
+/// the bytes, or in the data area.
 ///
 /// It stops early when the buffers are nearly full, and after an event of the kinds `stops`, which
-/// at most one follows: call it again with the rest. If there is room for fewer than
+/// at most one more event follows. Call it again with the rest. If there is room for fewer than
 /// `vte_min_events` events or `vte_min_data` data bytes, it reads nothing and returns
 /// `usize::MAX`.
 pub fn vte_feed(
@@ -76,17 +76,17 @@ pub fn vte_event_size() -> usize {
     EVENT_SIZE
 }
 
-/// Returns for how many events there has to be room.
+/// Returns the number of events for which there must be room.
 pub fn vte_min_events() -> usize {
     feed::MIN_EVENTS
 }
 
-/// Returns for how many data bytes there has to be room.
+/// Returns the number of data bytes for which there must be room.
 pub fn vte_min_data() -> usize {
     feed::MIN_DATA
 }
 
-/// Returns for how many bytes of text there has to be room.
+/// Returns the number of bytes of text for which there must be room.
 pub fn vte_min_text() -> usize {
     text::MIN_TEXT
 }

@@ -4,11 +4,11 @@
 use crate::proved::vte_c::feed::NO_ROOM;
 use vte::{Params, Parser, Perform, PerformText, Saved};
 
-/// For how many bytes of text there must be room: what two bytes of a stream add.
+/// The number of bytes of text for which there must be room: what two bytes of a stream add.
 pub(crate) const MIN_TEXT: usize = 16;
 
 /// The most bytes of text that one byte of a stream adds: one byte adds at most two characters.
-const MAX_TEXT: usize = 8;
+const MAX_TEXT_PER_BYTE: usize = 8;
 
 /// Writes text into the caller's buffer, as long as all of it fits.
 struct TextWriter<'a> {
@@ -19,7 +19,7 @@ struct TextWriter<'a> {
 }
 
 impl TextWriter<'_> {
-    /// Returns for how many more bytes there is room.
+    /// Returns the number of bytes for which there is still room.
     fn left(&self) -> usize {
         self.bytes.len().saturating_sub(self.used)
     }
@@ -127,9 +127,9 @@ fn read_into(saved: &mut Saved, bytes: &[u8], writer: &mut TextWriter<'_>) -> us
     parser.restore(saved);
     let mut count = 0;
     // The text of a chunk fits whatever its bytes are, so no character needs a stop.
-    while count < bytes.len() && writer.left() >= MAX_TEXT {
+    while count < bytes.len() && writer.left() >= MAX_TEXT_PER_BYTE {
         let unread = &bytes[count..];
-        let size = unread.len().min(writer.left() / MAX_TEXT);
+        let size = unread.len().min(writer.left() / MAX_TEXT_PER_BYTE);
         let chunk = &unread[..size];
         parser.advance_text(writer, chunk);
         count += chunk.len();

@@ -7,12 +7,12 @@ use std::io::{self, Read, Write};
 ///
 /// A source that has failed stays failed.
 pub trait Source {
-    /// Moves the next bytes to the front of `buffer` and returns their number, which is 0 for a
-    /// non-empty `buffer` only at the end.
+    /// Reads the next bytes into the front of `buffer`, and returns how many. Reads 0 bytes only at
+    /// the end or into an empty buffer.
     ///
     /// # Errors
     ///
-    /// Fails if the source has failed. Then no byte was taken.
+    /// Fails if the source has failed. Then no byte is consumed.
     fn read(&mut self, buffer: &mut [u8]) -> Result<usize, ()>;
 }
 

@@ -61,13 +61,13 @@ impl Lines {
         }
     }
 
-    /// Begins a line. Its parts are pushed until `end`.
+    /// Begins a line. What is pushed until `end` belongs to it.
     pub(crate) fn begin(&mut self) {
         self.start = self.bytes.len();
         self.fits = true;
     }
 
-    /// Adds a text to the line, if what came before it and the text fit.
+    /// Adds a text to the line, if it fits and everything before it in the line did.
     pub(crate) fn push(&mut self, text: &[u8]) {
         if self.fits {
             self.fits = self.bytes.try_extend_from_slice(text).is_ok();

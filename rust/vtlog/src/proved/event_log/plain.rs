@@ -6,7 +6,7 @@ use crate::proved::event_log::lines::Lines;
 use vte::{Params, Perform, PerformText};
 
 /// The most bytes of text that one byte of a stream adds: one byte adds at most two characters.
-const MAX_TEXT: usize = 8;
+const MAX_TEXT_PER_BYTE: usize = 8;
 
 /// Collects the text of a stream, without its sequences, in a buffer of 8,192 bytes.
 ///
@@ -103,7 +103,7 @@ impl Collector for Plain {
     fn collect<'a>(&mut self, parser: &mut RunParser, bytes: &'a [u8]) -> &'a [u8] {
         let mut unread = bytes;
         while !unread.is_empty() && !self.terminated() {
-            let size = self.texts.remaining_capacity() / MAX_TEXT;
+            let size = self.texts.remaining_capacity() / MAX_TEXT_PER_BYTE;
             let (chunk, rest) = unread.split_at(unread.len().min(size));
             parser.advance_text(self, chunk);
             unread = rest;

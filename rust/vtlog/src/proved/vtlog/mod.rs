@@ -73,14 +73,14 @@ fn log_streams(rt: &HostRuntime) -> io::Result<u8> {
     if let Some(error) = output.error() {
         let _ = eprintln!(rt; "vtlog: standard output: {error}");
     }
-    if let (2, Some(word)) = (status, unexpected(&args)) {
+    if let (2, Some(word)) = (status, find_unexpected(&args)) {
         let _ = eprintln!(rt; "vtlog: {word:?}: {HINT}");
     }
     Ok(status)
 }
 
 /// Returns the first argument that can't be where it is.
-fn unexpected<'a>(args: &[&'a str]) -> Option<&'a str> {
+fn find_unexpected<'a>(args: &[&'a str]) -> Option<&'a str> {
     match args {
         [] => None,
         [word] => Some(*word),

@@ -1,6 +1,6 @@
 -- The first group, and then each other one after `;`, are the text of all groups (`groups_written`). Without groups
 -- that text is empty.
-use Rattle.event_log.proofs.Common.{All-tail, append-nil, arith, Bor, common_steps, flat_map, get_or, IsFilled, List, map, refl, shown, sym, ℕ, [], ◌++◌, ◌∙◌, ◌≡◌}
+use Rattle.event_log.proofs.Common.{All-tail, append-nil, arith, Bor, common_steps, flat_map, get_or, IsNonEmpty, List, map, refl, shown, sym, ℕ, [], ◌++◌, ◌∙◌, ◌≡◌}
 use Rattle.event_log.proofs.Common.{after_semicolon, group_text, groups_written, shown-nil}
 use Rattle.event_log.proofs.lemmas.Fields.{extends_then}
 use Rattle.event_log.proofs.lines.Lines.push_groups.Goals as goal
@@ -12,7 +12,7 @@ loop-group-init c =
     let begun = rw parts at c.iter-groups.ensures.groups.filled in
     rw (c.into_iter-group-iterator.ensures.into_iter_gives) (record {
       along = rw parts refl;
-      filled = All-tail IsFilled c.in-Some.first.now _ begun;
+      filled = All-tail IsNonEmpty c.in-Some.first.now _ begun;
       pushed = rw (parts, append-nil) (extends_then c.push.ensures c.push_numbers.ensures);
     })
 
@@ -24,7 +24,8 @@ loop-group-preserved c =
     let pushed_more = extends_then invariant.pushed separated in
     record {
       along = grind (arith, common_steps);
-      filled = All-tail IsFilled c.in-Some-group.group.now c.next-in-loop-group.new.self (rw next at invariant.filled);
+      filled = All-tail IsNonEmpty c.in-Some-group.group.now c.next-in-loop-group.new.self
+          (rw next at invariant.filled);
       pushed = grind (arith, common_steps, pushed_more);
     }
 

@@ -1,13 +1,13 @@
 -- The text of a chunk has at most eight bytes for each of its own, so there is room for all of it (`text-kept`).
-use Rattle.event_log.proofs.Common.{ap, arith, length, Record, rules, sym, take-append-drop, usual_limit, ◌<◌, ◌∙◌}
+use Rattle.event_log.proofs.Common.{ap, arith, default_limit, HeldText, length, rules, sym, take-append-drop, ◌<◌, ◌∙◌}
 use Rattle.event_log.proofs.lemmas.Lengths.{text-kept}
-use Rattle.event_log.proofs.lemmas.Records.{room-for_unit}
+use Rattle.event_log.proofs.lemmas.HeldTexts.{room-for_unit}
 use Rattle.event_log.proofs.plain.PlainCollector.collect.Goals as goal
 
 pub loop-self-preserved : goal.loop-self-preserved
 loop-self-preserved c =
     let chunk = c.split_at.result.0.now in
-    let used = ap (λ (held : Record). length held.bytes) c.self.view_is in
+    let used = ap (λ (held : HeldText). length held.bytes) c.self.view_is in
     let half = room-for_unit c.loop-self.self (sym c.terminated.ensures ∙ c.if-not-terminated.true) in
     let left : 0 < length c.loop-self.unread.now = search rules in
     let not_empty : 0 < length chunk = omega arith in
@@ -16,9 +16,9 @@ loop-self-preserved c =
       nothing_read = λ same_length. absurd (omega arith);
       keeps = λ whole_text before.
           let has_kept = c.loop-self.invariant.keeps whole_text before in
-          text-kept chunk c.split_at.result.1.now (c.bytes_are_brief.ensures usual_limit) has_kept
+          text-kept chunk c.split_at.result.1.now (c.bytes_are_brief.ensures default_limit) has_kept
           (rw (c.split_at.ensures.front, c.split_at.ensures.back)
           (take-append-drop c.min.result c.loop-self.unread.now)) (omega arith)
-          (c.advance_text.ensures.performs has_kept.adds_up.since has_kept.adds_up.parsed)
-          (c.advance_text.ensures.reads has_kept.adds_up.since has_kept.adds_up.parsed);
+          (c.advance_text.ensures.performs has_kept.adds_up.already_read has_kept.adds_up.parsed)
+          (c.advance_text.ensures.reads has_kept.adds_up.already_read has_kept.adds_up.parsed);
     }

@@ -1,5 +1,5 @@
 -- The call stops before a line could be lost (`lines-kept`), and not before its first byte (`call-reads_some`).
-use Rattle.event_log.proofs.Common.{arith, length-drop, usual_limit}
+use Rattle.event_log.proofs.Common.{arith, default_limit, length-drop}
 use Rattle.std.proofs.lemmas.List.{take_rest}
 use Rattle.event_log.proofs.lemmas.Lengths.{call-reads_some, lines-kept}
 use Rattle.event_log.proofs.recorder.RecorderCollector.collect.Goals as goal
@@ -7,14 +7,15 @@ use Rattle.event_log.proofs.recorder.RecorderCollector.collect.Goals as goal
 pub returns-clause-progress : goal.returns-clause-progress
 returns-clause-progress c = λ not_empty.
     let has_read = c.requires.parsed in
-    let stops_exactly = c.advance_until_terminated-read.ensures.stops has_read.since has_read.parsed in
-    let further = call-reads_some c.requires.empty stops_exactly not_empty in
+    let stops_exactly = c.advance_until_terminated-read.ensures.stops has_read.already_read has_read.parsed in
+    let further = call-reads_some c.requires.holds_nothing stops_exactly not_empty in
     simp (take_rest, length-drop) (omega arith)
 
 pub returns-clause-collects : goal.returns-clause-collects
 returns-clause-collects c = λ whole_text before.
     let call = c.advance_until_terminated-read in
     rw take_rest
-    (lines-kept c.args.bytes.now (c.early_stops.ensures.goes_on usual_limit) (c.early_stops.ensures.units usual_limit)
-    c.requires.empty before (call.ensures.stops before.since before.parsed)
-    (call.ensures.reads before.since before.parsed))
+    (lines-kept c.args.bytes.now (c.early_stops.ensures.goes_on default_limit)
+    (c.early_stops.ensures.units default_limit)
+    c.requires.holds_nothing before (call.ensures.stops before.already_read before.parsed)
+    (call.ensures.reads before.already_read before.parsed))

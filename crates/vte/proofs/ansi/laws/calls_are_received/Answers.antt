@@ -14,7 +14,7 @@ returns-clause-goes_on g c = λ limit. replay-append _
 pub returns-clause-holds_well : goal.returns-clause-holds_well
 returns-clause-holds_well g c = λ limit. replay-well _
 
-pub returns-clause-only : goal.returns-clause-only
-returns-clause-only g c =
+pub returns-clause-unique_state : goal.returns-clause-unique_state
+returns-clause-unique_state g c =
     λ limit state end other steps steady well takes takes_other.
     replay-only_one _ steady state end other steps well takes takes_other

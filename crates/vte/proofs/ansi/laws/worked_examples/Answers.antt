@@ -12,7 +12,7 @@ use Rattle.vte_core.specs.SystemCommand.{kept_items, pieces_of, system_command_o
 use Rattle.vte_core.specs.Text.{character_event, executed_events, malformed_event, segment_event, text_outcome}
 use Rattle.vte_core.specs.Utf8.{is_truncated, is_well_formed, trailing_count, utf8_rows}
 use Rattle.vte_types.specs.NamedColor.{number_of_color}
-use Rattle.vte.specs.ControlCalls.{rows_without_intermediates}
+use Rattle.vte.specs.ControlSequenceCalls.{table_without_intermediates}
 use Rattle.vte.proofs.ansi.laws.worked_examples.Goals as goal
 
 pub returns : goal.returns
@@ -22,7 +22,7 @@ unfolding events outcome text_outcome segment_event character_event malformed_ev
     sequence_event
     numbers groups_of has_too_many_numbers
     system_command_outcome pieces_of kept_items digits chars is_utf8 trim_start trim_end encode_utf8 all_reset
-    number_of_color rows_without_intermediates
+    number_of_color table_without_intermediates
 returns c = record {
   executed = refl;
   escape = refl;

@@ -6,4 +6,4 @@ use Rattle.vte.proofs.ansi.split.strip_word.Goals as goal
 pub returns : goal.returns
 returns c =
     let stripped = strip_prefix_is Decides-eqb c.args.text.now c.args.word.now _ c.strip_prefix.ensures.cases in
-    grind (arith, stripped, c.words_are_prefixes.ensures.front, c.words_are_prefixes.ensures.other)
+    grind (arith, stripped, c.words_are_prefixes.ensures.front, c.words_are_prefixes.ensures.no_prefix)

@@ -7,7 +7,7 @@ use Rattle.vte_c.proofs.events.EventWriter.add.Goals as goal
 pub add_written-requires : goal.add_written-requires
 add_written-requires c =
     let held = c.write-end.ensures.holds _ _ (holds-nothing c.args.self.now) in
-    omega (arith, c.write-end.ensures.after, ap (λ (written : Buffers). written.used) held.same)
+    omega (arith, c.write-end.ensures.not_before_start, ap (λ (written : Buffers). written.used) held.same)
 
 pub returns : goal.returns
 returns c = c.add_written.ensures _ _ (c.write-end.ensures.holds _ _ (holds-nothing c.args.self.now))

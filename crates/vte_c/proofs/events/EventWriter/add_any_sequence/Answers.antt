@@ -5,7 +5,7 @@ use Rattle.vte_c.proofs.events.EventWriter.add_any_sequence.Goals as goal
 pub returns-then-writes : goal.returns-then-writes
 returns-then-writes c =
     let count : c.size_hint.result.0 ≡ length c.args.params.now =
-    ap (λ p. p.0) c.size_hint.ensures.exact ∙ ap length c.iter.ensures.value in
+    ap (λ p. p.0) c.size_hint.ensures.value ∙ ap length c.iter.ensures.value in
     rw (sym c.writes.ensures ∙ c.if-writes.true)
     (rw (c.with_count-event.ensures, c.with_flag.ensures, c.with_intermediates.ensures, c.new.ensures, count) at
     (c.add_written.ensures _ _ c.write_groups-end.ensures))

@@ -1,8 +1,8 @@
 -- The count is written, and the numbers so far.
-use Rattle.vte_c.proofs.Common.{Buffers, count_byte, flat_map, Holds, length, List, take, two_bytes, ℕ, [], ◌++◌, ◌∷◌}
+use Rattle.vte_c.proofs.Common.{AreaHolds, Buffers, count_byte, flat_map, length, List, take, two_bytes, ℕ, [], ◌++◌, ◌∷◌}
 use Rattle.vte_c.proofs.events.EventWriter.write_group.Given as goal
 
 abbrev pub invariant-loop-number : goal.invariant-loop-number
-invariant-loop-number l = (buffers : Buffers) (text : List ℕ) → Holds buffers l.fn.self l.fn.start text
-    → Holds buffers l.self l.end
+invariant-loop-number l = (buffers : Buffers) (text : List ℕ) → AreaHolds buffers l.fn.self l.fn.start text
+    → AreaHolds buffers l.self l.end
     ((text ++ count_byte (length l.group) ∷ []) ++ flat_map two_bytes (take l.number-index l.group))

@@ -1,4 +1,4 @@
--- A digit makes the open number longer; a separator settles it and opens another.
+-- A digit makes the open number longer; a separator stores it and opens another.
 use Rattle.vte_core.proofs.Common.{arith, Bool, false, refl, rules, true, ◌≡◌}
 use Rattle.vte_core.proofs.lemmas.fields.Heads.{counts-digit, counts-separator}
 use Rattle.vte_core.proofs.head.Collected.collect_parameter_byte.Goals as goal
@@ -14,5 +14,5 @@ left_is_separator false parameter other is_parameter = let unmet = other refl in
 
 pub returns-in_default-clause-counts : goal.returns-in_default-clause-counts
 returns-in_default-clause-counts c = λ text k.
-    counts-separator c.args.byte k (c.settle_number-self.ensures.settles text k)
+    counts-separator c.args.byte k (c.store_number-self.ensures.holds text k)
     (left_is_separator _ _ c.in_default.ensures c.requires) refl refl refl

@@ -4,18 +4,18 @@ use Rattle.vte_core.proofs.lemmas.positions.HeadStretches.{reads_head-byte, read
 use Rattle.vte_core.proofs.head.Collected.read_head.Goals as goal
 
 pub loop-position-init : goal.loop-position-init
-loop-position-init c = record { reads = reads_head-nothing c.requires; count = omega arith; no_next = refl }
+loop-position-init c = record { reads = reads_head-nothing c.requires; looks = omega arith; no_next = refl }
 
 pub loop-position-preserved : goal.loop-position-preserved
 loop-position-preserved c =
-    let v = c.loop-position.invariant in
+    let invariant = c.loop-position.invariant in
     let is_head = sym c.is_head_byte.ensures ∙ c.if-not-is_head_byte.false in
     record {
       reads =
-          reads_head-then v.reads
+          reads_head-then invariant.reads
           (reads_head-byte (omega arith) c.byte_at-byte.ensures.value is_head c.collect_head_byte-progress.ensures);
-      count = omega arith;
-      no_next = v.no_next;
+      looks = omega arith;
+      no_next = invariant.no_next;
     }
 
 pub returns-after-loop-position-clause-reads : goal.returns-after-loop-position-clause-reads

@@ -1,6 +1,6 @@
 -- The numbers are read up to this position; the last one is open, in a local variable. One look for each byte.
-use Rattle.vte_core.proofs.Common.{length, looked, None, progress_after, ReadsHead, ◌+◌, ◌-◌, ◌≡◌, ◌≤◌}
-use Rattle.vte_core.specs.Parameters.{greatest_number}
+use Rattle.vte_core.proofs.Common.{length, looks_of, None, progress_after, ReadsHead, ◌+◌, ◌-◌, ◌≡◌, ◌≤◌}
+use Rattle.vte_core.specs.Parameters.{max_value}
 use Rattle.vte_core.specs.private.ParserFields.{with_open_number}
 use Rattle.vte_core.proofs.head.Collected.read_numbers.Given as goal
 
@@ -8,9 +8,9 @@ abbrev pub invariant-loop-position : goal.invariant-loop-position
 invariant-loop-position l = record {
   reads : ReadsHead l.input.bytes.now l.from l.position l.reached
       (progress_after l.reached l.from l.position) l.initial.self (with_open_number l.self l.number);
-  count : looked l.reader + l.from ≡ looked l.initial.reader + l.position;
-  no_next : l.next ≡ None;
-  small : l.number ≤ greatest_number;
+  looks : looks_of l.reader + l.from ≡ looks_of l.initial.reader + l.position;
+  no_next : l.next_byte ≡ None;
+  small : l.number ≤ max_value;
   joined : l.self.joined ≡ l.initial.self.joined;
 }
 

@@ -3,8 +3,8 @@ use Rattle.vte_core.proofs.Common.{ap, arith, length, rules}
 use Rattle.vte_core.proofs.lemmas.fields.Numbers.{length-cut_by_lengths}
 use Rattle.vte_core.proofs.params.ParamsIterIterator.size_hint.Goals as goal
 
-pub returns-clause-exact : goal.returns-clause-exact
-returns-clause-exact c = search (rules, arith, length-cut_by_lengths)
+pub returns-clause-value : goal.returns-clause-value
+returns-clause-value c = search (rules, arith, length-cut_by_lengths)
 
 pub returns-clause-lower : goal.returns-clause-lower
 returns-clause-lower c _ =

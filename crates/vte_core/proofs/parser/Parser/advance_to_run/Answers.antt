@@ -5,13 +5,13 @@ use Rattle.vte_core.proofs.parser.Parser.advance_to_run.Goals as goal
 
 pub returns : goal.returns
 returns g c =
-    let d = c.drive_to_run-range.ensures in
-    let t = c.take_run.ensures in
-    let comes = rw c.new.ensures at d.comes in
+    let driven = c.drive_to_run-range.ensures in
+    let took = c.take_run.ensures in
+    let comes = rw c.new.ensures at driven.comes in
     record {
-      returns = returns-run _ comes t.start t.end t.taken refl;
-      reads = reads-run c.take_run.result comes t.start t.end t.taken;
-      outside_runs = λ stream has_read. rw t.start (rw c.new.ensures at d.outside_runs stream has_read);
-      count = search rules;
-      at_least = search rules;
+      returns = returns-run _ comes took.start took.end took.taken refl;
+      reads = reads-run c.take_run.result comes took.start took.end took.taken;
+      outside_runs = λ stream has_read. rw took.start (rw c.new.ensures at driven.outside_runs stream has_read);
+      looks_at_most = search rules;
+      looks_at_least = search rules;
     }

@@ -1,7 +1,7 @@
 -- With a limit nothing is refused. A call that never stops reads all bytes; one that stops says where.
 use Rattle.vte_core.proofs.Common.{sym, ◌∙◌}
 use Rattle.vte_core.proofs.lemmas.positions.Contracts.{costs-added, reads-bytes, reads-until}
-use Rattle.vte_core.proofs.lemmas.positions.Progress.{all_read-unless_asked}
+use Rattle.vte_core.proofs.lemmas.positions.SettledStates.{all_read-unless_asked}
 use Rattle.vte_core.proofs.parser.Parser.drive.Goals as goal
 
 pub returns-in-Ok-clause-all : goal.returns-in-Ok-clause-all

@@ -1,6 +1,7 @@
 -- The first byte, the ASCII after it and what follows are one run (`run-append`).
 use Rattle.vte_core.proofs.Common.{arith, IsPrintedAscii}
-use Rattle.vte_core.proofs.lemmas.bytes.Runs.{each-both, run-append, run-ascii}
+use Rattle.vte_core.proofs.lemmas.bytes.Each.{each-both}
+use Rattle.vte_core.proofs.lemmas.bytes.Runs.{run-append, run-ascii}
 use Rattle.vte_core.proofs.reader.Reader.find_ascii_run_end.Goals as goal
 
 pub returns-clause-run : goal.returns-clause-run

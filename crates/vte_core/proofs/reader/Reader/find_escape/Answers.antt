@@ -22,7 +22,7 @@ returns-in-Some c =
           λ within not_escape.
           not_escape
           (sym (rest-byte c.args.input.bytes.now c.args.from c.in-Some.distance _ refl) ∙ eqb-true _ _ first.1);
-      count = search rules;
+      looks = search rules;
     }
 
 pub returns-in-None : goal.returns-in-None
@@ -35,5 +35,5 @@ returns-in-None c = record {
       rest-byte c.args.input.bytes.now c.args.from (k - c.args.from) k (omega (arith, low)) ∙ is_escape in
       grind (arith, nat_tests);
   ended = λ within not_escape. omega (arith, within);
-  count = search rules;
+  looks = search rules;
 }

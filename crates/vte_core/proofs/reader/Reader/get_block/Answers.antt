@@ -1,5 +1,5 @@
 -- The block is the prefix of the bytes from a position on.
-use Rattle.vte_core.proofs.lemmas.bytes.Runs.{prefix-block}
+use Rattle.vte_core.proofs.lemmas.bytes.Each.{prefix-block}
 use Rattle.vte_core.proofs.reader.Reader.get_block.Goals as goal
 
 pub returns : goal.returns

@@ -1,7 +1,7 @@
 -- Each block is the prefix of the bytes from its place on.
 use Rattle.vte_core.proofs.Common.{ap, arith, drop, drop-drop, List, take, ℕ, ◌+◌, ◌∙◌, ◌≡◌, ◌≤◌}
 use Rattle.std.proofs.lemmas.List.{drop-take, take-take}
-use Rattle.vte_core.proofs.lemmas.bytes.Runs.{prefix-block}
+use Rattle.vte_core.proofs.lemmas.bytes.Each.{prefix-block}
 use Rattle.vte_core.proofs.reader.Reader.get_window.Goals as goal
 
 block-part : (bytes all block : List ℕ) (from i rest : ℕ) → all ≡ take (i + rest) (drop from bytes) → 16 ≤ rest

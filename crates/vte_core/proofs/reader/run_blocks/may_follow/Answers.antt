@@ -1,10 +1,10 @@
 -- A byte that passes the tests of the code fits after the three before it (`Fits`), so it leads on from each state that
--- they allow (`trails-after`).
+-- they allow (`allowed-after`).
 use Rattle.vte_core.proofs.Common.{and_parts, arith, Bool, false, nat_le, nat_tests, not, not-true, refl, sym, true, ℕ, ◌&&◌, ◌||◌, ◌≡◌}
 use Rattle.std.proofs.Common.{nat_eq, nat_lt}
 use Rattle.std.proofs.lemmas.Bool.{or_parts}
 use Rattle.std.proofs.Math.Bool.{beq}
-use Rattle.vte_core.proofs.lemmas.automaton_states.Windows.{trails-after}
+use Rattle.vte_core.proofs.lemmas.automaton_states.Windows.{allowed-after}
 use Rattle.vte_core.proofs.reader.run_blocks.may_follow.Goals as goal
 
 beq-same : (left right : Bool) → beq left right ≡ true → left ≡ right
@@ -54,7 +54,7 @@ returns c = λ all.
     let continues = c.is_continuation.ensures in
     -- Therefore the byte fits after the three before it (`Fits`), and each state that they allow leads on.
     record {
-      leads = trails-after three_back two_back one_back b (record {
+      leads = allowed-after three_back two_back one_back b (record {
         none_open = λ no_more. grind (arith, nat_tests, passed.is_opened, no_more, continues);
         one_open = λ more low below. grind (arith, nat_tests, passed.is_opened, more, low, below, continues);
         plain = λ below. grind (arith, nat_tests, passed.is_other, below, c.is_layout.ensures);

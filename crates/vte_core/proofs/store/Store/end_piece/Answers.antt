@@ -17,11 +17,11 @@ pub returns-else-not-is_full-clause-holds : goal.returns-else-not-is_full-clause
 returns-else-not-is_full-clause-holds g c = λ items keeps.
     let before = subst (λ held. HoldsItems g.B.Buffer.limit held items) (sym c.self.view_is) keeps in
     subst (λ held. HoldsItems g.B.Buffer.limit held (items ++ 59 ∷ [])) c.self.view_is (elim c.else-not-is_full.branch [
-      | else-not-is_full-via-then-not-is_full+else-not-is_full-2 w ↦
+      | else-not-is_full-via-then-not-is_full+else-not-is_full-2 branch ↦
           keeps-done
           (pieces_from-full _ _ _
-          (not-true _ (sym w.is_full-then-not-is_full.ensures ∙ w.if-not-is_full-2.false))) before
-      | else-not-is_full-via-else-not-is_full w ↦
-          let all = eqb-true _ _ (sym c.is_full.ensures.value ∙ w.if-not-is_full.false) in
+          (not-true _ (sym branch.is_full-then-not-is_full.ensures ∙ branch.if-not-is_full-2.false))) before
+      | else-not-is_full-via-else-not-is_full branch ↦
+          let all = eqb-true _ _ (sym c.is_full.ensures.value ∙ branch.if-not-is_full.false) in
           keeps-done (done-complete (omega (arith, all)) before) before
     ])

@@ -6,22 +6,22 @@ use Rattle.vte_core.proofs.store.Store.push_data.Goals.{else-not-is_full, then-n
 
 pub returns-clause-holds : goal.returns-clause-holds
 returns-clause-holds g c = λ items keeps.
-    let a = c.args in
-    let run = take (a.to - a.from) (drop a.from a.input.bytes.now) in
+    let args = c.args in
+    let run = take (args.to - args.from) (drop args.from args.input.bytes.now) in
     let before = subst (λ held. HoldsItems g.B.Buffer.limit held items) (sym c.self.view_is) keeps in
-    let size : length run ≡ a.to - a.from =
+    let size : length run ≡ args.to - args.from =
     omega (arith, length-take {A = ℕ}, length-drop {A = ℕ}, c.requires.range.within, c.requires.range.in_order) in
     elim c.if-not-is_full.branch [
       -- There are fewer than 16 ends.
-      | then-not-is_full w ↦
-          let not_full = eqb-false _ _ (sym c.is_full.ensures.value ∙ w.if-not-is_full.true) in
-          rw w.self-inside-is
+      | then-not-is_full branch ↦
+          let not_full = eqb-false _ _ (sym c.is_full.ensures.value ∙ branch.if-not-is_full.true) in
+          rw branch.self-inside-is
           (keeps-run _ _ _ items run
-          (omega (arith, c.is_full.ensures.fits, not_full)) c.requires.data w.append.ensures.appended refl
-          (rw (c.bytes.ensures, c.bytes-before.ensures, w.self-inside-is, size) refl) before)
+          (omega (arith, c.is_full.ensures.fits, not_full)) c.requires.data branch.append.ensures.appended refl
+          (rw (c.bytes.ensures, c.bytes-before.ensures, branch.self-inside-is, size) refl) before)
       -- There are 16.
-      | else-not-is_full w ↦
-          let all = eqb-true _ _ (sym c.is_full.ensures.value ∙ w.if-not-is_full.false) in
-          rw w.self-inside-is (keeps-later _ _ _ items run (omega (arith, all)) c.requires.data refl refl
-          (rw (c.bytes.ensures, c.bytes-before.ensures, w.self-inside-is, size) refl) before)
+      | else-not-is_full branch ↦
+          let all = eqb-true _ _ (sym c.is_full.ensures.value ∙ branch.if-not-is_full.false) in
+          rw branch.self-inside-is (keeps-later _ _ _ items run (omega (arith, all)) c.requires.data refl refl
+          (rw (c.bytes.ensures, c.bytes-before.ensures, branch.self-inside-is, size) refl) before)
     ]

@@ -41,8 +41,8 @@ impl<T: Timeout, const N: usize> BoundedProcessor<T, N> {
         self.engine.hold.len()
     }
 
-    /// Returns whether the operating system command that is open lost data bytes, or if none is
-    /// open, the last one: those after the first `N`, and those after the 16th piece. Bytes that
+    /// Returns whether the open operating system command has lost data bytes, or the last one if
+    /// none is open. It loses those after the first `N`, and those after the 16th piece. Bytes that
     /// are held back don't count.
     pub fn command_lost_data(&self) -> bool {
         self.engine.parser.command_lost_data()
@@ -65,12 +65,12 @@ impl<T: Timeout, const N: usize> BoundedProcessor<T, N> {
     /// receives the calls of the whole stream, however it is split.
     pub fn advance<H: Handler + ?Sized>(&mut self, handler: &mut H, bytes: &[u8]) {
         // The memory is there, so all bytes are read.
-        let _ = self.engine.read::<H, ByCharacter>(handler, bytes);
+        let _ = self.engine.advance::<H, ByCharacter>(handler, bytes);
     }
 
     /// Reads bytes as [`advance`](Self::advance) does. The handler receives text in runs.
     pub fn advance_text<H: HandlerText + ?Sized>(&mut self, handler: &mut H, bytes: &[u8]) {
         // The memory is there, so all bytes are read.
-        let _ = self.engine.read::<H, InRuns>(handler, bytes);
+        let _ = self.engine.advance::<H, InRuns>(handler, bytes);
     }
 }

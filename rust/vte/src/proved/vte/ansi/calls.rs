@@ -4,7 +4,7 @@
 pub(crate) mod color_reader;
 pub(crate) mod color_text;
 pub(crate) mod command;
-pub(crate) mod control;
+pub(crate) mod control_sequence;
 pub(crate) mod escape;
 pub(crate) mod growing_text;
 pub(crate) mod input;

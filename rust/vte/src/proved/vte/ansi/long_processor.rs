@@ -10,9 +10,9 @@ use crate::proved::vte_handler::{Handler, HandlerText, Timeout};
 /// length.
 ///
 /// A call allocates before it parses each 65,536 bytes: for them and an open command, and for a
-/// text that is joined from these. Bytes that are held back take theirs whole. If memory is
-/// refused, the call stops there. Nothing is lost or done twice, and the rest can be passed in
-/// again:
+/// text that is joined from these. For bytes that are held back, it allocates all memory at once.
+/// If memory is refused, the call stops there. Nothing is lost or done twice, and the rest can be
+/// passed in again:
 #[derive(Clone)]
 pub struct LongProcessor<T: Timeout> {
     engine: Engine<LongParser, GrowingText, T>,
@@ -42,8 +42,8 @@ impl<T: Timeout> LongProcessor<T> {
         self.engine.hold.len()
     }
 
-    /// Returns whether the operating system command that is open lost data bytes, or if none is
-    /// open, the last one: those after the 16th piece. Bytes that are held back don't count.
+    /// Returns whether the open operating system command has lost data bytes, or the last one if
+    /// none is open. It loses those after the 16th piece. Bytes that are held back don't count.
     pub fn command_lost_data(&self) -> bool {
         self.engine.parser.command_lost_data()
     }
@@ -86,7 +86,7 @@ impl<T: Timeout> LongProcessor<T> {
         handler: &mut H,
         bytes: &[u8],
     ) -> Result<(), Refused> {
-        self.engine.read::<H, ByCharacter>(handler, bytes)
+        self.engine.advance::<H, ByCharacter>(handler, bytes)
     }
 
     /// Reads bytes as [`advance`](Self::advance) does. The handler receives text in runs.
@@ -95,6 +95,6 @@ impl<T: Timeout> LongProcessor<T> {
         handler: &mut H,
         bytes: &[u8],
     ) -> Result<(), Refused> {
-        self.engine.read::<H, InRuns>(handler, bytes)
+        self.engine.advance::<H, InRuns>(handler, bytes)
     }
 }

@@ -6,13 +6,13 @@ use crate::proved::vte_core::parser::{Machine, State};
 use crate::proved::vte_core::reader::{text_between, CountedPerform, Granularity, Reader};
 use crate::proved::vte_core::utf8::{
     character_of_four, character_of_three, character_of_two, is_continuation, may_begin_four,
-    may_begin_three, Carried, Unfinished,
+    may_begin_three, Extended, Unfinished,
 };
 
 impl<B: Buffer> Machine<B> {
-    /// Reads the character or the malformed sequence that begins with a lead byte, which was looked
-    /// at. A byte that breaks it is left unread, and U+FFFD is printed for those before it. If text
-    /// is taken in runs, a character of four bytes begins one.
+    /// Reads the character or malformed sequence that begins with a lead byte. A byte that breaks
+    /// it is left unread, and U+FFFD is printed for those before it. If text is taken in runs, a
+    /// character of four bytes begins a run.
     #[inline(always)]
     pub(crate) fn read_character<
         P: CountedPerform<G> + ?Sized,
@@ -47,8 +47,7 @@ impl<B: Buffer> Machine<B> {
         }
     }
 
-    /// Reads the second and third byte of a character of three. The second, at `next`, was looked
-    /// at.
+    /// Reads the second byte, at `second_position`, and the third of a character of three bytes.
     #[inline(always)]
     pub(crate) fn complete_three<
         P: CountedPerform<G> + ?Sized,
@@ -61,27 +60,27 @@ impl<B: Buffer> Machine<B> {
         first: u8,
         second: u8,
         input: &[u8],
-        next: usize,
+        second_position: usize,
     ) -> usize {
         if !may_begin_three(first, second) {
             performer.print_char(reader, char::REPLACEMENT_CHARACTER);
-            return next;
+            return second_position;
         }
-        if next + 1 >= input.len() {
+        if second_position + 1 >= input.len() {
             self.state = State::Text(Unfinished::Two(first, second));
-            return next + 1;
+            return second_position + 1;
         }
-        let third = reader.byte_at(input, next + 1);
+        let third = reader.byte_at(input, second_position + 1);
         if !is_continuation(third) {
             performer.print_char(reader, char::REPLACEMENT_CHARACTER);
-            return next + 1;
+            return second_position + 1;
         }
         reader.report_character(performer, character_of_three(first, second, third));
-        next + 2
+        second_position + 2
     }
 
-    /// Reads the character of four bytes that begins at a position, whose first two were looked at.
-    /// If text is taken in runs, it begins one.
+    /// Reads the character of four bytes that begins at `from`. If text is taken in runs, it begins
+    /// a run.
     #[inline(always)]
     #[allow(unsafe_code)]
     pub(crate) fn complete_four<
@@ -132,9 +131,8 @@ impl<B: Buffer> Machine<B> {
         next + 3
     }
 
-    /// Continues a character whose bytes the call may not have whole.
-    // apart from `continue_character`, which as a part of `drive` would take registers from the
-    // loops of text
+    /// Continues a character that may not end in this call.
+    // inlined in cargo's builds, it would take registers from the loops of text
     #[inline(never)]
     fn continue_near_end<P: CountedPerform<G> + ?Sized, G: Granularity, const MAY_STOP: bool>(
         &mut self,
@@ -147,8 +145,8 @@ impl<B: Buffer> Machine<B> {
         self.continue_character::<P, G, MAY_STOP>(reader, performer, begun, input, from)
     }
 
-    /// Reads the bytes that an unfinished character continues with. A byte that breaks it is left
-    /// unread, and U+FFFD is printed for those before it.
+    /// Reads the bytes that continue an unfinished character. A byte that breaks it is left unread,
+    /// and U+FFFD is printed for those before it.
     #[inline(always)]
     pub(crate) fn continue_character<
         P: CountedPerform<G> + ?Sized,
@@ -164,16 +162,16 @@ impl<B: Buffer> Machine<B> {
     ) -> usize {
         let mut unfinished = begun;
         for position in from..input.len() {
-            match unfinished.with_continuation(reader.byte_at(input, position)) {
-                Carried::Unfinished(more) => unfinished = more,
-                Carried::Whole(c) => {
+            match unfinished.extended_by(reader.byte_at(input, position)) {
+                Extended::Truncated(more) => unfinished = more,
+                Extended::WellFormed(c) => {
                     reader.report_character(performer, c);
-                    self.state = State::Text(Unfinished::Nothing);
+                    self.state = State::Text(Unfinished::Empty);
                     return position + 1;
                 }
-                Carried::Broken => {
+                Extended::Malformed => {
                     performer.print_char(reader, char::REPLACEMENT_CHARACTER);
-                    self.state = State::Text(Unfinished::Nothing);
+                    self.state = State::Text(Unfinished::Empty);
                     return position;
                 }
             }

@@ -1,15 +1,19 @@
 // Written by tools/erase from crates/vte_core/src/parser/control_sequence.rt: edit that one.
 //! Control sequences.
+//!
+//! Their heads are read in two short ways and a general one: `read_short_head` takes a head of at
+//! most one number, and calls nothing before the dispatch; `read_control_sequence` takes numbers
+//! with `;` between them, and `read_rest_of_head` whatever else a head has.
 
 use crate::proved::vte_core::buffer::Buffer;
-use crate::proved::vte_core::class::{ends_body, is_final, is_plain_control};
+use crate::proved::vte_core::class::{ends_sequence, is_final, is_plain_control};
 use crate::proved::vte_core::head::{HeadEnd, HeadProgress};
 use crate::proved::vte_core::parser::{Machine, State, Unfinished};
 use crate::proved::vte_core::reader::{CountedPerform, Granularity, Reader};
 
 impl<B: Buffer> Machine<B> {
     /// Reads the first number of a control sequence, if any, and a final byte right after it. Most
-    /// sequences have no more: for them this calls nothing before the dispatch.
+    /// sequences have no more, and for them this calls nothing before the dispatch.
     #[inline(always)]
     pub(crate) fn read_short_head<
         P: CountedPerform<G> + ?Sized,
@@ -25,7 +29,7 @@ impl<B: Buffer> Machine<B> {
         let head = self
             .collected
             .read_numbers(reader, HeadProgress::Entry, false, input, from);
-        if let Some(byte) = head.next {
+        if let Some(byte) = head.next_byte {
             if is_final(byte) {
                 return self.end_control_sequence(reader, performer, head, false, byte);
             }
@@ -51,7 +55,7 @@ impl<B: Buffer> Machine<B> {
         )
     }
 
-    /// Reads further numbers: not inlined, because most sequences have at most one.
+    /// Reads further numbers. Not inlined, because most sequences have at most one (DECISIONS).
     #[inline(never)]
     fn read_more_numbers<P: CountedPerform<G> + ?Sized, G: Granularity, const MAY_STOP: bool>(
         &mut self,
@@ -61,14 +65,14 @@ impl<B: Buffer> Machine<B> {
         reached: HeadProgress,
         from: usize,
     ) -> usize {
-        self.continue_control_sequence::<P, G, MAY_STOP>(reader, performer, input, reached, from)
+        self.read_control_sequence::<P, G, MAY_STOP>(reader, performer, input, reached, from)
     }
 
-    /// Continues a control sequence, whose head was read up to `reached`. There is a short way for
-    /// numbers with `;` between them and a final byte after them, which most bytes take if each
+    /// Continues a control sequence, whose head was read as far as `reached`. There is a short path
+    /// for numbers with `;` between them and a final byte after them. Most bytes take it if each
     /// call has one byte.
     #[inline(always)]
-    pub(crate) fn continue_control_sequence<
+    pub(crate) fn read_control_sequence<
         P: CountedPerform<G> + ?Sized,
         G: Granularity,
         const MAY_STOP: bool,
@@ -87,13 +91,13 @@ impl<B: Buffer> Machine<B> {
         let head = self
             .collected
             .read_numbers(reader, reached, true, input, from);
-        if let Some(byte) = head.next {
+        if let Some(byte) = head.next_byte {
             if is_final(byte) {
                 return self.end_control_sequence(reader, performer, head, false, byte);
             }
         }
         self.state = State::ControlSequence(head.progress);
-        if head.next.is_none() {
+        if head.next_byte.is_none() {
             return head.position;
         }
         self.read_rest_of_head::<P, G, MAY_STOP>(
@@ -121,13 +125,13 @@ impl<B: Buffer> Machine<B> {
     ) -> usize {
         let head = self.collected.read_head(reader, reached, input, from);
         self.state = State::ControlSequence(head.progress);
-        if let Some(byte) = head.next {
+        if let Some(byte) = head.next_byte {
             if is_final(byte) {
                 let joined = self.collected.joined;
                 return self.end_control_sequence(reader, performer, head, joined, byte);
             }
-            if ends_body(byte) {
-                self.end_body(reader, performer, byte);
+            if ends_sequence(byte) {
+                self.end_sequence(reader, performer, byte);
             } else if is_plain_control(byte) {
                 performer.execute_control(reader, byte);
             }
@@ -138,8 +142,8 @@ impl<B: Buffer> Machine<B> {
     }
 
     /// Ends a control sequence at its final byte, after its head: dispatches it, unless the head is
-    /// ill-shaped. Returns the next position. `joined` is the field: most callers know that it is
-    /// false.
+    /// ill-shaped. Returns the next position. `joined` is the value of the field: most callers know
+    /// that it is false.
     #[inline(always)]
     fn end_control_sequence<P: CountedPerform<G> + ?Sized, G: Granularity>(
         &mut self,
@@ -150,7 +154,7 @@ impl<B: Buffer> Machine<B> {
         byte: u8,
     ) -> usize {
         if let HeadProgress::IllShaped = head.progress {
-            self.state = State::Text(Unfinished::Nothing);
+            self.state = State::Text(Unfinished::Empty);
             return head.position + 1;
         }
         let ignore = self.collected.end_head(joined);
@@ -168,7 +172,7 @@ impl<B: Buffer> Machine<B> {
         byte: u8,
         position: usize,
     ) -> usize {
-        self.state = State::Text(Unfinished::Nothing);
+        self.state = State::Text(Unfinished::Empty);
         performer.csi_dispatch(reader, &self.collected, ignore, byte);
         position + 1
     }

@@ -2,7 +2,7 @@
 //! Device control strings.
 
 use crate::proved::vte_core::buffer::Buffer;
-use crate::proved::vte_core::class::{ends_body, is_device_data, is_final};
+use crate::proved::vte_core::class::{ends_sequence, is_device_data, is_final};
 use crate::proved::vte_core::head::HeadProgress;
 use crate::proved::vte_core::parser::{Machine, State, Unfinished};
 use crate::proved::vte_core::reader::{CountedPerform, Granularity, Reader};
@@ -28,11 +28,11 @@ impl<B: Buffer> Machine<B> {
     ) -> usize {
         let head = self.collected.read_head(reader, reached, input, from);
         self.state = State::DeviceControl(head.progress);
-        if let Some(byte) = head.next {
+        if let Some(byte) = head.next_byte {
             if is_final(byte) {
                 self.hook(reader, performer, head.progress, byte);
-            } else if ends_body(byte) {
-                self.end_body(reader, performer, byte);
+            } else if ends_sequence(byte) {
+                self.end_sequence(reader, performer, byte);
             }
             // Plain controls, DEL and 80..FF are dropped.
             return head.position + 1;
@@ -58,7 +58,7 @@ impl<B: Buffer> Machine<B> {
         self.state = State::DeviceData;
     }
 
-    /// Reads the data of a device control string, and the byte that ends them. If data come as
+    /// Reads the data of a device control string, and the byte that ends it. If data comes in
     /// slices and the call can't stop, it reads either a slice, up to the next byte that isn't
     /// data, or that byte.
     pub(crate) fn read_device_data<
@@ -92,7 +92,7 @@ impl<B: Buffer> Machine<B> {
         input.len()
     }
 
-    /// Reads a byte among the data that isn't put: it ends them, or is dropped.
+    /// Reads a byte that isn't put: it ends the data, or is dropped.
     #[inline(never)]
     pub(crate) fn read_other_in_data<
         P: CountedPerform<G> + ?Sized,
@@ -106,12 +106,12 @@ impl<B: Buffer> Machine<B> {
         from: usize,
         byte: u8,
     ) -> usize {
-        if ends_body(byte) {
+        if ends_sequence(byte) {
             return self.read_end::<P, G, MAY_STOP>(reader, performer, input, from, byte);
         }
         if byte == STRING_TERMINATOR {
             performer.unhook(reader);
-            self.state = State::Text(Unfinished::Nothing);
+            self.state = State::Text(Unfinished::Empty);
         }
         from + 1
     }

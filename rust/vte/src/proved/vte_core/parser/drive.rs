@@ -9,6 +9,7 @@ impl<B: Buffer> Machine<B> {
     /// Reads the bytes of a call, as many as there is memory for, and returns how many: all of
     /// them, or up to a stop if `MAY_STOP`.
     // inlined into a program's own function, its loops would keep their variables on the stack
+    // (DECISIONS)
     #[inline(never)]
     pub(crate) fn drive<P: CountedPerform<G> + ?Sized, G: Granularity, const MAY_STOP: bool>(
         &mut self,
@@ -48,8 +49,8 @@ impl<B: Buffer> Machine<B> {
         }
     }
 
-    /// Reads at least one byte, or none if memory is refused for it. The performer was asked before
-    /// that byte.
+    /// Reads at least one byte, or none if memory is refused for it. The caller has asked the
+    /// performer before that byte.
     #[inline]
     pub(crate) fn read_by_state<
         P: CountedPerform<G> + ?Sized,
@@ -73,9 +74,8 @@ impl<B: Buffer> Machine<B> {
             State::EscapeIntermediate => {
                 self.read_intermediates::<P, G, MAY_STOP>(reader, performer, input, from)
             }
-            State::ControlSequence(progress) => self.continue_control_sequence::<P, G, MAY_STOP>(
-                reader, performer, input, progress, from,
-            ),
+            State::ControlSequence(progress) => self
+                .read_control_sequence::<P, G, MAY_STOP>(reader, performer, input, progress, from),
             State::DeviceControl(progress) => {
                 self.read_device_control::<P, G, MAY_STOP>(reader, performer, input, progress, from)
             }

@@ -9,7 +9,7 @@ use crate::proved::vte_core::reader::{CountedPerform, Granularity, Reader};
 impl<B: Buffer> Machine<B> {
     /// Closes what is open, and then begins an escape sequence, or executes CAN or SUB.
     #[inline(never)]
-    pub(crate) fn end_body<P: CountedPerform<G> + ?Sized, G: Granularity>(
+    pub(crate) fn end_sequence<P: CountedPerform<G> + ?Sized, G: Granularity>(
         &mut self,
         reader: Reader,
         performer: &mut P,
@@ -17,15 +17,15 @@ impl<B: Buffer> Machine<B> {
     ) {
         self.report_end(reader, performer);
         if byte == ESCAPE {
-            self.collected.begin_escape();
+            self.collected.clear_intermediates();
             self.state = State::Escape;
             return;
         }
         performer.execute_control(reader, byte);
-        self.state = State::Text(Unfinished::Nothing);
+        self.state = State::Text(Unfinished::Empty);
     }
 
-    /// Reads a byte that ends what is open, which was looked at. After ESC it reads on.
+    /// Reads a byte that ends what is open, and after ESC also the bytes that follow it.
     pub(crate) fn read_end<P: CountedPerform<G> + ?Sized, G: Granularity, const MAY_STOP: bool>(
         &mut self,
         reader: Reader,
@@ -34,7 +34,7 @@ impl<B: Buffer> Machine<B> {
         from: usize,
         byte: u8,
     ) -> usize {
-        self.end_body(reader, performer, byte);
+        self.end_sequence(reader, performer, byte);
         if byte != ESCAPE || (MAY_STOP && performer.terminated()) {
             return from + 1;
         }

@@ -3,18 +3,17 @@
 
 use crate::proved::vte_core::buffer::Buffer;
 use crate::proved::vte_core::class::{
-    begins_ignored_string, dispatches_escape, ends_body, is_final, is_head_byte, is_intermediate,
-    is_plain_control, ESCAPE,
+    begins_ignored_string, dispatches_escape, ends_sequence, is_final, is_head_byte,
+    is_intermediate, is_plain_control, ESCAPE,
 };
 use crate::proved::vte_core::head::HeadProgress;
 use crate::proved::vte_core::parser::{Machine, State, Unfinished};
 use crate::proved::vte_core::reader::{CountedPerform, Granularity, Reader};
 
 impl<B: Buffer> Machine<B> {
-    /// Begins an escape sequence at an ESC in a text, which was looked at, and reads the bytes
-    /// after it.
+    /// Begins an escape sequence at an ESC in a text, and reads the bytes after the ESC.
     #[inline(never)]
-    pub(crate) fn read_sequence<
+    pub(crate) fn read_from_escape<
         P: CountedPerform<G> + ?Sized,
         G: Granularity,
         const MAY_STOP: bool,
@@ -25,10 +24,10 @@ impl<B: Buffer> Machine<B> {
         input: &[u8],
         from: usize,
     ) -> usize {
-        self.collected.begin_escape();
+        self.collected.clear_intermediates();
         let next = from + 1;
         if next < input.len() && reader.byte_at(input, next) == b'[' {
-            self.collected.begin_head();
+            self.collected.clear_numbers();
             self.state = State::ControlSequence(HeadProgress::Entry);
             return self.read_short_head::<P, G, MAY_STOP>(reader, performer, input, next + 1);
         }
@@ -36,8 +35,8 @@ impl<B: Buffer> Machine<B> {
         self.read_escape::<P, G, MAY_STOP>(reader, performer, input, next)
     }
 
-    /// Reads bytes after ESC, up to the one that says what begins; after `[` the control sequence
-    /// too.
+    /// Reads bytes after ESC, up to the one that says what begins. After `[` it reads the control
+    /// sequence too.
     #[inline(never)]
     pub(crate) fn read_escape<
         P: CountedPerform<G> + ?Sized,
@@ -55,9 +54,10 @@ impl<B: Buffer> Machine<B> {
             // Added before the branches, so that the loop over ESC is shorter.
             let next = position + 1;
             if byte == b'[' {
-                self.collected.begin_head();
+                self.collected.clear_numbers();
                 self.state = State::ControlSequence(HeadProgress::Entry);
-                // `continue_control_sequence` may look at a byte twice.
+                // Not `read_control_sequence`, which may look at a byte twice: 3 looks per byte are
+                // left.
                 return self.read_rest_of_head::<P, G, MAY_STOP>(
                     reader,
                     performer,
@@ -68,7 +68,7 @@ impl<B: Buffer> Machine<B> {
             }
             // Another ESC changes nothing: nothing was collected since the one before.
             if byte != ESCAPE {
-                self.read_after_escape(reader, performer, byte);
+                self.read_byte_after_escape(reader, performer, byte);
                 return next;
             }
         }
@@ -76,7 +76,7 @@ impl<B: Buffer> Machine<B> {
     }
 
     /// Reads a byte after ESC, other than `[`.
-    fn read_after_escape<P: CountedPerform<G> + ?Sized, G: Granularity>(
+    fn read_byte_after_escape<P: CountedPerform<G> + ?Sized, G: Granularity>(
         &mut self,
         reader: Reader,
         performer: &mut P,
@@ -89,16 +89,16 @@ impl<B: Buffer> Machine<B> {
             self.state = State::EscapeIntermediate;
         } else if is_head_byte(byte) {
             self.dispatch_escape(reader, performer, byte);
-        } else if ends_body(byte) {
-            self.end_body(reader, performer, byte);
+        } else if ends_sequence(byte) {
+            self.end_sequence(reader, performer, byte);
         } else if is_plain_control(byte) {
             performer.execute_control(reader, byte);
         }
         // DEL and 80..FF are dropped.
     }
 
-    /// Begins the string that a byte 40..7E other than `[` begins after ESC, or dispatches an
-    /// escape sequence that ends with it.
+    /// Begins the string that a byte after ESC introduces, or dispatches the escape sequence that
+    /// the byte ends. It is one of 40..7E other than `[`.
     #[inline(never)]
     fn begin_or_dispatch<P: CountedPerform<G> + ?Sized, G: Granularity>(
         &mut self,
@@ -107,7 +107,7 @@ impl<B: Buffer> Machine<B> {
         byte: u8,
     ) {
         if byte == b'P' {
-            self.collected.begin_head();
+            self.collected.clear_numbers();
             self.state = State::DeviceControl(HeadProgress::Entry);
         } else if byte == b']' {
             self.command.clear();
@@ -139,8 +139,8 @@ impl<B: Buffer> Machine<B> {
             } else if dispatches_escape(byte) {
                 self.dispatch_escape(reader, performer, byte);
                 return position + 1;
-            } else if ends_body(byte) {
-                self.end_body(reader, performer, byte);
+            } else if ends_sequence(byte) {
+                self.end_sequence(reader, performer, byte);
                 return position + 1;
             } else if is_plain_control(byte) {
                 performer.execute_control(reader, byte);
@@ -159,6 +159,6 @@ impl<B: Buffer> Machine<B> {
         byte: u8,
     ) {
         performer.esc_dispatch(reader, &self.collected, byte);
-        self.state = State::Text(Unfinished::Nothing);
+        self.state = State::Text(Unfinished::Empty);
     }
 }

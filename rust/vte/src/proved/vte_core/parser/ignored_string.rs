@@ -18,7 +18,7 @@ impl<B: Buffer> Machine<B> {
         input: &[u8],
         from: usize,
     ) -> usize {
-        let end = reader.find_string_end(input, from);
+        let end = reader.find_ignored_string_end(input, from);
         match reader.get_byte(input, end) {
             Some(byte) => self.read_end::<P, G, MAY_STOP>(reader, performer, input, end, byte),
             None => end,

@@ -44,7 +44,7 @@ impl LongParser {
         }
     }
 
-    /// Returns how many data bytes it stores of an operating system command: 0 if none is open.
+    /// Returns how many data bytes of an operating system command it stores: 0 if none is open.
     #[inline]
     #[cfg(any(feature = "__own", feature = "ansi"))]
     pub(crate) fn stored(&self) -> usize {
@@ -54,8 +54,8 @@ impl LongParser {
         }
     }
 
-    /// Returns whether the operating system command that is open lost data bytes, or if none is
-    /// open, the last one: those after the 16th piece.
+    /// Returns whether the open operating system command has lost data bytes, or the last one if
+    /// none is open. It loses those after the 16th piece.
     #[inline]
     pub fn command_lost_data(&self) -> bool {
         self.machine.command_lost_data()

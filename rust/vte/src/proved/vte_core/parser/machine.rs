@@ -18,14 +18,14 @@ impl<B: Buffer> Machine<B> {
     /// Creates a machine that has read nothing, over an empty buffer.
     pub(crate) const fn new(bytes: B) -> Self {
         Machine {
-            state: State::Text(Unfinished::Nothing),
+            state: State::Text(Unfinished::Empty),
             collected: Collected::new(),
             command: Store::new(bytes),
         }
     }
 
-    /// Returns whether the operating system command that is open lost data bytes, or if none is
-    /// open, the last one: those that are in no piece.
+    /// Returns whether the open operating system command has lost data bytes, or the last one if
+    /// none is open. It has lost those that are in no piece.
     pub(crate) fn command_lost_data(&self) -> bool {
         self.command.has_lost_data()
     }

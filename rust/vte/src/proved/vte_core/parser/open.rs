@@ -29,7 +29,7 @@ impl State {
     /// Returns what is unfinished in this state.
     pub(crate) fn open(self) -> Open {
         match self {
-            State::Text(Unfinished::Nothing) => Open::Nothing,
+            State::Text(Unfinished::Empty) => Open::Nothing,
             State::Text(_) => Open::Character,
             State::Escape | State::EscapeIntermediate => Open::EscapeSequence,
             State::ControlSequence(_) => Open::ControlSequence,

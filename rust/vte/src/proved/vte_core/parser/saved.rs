@@ -54,7 +54,7 @@ fn collect_front<T: Element, const N: usize>(array: &[T; N], count: usize) -> Ar
 /// Returns the number of a state, and the bytes of an unfinished character.
 fn saved_state(state: State) -> [u8; 4] {
     match state {
-        State::Text(Unfinished::Nothing) => [0, 0, 0, 0],
+        State::Text(Unfinished::Empty) => [0, 0, 0, 0],
         State::Text(Unfinished::One(first)) => [1, first, 0, 0],
         State::Text(Unfinished::Two(first, second)) => [2, first, second, 0],
         State::Text(Unfinished::Three(first, second, third)) => [3, first, second, third],
@@ -74,11 +74,11 @@ fn saved_state(state: State) -> [u8; 4] {
     }
 }
 
-/// Returns the state with this number. Each number above 16 is that of an ignored string too.
+/// Returns the state with this number. Each number above 16 also stands for an ignored string.
 fn restored_state(saved: [u8; 4]) -> State {
     let [number, first, second, third] = saved;
     match number {
-        0 => State::Text(Unfinished::Nothing),
+        0 => State::Text(Unfinished::Empty),
         1 => State::Text(Unfinished::One(first)),
         2 => State::Text(Unfinished::Two(first, second)),
         3 => State::Text(Unfinished::Three(first, second, third)),
@@ -128,7 +128,7 @@ impl Parser<MAX_OSC_RAW> {
     #[inline]
     pub fn save(&self, saved: &mut Saved) {
         // Most calls end between characters of a text, where nothing else counts.
-        if let State::Text(Unfinished::Nothing) = self.machine.state {
+        if let State::Text(Unfinished::Empty) = self.machine.state {
             saved.state = [0; 4];
         } else {
             self.save_open(saved);
@@ -142,12 +142,12 @@ impl Parser<MAX_OSC_RAW> {
         // Numbers and commands of earlier sequences don't count.
         match machine.state {
             State::ControlSequence(_) | State::DeviceControl(_) => {
-                let (lengths, numbers) = machine.collected.params.parts();
+                let (lengths, numbers) = machine.collected.params.raw_parts();
                 saved.group_count = copy_to_front(lengths, &mut saved.lengths);
                 saved.number_count = copy_to_front(numbers, &mut saved.numbers);
             }
             State::SystemCommand => {
-                let (bytes, ends, lost) = machine.command.parts();
+                let (bytes, ends, lost) = machine.command.raw_parts();
                 saved.byte_count = copy_to_front(bytes, &mut saved.bytes);
                 saved.end_count = copy_to_front(ends, &mut saved.ends);
                 saved.lost = u8::from(lost);
@@ -168,7 +168,7 @@ impl Parser<MAX_OSC_RAW> {
     #[inline]
     pub fn restore(&mut self, saved: &Saved) {
         if saved.state[0] == 0 {
-            self.machine.state = State::Text(Unfinished::Nothing);
+            self.machine.state = State::Text(Unfinished::Empty);
         } else {
             self.restore_open(saved);
         }
@@ -181,7 +181,7 @@ impl Parser<MAX_OSC_RAW> {
         machine.state = restored_state(saved.state);
         match machine.state {
             State::ControlSequence(_) | State::DeviceControl(_) => {
-                machine.collected.params = Params::from_parts(
+                machine.collected.params = Params::from_raw_parts(
                     collect_front(&saved.lengths, saved.group_count),
                     collect_front(&saved.numbers, saved.number_count),
                 );

@@ -2,7 +2,7 @@
 //! Operating system commands.
 
 use crate::proved::vte_core::buffer::Buffer;
-use crate::proved::vte_core::class::ends_body;
+use crate::proved::vte_core::class::ends_sequence;
 use crate::proved::vte_core::parser::{Machine, Refused, State, Unfinished};
 use crate::proved::vte_core::reader::{CountedPerform, Granularity, Reader};
 
@@ -25,7 +25,7 @@ impl<B: Buffer> Machine<B> {
         from: usize,
     ) -> Result<usize, Refused> {
         let end = reader.find_command_data_end(input, from);
-        if !self.command.take_memory(end - from) {
+        if !self.command.reserve_if_kept(end - from) {
             return Err(Refused { read: from });
         }
         self.command.push_data(reader, input, from, end);
@@ -33,14 +33,14 @@ impl<B: Buffer> Machine<B> {
             Some(byte) => byte,
             None => return Ok(end),
         };
-        if ends_body(byte) {
+        if ends_sequence(byte) {
             return Ok(self.read_end::<P, G, MAY_STOP>(reader, performer, input, end, byte));
         }
         if byte == b';' {
             self.command.end_piece();
         } else if byte == BELL {
             self.command.dispatch(reader, performer, true);
-            self.state = State::Text(Unfinished::Nothing);
+            self.state = State::Text(Unfinished::Empty);
         }
         Ok(end + 1)
     }

@@ -7,19 +7,18 @@ use crate::proved::vte_core::parser::Machine;
 use crate::proved::vte_core::reader::{text_between, up_to, CountedPerform, Granularity, Reader};
 use crate::proved::vte_core::utf8::{is_lead, is_printed_ascii};
 
-/// The bytes of a text that are read before it is searched for ESC. Shorter texts, and so most,
+/// How many bytes of a text are read before it is searched for ESC. Most texts are shorter, and
 /// cost no search.
 const SHORT_TEXT: usize = 128;
 
-/// Where a run of ASCII ends, and the byte there if it was looked at and isn't printed ASCII.
+/// The end of a run of ASCII, and the byte there if it was read and isn't printed ASCII.
 #[derive(Clone, Copy)]
 struct AsciiRun {
     end: usize,
-    next: Option<u8>,
+    next_byte: Option<u8>,
 }
 
-/// Prints the run of ASCII that is at a position, whose first byte was looked at. If it is
-/// short, that is the first byte alone.
+/// Prints the run of ASCII at a position. If it is short, only its first byte is printed.
 #[inline(always)]
 #[allow(unsafe_code)]
 fn print_ascii<P: CountedPerform<G> + ?Sized, G: Granularity>(
@@ -29,24 +28,30 @@ fn print_ascii<P: CountedPerform<G> + ?Sized, G: Granularity>(
     from: usize,
     first: u8,
 ) -> AsciiRun {
-    let next = reader.get_byte(input, from + 1);
-    if reader.begins_ascii_run(input, from, next) {
+    let next_byte = reader.get_byte(input, from + 1);
+    if reader.begins_ascii_run(input, from, next_byte) {
         let end = reader.find_ascii_run_end(performer, input, from);
         // SAFETY: ASCII is at `from`, and the search passes whole characters.
         performer.print_text(reader, unsafe { text_between(input, from, end) });
-        return AsciiRun { end, next: None };
+        return AsciiRun {
+            end,
+            next_byte: None,
+        };
     }
     performer.print_char(reader, char::from(first));
     let end = from + 1;
-    match next {
-        Some(byte) if !is_printed_ascii(byte) => AsciiRun { end, next },
-        _ => AsciiRun { end, next: None },
+    match next_byte {
+        Some(byte) if !is_printed_ascii(byte) => AsciiRun { end, next_byte },
+        _ => AsciiRun {
+            end,
+            next_byte: None,
+        },
     }
 }
 
 impl<B: Buffer> Machine<B> {
     /// Reads text up to an ESC, and then the bytes after that. Each way to take text has a loop of
-    /// its own.
+    /// its own (DECISIONS).
     #[inline(always)]
     pub(crate) fn read_text<P: CountedPerform<G> + ?Sized, G: Granularity, const MAY_STOP: bool>(
         &mut self,
@@ -64,7 +69,7 @@ impl<B: Buffer> Machine<B> {
         }
     }
 
-    /// Reads text for a performer that takes runs. They are read by words, which find an ESC too.
+    /// Reads text for a performer that takes runs. It is read by words, which find an ESC too.
     #[inline]
     fn read_runs<P: CountedPerform<G> + ?Sized, G: Granularity, const MAY_STOP: bool>(
         &mut self,
@@ -79,8 +84,8 @@ impl<B: Buffer> Machine<B> {
             if is_printed_ascii(byte) {
                 let run = print_ascii(reader, performer, input, position, byte);
                 position = run.end;
-                match run.next {
-                    Some(next) => byte = next,
+                match run.next_byte {
+                    Some(next_byte) => byte = next_byte,
                     None => continue,
                 }
             }
@@ -88,7 +93,7 @@ impl<B: Buffer> Machine<B> {
             if byte < 0xa0 {
                 if byte == ESCAPE {
                     return self
-                        .read_sequence::<P, G, MAY_STOP>(reader, performer, input, position);
+                        .read_from_escape::<P, G, MAY_STOP>(reader, performer, input, position);
                 }
                 reader.report_lone_byte(performer, byte);
                 position += 1;
@@ -134,7 +139,7 @@ impl<B: Buffer> Machine<B> {
                     }
                     continue;
                 } else if byte == ESCAPE {
-                    return self.read_sequence::<P, G, true>(reader, performer, input, position);
+                    return self.read_from_escape::<P, G, true>(reader, performer, input, position);
                 } else {
                     reader.report_lone_byte(performer, byte);
                 }
@@ -144,15 +149,18 @@ impl<B: Buffer> Machine<B> {
                 }
             }
             if position < input.len() {
-                prefix = up_to(input, reader.search_text::<true>(input, from, position));
+                prefix = up_to(
+                    input,
+                    reader.find_text_part_end::<true>(input, from, position),
+                );
             }
         }
         position
     }
 
-    /// Reads text character by character, for a call that can't stop. A round looks at the byte of
-    /// the next one, which takes fewer instructions than each looking at its own. In a call that
-    /// may stop it takes more.
+    /// Reads text character by character, for a call that can't stop. Each round reads the byte of
+    /// the next one, which takes fewer instructions here, but more in a call that may stop
+    /// (DECISIONS).
     #[inline(always)]
     fn read_characters<P: CountedPerform<G> + ?Sized, G: Granularity>(
         &mut self,
@@ -169,17 +177,20 @@ impl<B: Buffer> Machine<B> {
             if position < prefix.len() {
                 byte = reader.byte_at(prefix, position);
             } else if position < input.len() {
-                prefix = up_to(input, reader.search_text::<false>(input, from, position));
+                prefix = up_to(
+                    input,
+                    reader.find_text_part_end::<false>(input, from, position),
+                );
                 byte = reader.byte_at(input, position);
             } else {
                 return position;
             }
         }
-        self.read_sequence::<P, G, false>(reader, performer, input, position)
+        self.read_from_escape::<P, G, false>(reader, performer, input, position)
     }
 
-    /// Reads what a byte of text begins, which was looked at: a character, a malformed sequence or
-    /// a control. Returns where it ends, or nothing if the byte is ESC, which is left unread.
+    /// Reads the character, malformed sequence or control that begins with a byte of text. Returns
+    /// its end, or `None` if the byte is ESC, which is left unread.
     #[inline(always)]
     fn read_byte_of_text<P: CountedPerform<G> + ?Sized, G: Granularity>(
         &mut self,
@@ -205,8 +216,8 @@ impl<B: Buffer> Machine<B> {
         Some(from + 1)
     }
 
-    /// Reads what begins with a lead byte, which was looked at, for a performer that takes runs: a
-    /// run, a character or a malformed sequence.
+    /// Reads the run, character or malformed sequence that begins with a lead byte, for a performer
+    /// that takes runs.
     #[inline(always)]
     #[allow(unsafe_code)]
     fn read_run_at_lead<P: CountedPerform<G> + ?Sized, G: Granularity, const MAY_STOP: bool>(

@@ -25,8 +25,8 @@ impl<const OSC_RAW_BUF_SIZE: usize> Parser<OSC_RAW_BUF_SIZE> {
 }
 
 impl<B: Buffer> Machine<B> {
-    /// Reads bytes up to a run, and finds the run. The state stays that of the run: its bytes
-    /// lead back to it.
+    /// Reads bytes up to a run, and finds the run. The state stays as it is before the run, because
+    /// the bytes of the run lead back to it.
     pub(crate) fn drive_to_run<P: CountedPerform<ByCharacter> + ?Sized>(
         &mut self,
         reader: Reader,
@@ -45,7 +45,7 @@ impl<B: Buffer> Machine<B> {
                             kind: RunKind::Text,
                         });
                     }
-                    self.read_unprinted(reader, performer, input, position)
+                    self.read_outside_runs(reader, performer, input, position)
                 }
                 State::DeviceData => {
                     let end = reader.find_device_data_end(input, position);
@@ -69,9 +69,10 @@ impl<B: Buffer> Machine<B> {
         Ok(RunRange::empty(position))
     }
 
-    /// Reads text at which no run begins: what a lead byte begins, or controls and malformed bytes
-    /// up to the next lead byte or printed ASCII, and an escape sequence that follows them.
-    fn read_unprinted<P: CountedPerform<ByCharacter> + ?Sized>(
+    /// Reads text at a position where no run begins: the character or malformed sequence of a lead
+    /// byte, or controls and malformed bytes up to the next lead byte or printed ASCII, and an
+    /// escape sequence that follows them.
+    fn read_outside_runs<P: CountedPerform<ByCharacter> + ?Sized>(
         &mut self,
         reader: Reader,
         performer: &mut P,
@@ -95,6 +96,6 @@ impl<B: Buffer> Machine<B> {
                 return position;
             }
         }
-        self.read_sequence::<P, ByCharacter, true>(reader, performer, input, position)
+        self.read_from_escape::<P, ByCharacter, true>(reader, performer, input, position)
     }
 }

@@ -6,8 +6,8 @@ use crate::proved::vte_core::perform::{Perform, PerformText};
 use crate::proved::vte_core::reader::{take_run, ByCharacter, InRuns, Run};
 
 impl LongParser {
-    /// Reads the next bytes of the stream, and performs the events that they add to it: all of
-    /// them, or as many as there is memory for.
+    /// Reads the next bytes of the stream, all of them or as many as there is memory for, and
+    /// performs the events that they add to it.
     pub fn advance<P: Perform + ?Sized>(
         &mut self,
         performer: &mut P,
@@ -44,8 +44,8 @@ impl LongParser {
     }
 
     /// Reads bytes as [`advance_until_terminated`](Self::advance_until_terminated) does, and passes
-    /// characters to print in [runs](crate::PerformText). Only for performers that nothing in a run
-    /// terminates: they aren't asked there.
+    /// characters to print in [runs](crate::PerformText). No character of a run may terminate the
+    /// performer, which isn't asked inside a run.
     #[cfg(any(feature = "__own", feature = "ansi"))]
     pub(crate) fn advance_text_until_terminated<P: PerformText + ?Sized>(
         &mut self,
@@ -55,8 +55,8 @@ impl LongParser {
         self.drive::<P, InRuns, true>(performer, bytes)
     }
 
-    /// Reads bytes up to a run of text, or of data of a device control string, and the run itself,
-    /// which it returns instead of performing it, as
+    /// Reads bytes up to and including a run of text, or of the data of a device control string.
+    /// Returns the run instead of performing it, as
     /// [`Parser::advance_to_run`](crate::Parser::advance_to_run) does.
     #[allow(unsafe_code)]
     pub fn advance_to_run<'a, P: Perform + ?Sized>(

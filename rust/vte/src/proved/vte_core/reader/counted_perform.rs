@@ -41,7 +41,7 @@ pub(crate) trait CountedPerform<G: Granularity> {
     /// Reports an escape sequence with this final byte.
     fn esc_dispatch(&mut self, reader: Reader, collected: &Collected, byte: u8);
 
-    /// Returns whether a call that may stop ends here. It takes no look.
+    /// Returns whether a call that may stop ends here. The question takes no look.
     fn terminated(&self) -> bool;
 }
 

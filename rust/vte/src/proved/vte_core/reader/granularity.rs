@@ -6,7 +6,7 @@ use crate::proved::vte_core::perform::{Perform, PerformText};
 
 /// How a performer takes what is printed.
 pub(crate) trait Granularity {
-    /// Whether it takes runs.
+    /// Whether text and data come in runs, and not by the character and the byte.
     const IN_RUNS: bool;
 }
 

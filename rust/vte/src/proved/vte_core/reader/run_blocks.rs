@@ -1,22 +1,23 @@
 // Written by tools/erase from crates/vte_core/src/reader/run_blocks.rt: edit that one.
 //! Long runs, by blocks.
 //!
-//! Whether a byte fits depends on the three before it alone. So no test waits for another, and
-//! compilers make vector instructions of a block's tests, if they have no `&&` and `||`. But the
-//! block in which a run ends is wasted, so only long runs come here.
+//! Whether a byte fits depends only on the three bytes before it. So no test waits for another, and
+//! compilers turn the tests of a block into vector instructions if they have no `&&` and `||`. But
+//! the block in which a run ends is read in vain, so only long runs come here.
 
 use crate::proved::vte_core::class::is_layout;
 use crate::proved::vte_core::reader::{Reader, Window};
 use crate::proved::vte_core::utf8::{is_continuation, is_printed_ascii};
 
-/// The blocks of ASCII, one after another, after which larger ones are tried: in text with a few
-/// other characters they would mostly be wasted. Without line ends, ASCII is read by words before.
+/// How many blocks in a row must be ASCII before larger blocks are tried. In text with a few other
+/// characters, most larger blocks would be read in vain. ASCII without line ends has been read by
+/// words.
 const ASCII_BLOCKS: usize = 4;
 
 impl Reader {
-    /// Skips blocks of a run, and returns where the last character ended. With `layout`, the run
-    /// may hold HT, LF and CR. A block with a byte that fits nowhere, or with another control, is
-    /// wasted.
+    /// Skips blocks of a run, and returns the end of the last whole character in them. With
+    /// `layout`, the run may hold HT, LF and CR. A block with a byte that doesn't fit, or with
+    /// another control, isn't skipped.
     #[inline(never)]
     pub(crate) fn skip_run_blocks(self, input: &[u8], from: usize, layout: bool) -> usize {
         if self.count_open_bytes(input, from) > 0 {
@@ -63,8 +64,8 @@ impl Reader {
         end
     }
 
-    /// Returns how many of the three bytes before a position are those of a character that they
-    /// leave open.
+    /// Returns how many bytes before a position belong to a character that is open there, at most
+    /// three.
     #[inline(always)]
     fn count_open_bytes(self, input: &[u8], position: usize) -> usize {
         if self.byte_at(input, position - 1) >= 0xc0 {
@@ -79,7 +80,7 @@ impl Reader {
     }
 }
 
-/// Returns whether 16 bytes are ASCII. It decides only what is tried next.
+/// Returns whether 16 bytes are ASCII. The answer decides only which blocks are tried next.
 #[inline(always)]
 fn is_ascii(block: &[u8; 16]) -> bool {
     let mut all = true;
@@ -99,7 +100,7 @@ fn are_printed_or_layout(block: &[u8; 32]) -> bool {
     all
 }
 
-/// Returns whether 16 bytes go on with a run, after the three before them.
+/// Returns whether the 16 bytes of a window continue a run, after the three bytes before them.
 #[inline(always)]
 fn continues_run(window: &Window, layout: bool) -> bool {
     let mut all = true;
@@ -125,8 +126,8 @@ fn may_follow(three_back: u8, two_back: u8, one_back: u8, byte: u8, layout: bool
     let is_open = one_back.saturating_sub(0xbf).max(wanted) > 0;
     let is_unused = (byte == 0xc0) | (byte == 0xc1);
     let is_other = ((byte < 0x20) | (byte >= 0xf5)) & !(is_layout(byte) & layout);
-    // The second bytes of overlong forms, surrogates, numbers past the last character's (Unicode,
-    // table 3-7) and controls.
+    // These exclude the second bytes of overlong forms, surrogates, numbers above U+10FFFF
+    // (Unicode, table 3-7) and controls.
     let is_low = (byte >= 0x80) & (byte < 0xa0);
     let is_lowest = (byte >= 0x80) & (byte < 0x90);
     let is_excluded = (((one_back == 0xe0) | (one_back == 0xc2)) & is_low)

@@ -1,9 +1,9 @@
 // Written by tools/erase from crates/vte_core/src/reader/run_end.rt: edit that one.
-//! Where a run of printed text ends. `run.rt` has the runs that callers take.
+//! Searches for the end of a run of printed text. `run.rt` has the runs that callers take.
 //!
-//! A word is eight bytes. No word is tried before a run has begun with single bytes, so that no
-//! byte is read often. Bytes are read by `byte_at`, `get_byte`, `get_block` and `get_window`
-//! alone, which count.
+//! A word is eight bytes. The first bytes of a run are read one by one before any word is tried, so
+//! that no byte is read often. Bytes are read only by `byte_at`, `get_byte`, `get_block` and
+//! `get_window`, which count them.
 
 use crate::proved::vte_core::class::is_layout;
 use crate::proved::vte_core::reader::{CountedPerform, Granularity, Reader};
@@ -11,23 +11,23 @@ use crate::proved::vte_core::utf8::{
     is_continuation, is_lead, is_printed_ascii, may_begin_four, may_begin_three,
 };
 
-/// The bytes of a run that are read one by one. Longer runs go on in blocks.
+/// How many bytes of a run are read one by one or by words, before blocks.
 const SHORT_RUN: usize = 96;
 
 /// The same for a run without ASCII, whose characters cost more one by one.
 const SHORT_NON_ASCII_RUN: usize = 24;
 
 impl Reader {
-    /// Returns whether printed ASCII begins a run at a position: four bytes of it, of which the
-    /// first was looked at, and `next` too.
+    /// Returns whether four bytes of printed ASCII begin a run at a position. The caller has found
+    /// the first of them, and passes the second as `next_byte`.
     #[inline(always)]
-    pub(crate) fn begins_ascii_run(self, input: &[u8], at: usize, next: Option<u8>) -> bool {
-        matches!(next, Some(second) if is_printed_ascii(second))
-            && matches!(self.get_byte(input, at + 2), Some(third) if is_printed_ascii(third))
-            && matches!(self.get_byte(input, at + 3), Some(fourth) if is_printed_ascii(fourth))
+    pub(crate) fn begins_ascii_run(self, input: &[u8], from: usize, next_byte: Option<u8>) -> bool {
+        matches!(next_byte, Some(second) if is_printed_ascii(second))
+            && matches!(self.get_byte(input, from + 2), Some(third) if is_printed_ascii(third))
+            && matches!(self.get_byte(input, from + 3), Some(fourth) if is_printed_ascii(fourth))
     }
 
-    /// Returns where the run ends that begins with four bytes of ASCII, which were looked at.
+    /// Returns the end of the run that starts at `from` with four bytes of ASCII.
     #[inline(never)]
     pub(crate) fn find_ascii_run_end<P: CountedPerform<G> + ?Sized, G: Granularity>(
         self,
@@ -39,12 +39,12 @@ impl Reader {
         self.find_run_end(input, end, performer.keeps_layout())
     }
 
-    /// Returns where the run ends that begins at a position with a character of two or three bytes,
-    /// whose first was looked at. It is that position if no run begins there.
+    /// Returns the end of the run that starts at `from` with a character of two or three bytes, or
+    /// `from` if no such run starts there.
     ///
-    /// Two bytes are tested before anything else, because malformed text seldom has them: after a
-    /// first byte of two, the second and that another character follows; after one of three, the
-    /// second and the third.
+    /// Two bytes are tested before anything else, because malformed text seldom has them. For a
+    /// character of two bytes, they are its second byte and a lead byte that follows it. For one of
+    /// three bytes, they are its second and third byte.
     #[inline(always)]
     pub(crate) fn find_run_end_at_lead<P: CountedPerform<G> + ?Sized, G: Granularity>(
         self,
@@ -73,7 +73,8 @@ impl Reader {
         }
     }
 
-    /// Returns where a run ends that already reaches `from`, by a character that isn't ASCII.
+    /// Returns the end of a run that already reaches `from`. The character before `from` isn't
+    /// ASCII.
     // The loop is that of `find_run_end_up_to`, but blocks begin later once the run has had ASCII.
     #[inline(never)]
     pub(crate) fn find_run_end_after_non_ascii<P: CountedPerform<G> + ?Sized, G: Granularity>(
@@ -103,7 +104,7 @@ impl Reader {
         self.find_run_end_by_blocks(input, end, layout)
     }
 
-    /// Returns where a run ends that already reaches `from`. With `layout`, HT, LF and CR don't end
+    /// Returns the end of a run that already reaches `from`. With `layout`, HT, LF and CR don't end
     /// it.
     #[inline(always)]
     pub(crate) fn find_run_end(self, input: &[u8], from: usize, layout: bool) -> usize {
@@ -116,8 +117,8 @@ impl Reader {
         }
     }
 
-    /// Returns where a run ends that already reaches `from`, or the first end of a character in it
-    /// that isn't before `to`.
+    /// Returns the end of a run that already reaches `from`. The search also stops at the first
+    /// character of the run that ends at `to` or later.
     #[inline(always)]
     fn find_run_end_up_to(self, input: &[u8], from: usize, to: usize, layout: bool) -> usize {
         let mut end = from;
@@ -135,15 +136,15 @@ impl Reader {
         end
     }
 
-    /// Returns where a long run ends that already reaches `from`.
+    /// Returns the end of a long run that already reaches `from`.
     #[inline(never)]
     fn find_run_end_by_blocks(self, input: &[u8], from: usize, layout: bool) -> usize {
         let end = self.skip_run_blocks(input, from, layout);
         self.find_run_end_up_to(input, end, input.len(), layout)
     }
 
-    /// Returns where the character at a position ends, which isn't printed ASCII, if a run may hold
-    /// it. Its first byte was looked at.
+    /// Returns the end of the character at a position, if a run may hold it. Its first byte isn't
+    /// printed ASCII.
     #[inline(always)]
     fn find_non_ascii_end(
         self,
@@ -176,8 +177,8 @@ impl Reader {
         None
     }
 
-    /// Returns where printed ASCII ends, of which the byte before `from` is one. Two more bytes are
-    /// read alone, then words.
+    /// Returns the end of printed ASCII that already reaches `from`. Two more bytes are read one by
+    /// one, then words.
     #[inline(always)]
     fn find_ascii_end(self, input: &[u8], from: usize) -> usize {
         match self.get_byte(input, from) {
@@ -191,13 +192,13 @@ impl Reader {
         }
     }
 
-    /// Returns the position of the first byte from `from` on that isn't printed ASCII, or one after
-    /// which fewer than eight bytes are left.
+    /// Returns the position of the first byte from `from` on that isn't printed ASCII. If no word
+    /// has one, returns the position after the last word.
     #[inline(always)]
     fn find_ascii_end_by_words(self, input: &[u8], from: usize) -> usize {
         let mut end = from;
         while let Some(word) = self.get_block::<8>(input, end) {
-            if let Some(position) = first_unprinted(&word) {
+            if let Some(position) = printed_ascii_end(&word) {
                 return end + position;
             }
             end += 8;
@@ -206,11 +207,11 @@ impl Reader {
     }
 }
 
-/// Returns the position of the first of eight bytes that isn't printed ASCII.
+/// Returns the index of the first of eight bytes that isn't printed ASCII.
 #[inline(always)]
-fn first_unprinted(word: &[u8; 8]) -> Option<usize> {
-    // Bit 7 of each eight marks a byte: from 80 on it is set, and below 20 it is after a
-    // subtraction of 20. What that borrows from the next byte may mark a space there.
+fn printed_ascii_end(word: &[u8; 8]) -> Option<usize> {
+    // The top bit of each byte marks it. From 80 on it is set, and below 20 a subtraction of 20
+    // sets it. The borrow of such a byte may also mark a space after it, but the first mark counts.
     let digits = u64::from_le_bytes(*word);
     let marks = (digits.wrapping_sub(0x2020_2020_2020_2020) | digits) & 0x8080_8080_8080_8080;
     if marks == 0 {
@@ -219,8 +220,8 @@ fn first_unprinted(word: &[u8; 8]) -> Option<usize> {
     Some(marks.trailing_zeros() as usize / 8)
 }
 
-/// Returns whether two bytes are a character that isn't a control, if the first begins one of two
-/// bytes.
+/// Returns whether two bytes are a character that isn't a control. The first is the lead byte of a
+/// character of two bytes.
 #[inline(always)]
 fn is_printed_pair(first: u8, second: u8) -> bool {
     // U+0080 to U+009F are controls.

@@ -1,18 +1,18 @@
 // Written by tools/erase from crates/vte_core/src/reader/search.rt: edit that one.
 //! Searches for the byte that ends data, a text or a string.
 //!
-//! Ignored strings may hold megabytes, so blocks are taken. No block is tried before a string has
-//! begun with single bytes, so that no byte is read often.
+//! Ignored strings may hold megabytes, so they are searched by blocks. Their first bytes are read
+//! one by one before any block is tried, so that no byte is read often.
 
 use crate::prelude::memchr;
 use crate::proved::vte_core::class::{
-    cannot_end, ends_body, is_command_data, is_device_data, ESCAPE,
+    cannot_end, ends_sequence, is_command_data, is_device_data, ESCAPE,
 };
 use crate::proved::vte_core::reader::{up_to, Reader};
 
 impl Reader {
-    /// Finds where the data bytes of an operating system command end that start at a position:
-    /// before `;` or a control, or with the input.
+    /// Returns the end of the data of an operating system command that starts at `from`: the
+    /// position of the next `;` or control, or the length of the input.
     pub(crate) fn find_command_data_end(self, input: &[u8], from: usize) -> usize {
         let mut end = from;
         while end < input.len() && is_command_data(input[end]) {
@@ -22,8 +22,8 @@ impl Reader {
         end
     }
 
-    /// Finds where the data of a device control string end that start at a position: before a byte
-    /// that isn't put, or with the input.
+    /// Returns the end of the data of a device control string that starts at `from`: the position
+    /// of the next byte that isn't put, or the length of the input.
     pub(crate) fn find_device_data_end(self, input: &[u8], from: usize) -> usize {
         let mut end = from;
         while end < input.len() && is_device_data(input[end]) {
@@ -48,28 +48,29 @@ impl Reader {
         }
     }
 
-    /// Returns where the part of a text ends that is read next: after the next ESC, or where the
-    /// search for it ended.
+    /// Returns the end of the bytes of a text that are read next: the position after the next ESC,
+    /// or the end of the search if it found none.
     // inlined, it would make the loop over bytes longer
     #[inline(never)]
-    pub(crate) fn search_text<const MAY_STOP: bool>(
+    pub(crate) fn find_text_part_end<const MAY_STOP: bool>(
         self,
         input: &[u8],
+        text_start: usize,
         from: usize,
-        at: usize,
     ) -> usize {
         let to = if MAY_STOP {
-            // A stop leaves bytes unread that were searched: no more than were read.
-            at + (at - from).min(input.len() - at)
+            // After a stop, searched bytes may be unread, so no more are searched than were read.
+            from + (from - text_start).min(input.len() - from)
         } else {
             input.len()
         };
-        let escape = self.find_escape(up_to(input, to), at);
+        let escape = self.find_escape(up_to(input, to), from);
         escape + usize::from(escape < to)
     }
 
-    /// Finds the CAN, SUB or ESC that ends an ignored string, from a position on.
-    pub(crate) fn find_string_end(self, input: &[u8], from: usize) -> usize {
+    /// Returns the position of the CAN, SUB or ESC that ends an ignored string, or the length of
+    /// the input if it has none from `from` on.
+    pub(crate) fn find_ignored_string_end(self, input: &[u8], from: usize) -> usize {
         let near = input.len().min(from + 8);
         let mut end = self.find_ending_byte(input, from, near);
         if end - from < 8 {
@@ -84,11 +85,12 @@ impl Reader {
         self.find_ending_byte(input, end, input.len())
     }
 
-    /// Finds the first CAN, SUB or ESC from one position up to another.
+    /// Returns the position of the first CAN, SUB or ESC from `from` on, or `to` if there is none
+    /// before it.
     #[inline(always)]
     fn find_ending_byte(self, input: &[u8], from: usize, to: usize) -> usize {
         for end in from..to {
-            if ends_body(self.byte_at(input, end)) {
+            if ends_sequence(self.byte_at(input, end)) {
                 return end;
             }
         }

@@ -5,7 +5,7 @@ use super::Rgb;
 use core::fmt;
 use core::str::FromStr;
 
-/// Writes `#` and two lowercase hex digits per part.
+/// Writes `#` and two lowercase hex digits per component.
 impl fmt::Display for Rgb {
     fn fmt(&self, f: &mut fmt::Formatter<'_>) -> fmt::Result {
         let Rgb { r, g, b } = *self;
@@ -31,7 +31,7 @@ fn strip_word<'a>(text: &'a [u8], word: &[u8]) -> Option<&'a [u8]> {
     text.strip_prefix(word)
 }
 
-/// Returns the colour of six hex digits, two per part.
+/// Returns the colour of six hex digits, two per component.
 fn six_digits(digits: &[u8]) -> Option<Rgb> {
     match digits {
         [r, s, g, h, b, c] => Some(Rgb {

@@ -1,16 +1,16 @@
 // Written by tools/erase from crates/vte_c/src/events/pause.rt: edit that one.
 //! The pause after a command that may have lost data, in which the parser is asked.
 
-use super::{EventWriter, MAX_ADDED};
+use super::{EventWriter, MAX_DATA_PER_BYTE};
 use crate::proved::vte_c::event;
 
 impl EventWriter<'_> {
     /// Pauses if a command may have lost data, and keeps the index of its record.
-    pub(super) fn pause_if(&mut self, may_have_lost: bool, command: usize) {
+    pub(super) fn pause_if(&mut self, may_have_lost: bool, command_index: usize) {
         if may_have_lost {
             self.paused = true;
-            self.command = command;
-            self.full_count = 0;
+            self.command_index = command_index;
+            self.full_at = 0;
         }
     }
 
@@ -18,8 +18,8 @@ impl EventWriter<'_> {
     pub(super) fn resume(&mut self, lost_data: bool) {
         if self.paused {
             self.paused = false;
-            if !self.met && self.size - self.used >= MAX_ADDED {
-                self.full_count = self.events.len().saturating_sub(1);
+            if !self.has_stopped && self.size - self.used >= MAX_DATA_PER_BYTE {
+                self.full_at = self.events.len().saturating_sub(1);
             }
             if lost_data {
                 self.add_loss();
@@ -29,7 +29,7 @@ impl EventWriter<'_> {
 
     /// Says in the record of the last command that it lost data, if it was written.
     fn add_loss(&mut self) {
-        let index = self.command;
+        let index = self.command_index;
         if index < self.count && index < self.events.len() && self.events[index].kind == event::OSC
         {
             self.events[index] = self.events[index].with_loss();

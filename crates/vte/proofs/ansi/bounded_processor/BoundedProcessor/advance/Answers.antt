@@ -3,4 +3,4 @@ use Rattle.vte.proofs.lemmas.replays.ProcessorAndEngine.{refused-never-within}
 use Rattle.vte.proofs.ansi.bounded_processor.BoundedProcessor.advance.Goals as goal
 
 pub returns : goal.returns
-returns g c = refused-never-within c.args.bytes c.read.result c.read.ensures
+returns g c = refused-never-within c.args.bytes c.advance.result c.advance.ensures

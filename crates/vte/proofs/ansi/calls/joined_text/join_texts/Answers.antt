@@ -5,31 +5,36 @@ use Rattle.vte.proofs.ansi.calls.joined_text.join_texts.Goals as goal
 use Rattle.vte.proofs.ansi.calls.joined_text.join_texts.Goals.{in-Some, in_default}
 
 pub loop-piece-init : goal.loop-piece-init
-loop-piece-init g c = record { joins = joins-begin c.clear.ensures.empty c.requires; same = c.clear.ensures.same }
+loop-piece-init g c = record {
+  joins = joins-begin c.clear.ensures.holds_nothing c.requires;
+  keeps_capacity =
+      c.clear.ensures.keeps_capacity;
+}
 
 pub push_part-requires : goal.push_part-requires
 push_part-requires g c =
     let fits =
     joins-fits c.args.keeps_all c.args.pieces.now c.loop-piece.piece-index _ c.loop-piece-test.true
     c.loop-piece.invariant.joins c.in-Some.ensures in
-    omega (arith, fits, c.loop-piece.invariant.same)
+    omega (arith, fits, c.loop-piece.invariant.keeps_capacity)
 
 pub loop-piece-preserved : goal.loop-piece-preserved
 loop-piece-preserved g c = elim c.match-text_in.branch [
-  | in-Some w ↦
+  | in-Some branch ↦
       let more =
       joins-more c.args.keeps_all c.args.pieces.now c.loop-piece.piece-index _ c.loop-piece-test.true
-      c.loop-piece.invariant.joins w.in-Some.ensures in
+      c.loop-piece.invariant.joins branch.in-Some.ensures in
       record {
-        joins = rw (w.text-is, w.push_part.ensures.pushed, w.is_first-is) more;
-        same = ap g.B.TextBuffer.text_size w.text-is ∙ w.push_part.ensures.same ∙ c.loop-piece.invariant.same;
+        joins = rw (branch.text-is, branch.push_part.ensures.pushed, branch.is_first-is) more;
+        keeps_capacity = ap g.B.TextBuffer.text_capacity branch.text-is ∙ branch.push_part.ensures.keeps_capacity
+            ∙ c.loop-piece.invariant.keeps_capacity;
       }
-  | in_default w ↦
+  | in_default branch ↦
       record {
         joins =
-            rw (w.text-is, w.is_first-is)
+            rw (branch.text-is, branch.is_first-is)
             (joins-same c.args.keeps_all c.args.pieces.now c.loop-piece.piece-index _ c.loop-piece-test.true
-            c.loop-piece.invariant.joins w.in_default.ensures);
-        same = ap g.B.TextBuffer.text_size w.text-is ∙ c.loop-piece.invariant.same;
+            c.loop-piece.invariant.joins branch.in_default.ensures);
+        keeps_capacity = ap g.B.TextBuffer.text_capacity branch.text-is ∙ c.loop-piece.invariant.keeps_capacity;
       }
 ]

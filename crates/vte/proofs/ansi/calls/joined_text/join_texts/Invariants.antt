@@ -5,8 +5,8 @@ use Rattle.vte.proofs.ansi.calls.joined_text.join_texts.Given as goal
 
 abbrev pub invariant-loop-piece : goal.invariant-loop-piece
 invariant-loop-piece g l = record {
-  joins : Joins l.keeps_all (g.B.TextBuffer.text_size l.fn.text) (g.B.TextBuffer.held l.text) l.is_first
+  joins : Joins l.keeps_all (g.B.TextBuffer.text_capacity l.fn.text) (g.B.TextBuffer.held l.text) l.is_first
       (map (λ piece. piece.now) (drop l.piece-index l.pieces))
       (map (λ piece. piece.now) l.pieces);
-  same : g.B.TextBuffer.text_size l.text ≡ g.B.TextBuffer.text_size l.fn.text;
+  keeps_capacity : g.B.TextBuffer.text_capacity l.text ≡ g.B.TextBuffer.text_capacity l.fn.text;
 }

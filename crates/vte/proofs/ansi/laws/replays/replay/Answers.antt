@@ -12,12 +12,12 @@ pub loop-step-preserved : goal.loop-step-preserved
 loop-step-preserved g c = λ state is_at.
     let before = c.loop-step.invariant state is_at in
     elim c.match-step.branch [
-      | in-Advance w ↦ rw (w.processor-is, w.handler-is)
-          (advance_taken _ state c.args.steps.now _ _ c.loop-step-test.true before w.in-Advance.is
-          (w.advance.ensures.advances before.next before.is_at))
-      | in-StopSync w ↦ rw (w.processor-is, w.handler-is)
-          (stop_taken _ state c.args.steps.now _ _ c.loop-step-test.true before w.in-StopSync.is
-          (w.stop_sync.ensures.stops before.next before.is_at))
+      | in-Advance branch ↦ rw (branch.processor-is, branch.handler-is)
+          (advance_taken _ state c.args.steps.now _ _ c.loop-step-test.true before branch.in-Advance.is
+          (branch.advance.ensures.advances before.next before.is_at))
+      | in-StopSync branch ↦ rw (branch.processor-is, branch.handler-is)
+          (stop_taken _ state c.args.steps.now _ _ c.loop-step-test.true before branch.in-StopSync.is
+          (branch.stop_sync.ensures.stops before.next before.is_at))
     ]
 
 pub returns : goal.returns

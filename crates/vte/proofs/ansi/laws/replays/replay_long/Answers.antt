@@ -12,12 +12,12 @@ pub loop-index-preserved : goal.loop-index-preserved
 loop-index-preserved g c = λ state is_at.
     let before = c.loop-index.invariant state is_at in
     elim c.match-step.branch [
-      | in-Advance+in_default w ↦ rw (w.processor-is, w.handler-is)
-          (advance_taken _ state c.args.steps.now _ _ c.loop-index-test.true before w.in-Advance.is
-          (w.in_default.ensures.all.advances before.next before.is_at))
-      | in-StopSync w ↦ rw (w.processor-is, w.handler-is)
-          (stop_taken _ state c.args.steps.now _ _ c.loop-index-test.true before w.in-StopSync.is
-          (w.stop_sync.ensures.stops.stops before.next before.is_at))
+      | in-Advance+in_default branch ↦ rw (branch.processor-is, branch.handler-is)
+          (advance_taken _ state c.args.steps.now _ _ c.loop-index-test.true before branch.in-Advance.is
+          (branch.in_default.ensures.reads_all.advances before.next before.is_at))
+      | in-StopSync branch ↦ rw (branch.processor-is, branch.handler-is)
+          (stop_taken _ state c.args.steps.now _ _ c.loop-index-test.true before branch.in-StopSync.is
+          (branch.stop_sync.ensures.stops.stops before.next before.is_at))
     ]
 
 pub returns-in-Err-clause-refuses : goal.returns-in-Err-clause-refuses
@@ -26,11 +26,11 @@ returns-in-Err-clause-refuses g c = λ state is_at.
     advance_refused _ state c.args.steps.now _ _ c.loop-index-test.true before c.in-Advance.is
     c.in-Err.ensures.reads.within (c.in-Err.ensures.reads.takes before.next before.is_at)
 
-pub returns-in-Err-clause-lacks : goal.returns-in-Err-clause-lacks
-returns-in-Err-clause-lacks g c =
+pub returns-in-Err-clause-lacks_memory : goal.returns-in-Err-clause-lacks_memory
+returns-in-Err-clause-lacks_memory g c =
     first_lacks
     (LacksMemoryLong g.T.Timeout.value_of c.advance.new.self) c.args.steps.now _ _
-    c.loop-index-test.true c.in-Advance.is c.in-Err.ensures.reads.lacks
+    c.loop-index-test.true c.in-Advance.is c.in-Err.ensures.reads.lacks_memory
 
 pub returns-clause-replays : goal.returns-clause-replays
 returns-clause-replays g c =

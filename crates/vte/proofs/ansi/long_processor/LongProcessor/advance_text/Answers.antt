@@ -3,4 +3,4 @@ use Rattle.vte.proofs.lemmas.replays.ProcessorAndEngine.{advances_long}
 use Rattle.vte.proofs.ansi.long_processor.LongProcessor.advance_text.Goals as goal
 
 pub returns : goal.returns
-returns g c = advances_long c.args.bytes c.read.result c.read.ensures
+returns g c = advances_long c.args.bytes c.advance.result c.advance.ensures

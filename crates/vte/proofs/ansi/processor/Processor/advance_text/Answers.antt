@@ -3,4 +3,4 @@ use Rattle.vte.proofs.lemmas.replays.ProcessorAndEngine.{refused-never}
 use Rattle.vte.proofs.ansi.processor.Processor.advance_text.Goals as goal
 
 pub returns : goal.returns
-returns g c = refused-never c.args.bytes c.read.result c.read.ensures
+returns g c = refused-never c.args.bytes c.advance.result c.advance.ensures

@@ -1,8 +1,9 @@
 -- Once more is one more.
 use Rattle.vte.proofs.Common.{◌∙◌}
-use Rattle.vte.proofs.lemmas.EventCalls.{set_times-add}
+use Rattle.vte.proofs.lemmas.EventCalls.{timeout_set_times-add}
 use Rattle.vte.proofs.ansi.updates.engine.set_timeout_times.Goals as goal
 
 pub loop-time-preserved : goal.loop-time-preserved
 loop-time-preserved g c =
-    c.set_timeout.ensures ∙ rw (c.from_millis.ensures, c.loop-time.invariant, set_times-add _ _ c.loop-time._time 1)
+    c.set_timeout.ensures
+    ∙ rw (c.from_millis.ensures, c.loop-time.invariant, timeout_set_times-add _ _ c.loop-time._time 1)

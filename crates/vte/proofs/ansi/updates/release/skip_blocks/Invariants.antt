@@ -1,12 +1,12 @@
 -- Neither sequence begins in the blocks so far.
 use Rattle.std.proofs.Common.{◌≤◌}
-use Rattle.vte.specs.private.Hold.{NoneBetween}
+use Rattle.vte.specs.private.Hold.{HasNoSequenceBetween}
 use Rattle.vte.proofs.ansi.updates.release.skip_blocks.Given as goal
 
 abbrev pub invariant-loop-unread : goal.invariant-loop-unread
 invariant-loop-unread l = record {
   within : l.unread ≤ l.before;
-  none : NoneBetween l.text l.unread l.before;
+  none : HasNoSequenceBetween l.text l.unread l.before;
 }
 
 abbrev pub decreases-loop-unread : goal.decreases-loop-unread

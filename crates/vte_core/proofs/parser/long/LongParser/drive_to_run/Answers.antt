@@ -4,10 +4,10 @@ use Rattle.vte_core.proofs.parser.long.LongParser.drive_to_run.Goals as goal
 
 pub returns : goal.returns
 returns g c =
-    let d = c.drive_to_run-result.ensures in
+    let driven = c.drive_to_run-result.ensures in
     rw (← c.into_reader-reader.ensures.bytes) (record {
-      comes = d.comes;
-      refuses = d.refuses;
-      costs = costs-added c.into_reader-reader.ensures.looks c.add.ensures d.costs;
-      outside_runs = d.outside_runs;
+      comes = driven.comes;
+      refuses = driven.refuses;
+      costs = costs-added c.into_reader-reader.ensures.looks c.add.ensures driven.costs;
+      outside_runs = driven.outside_runs;
     })

@@ -8,7 +8,7 @@ pub returns-then-not-matches-clause-stored : goal.returns-then-not-matches-claus
 returns-then-not-matches-clause-stored g c = λ stream has_read. elim c.match-matches.branch [
   | in-SystemCommand v ↦ absurd (false≢true (sym c.if-not-matches.true ∙ v.matches-is))
   | in_default v ↦
-      ap length c.remove_items.ensures.none ∙ sym (none_is_open _ stream v.in_default.not-SystemCommand has_read)
+      ap length c.remove_items.ensures.no_bytes ∙ sym (none_is_open _ stream v.in_default.not-SystemCommand has_read)
 ]
 
 pub returns-else-not-matches-clause-stored : goal.returns-else-not-matches-clause-stored

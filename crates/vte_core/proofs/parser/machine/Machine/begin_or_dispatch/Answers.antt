@@ -3,8 +3,8 @@
 use Rattle.vte_core.proofs.Common.{arith, refl, rules, sequence_kind, ◌∙◌}
 use Rattle.vte_core.specs.SequenceKind.{DeviceControl, IgnoredString, SystemCommand}
 use Rattle.vte_core.proofs.lemmas.bytes.Classes.{class-final, other_key}
-use Rattle.vte_core.proofs.lemmas.positions.Stretches.{takes-byte}
-use Rattle.vte_core.proofs.lemmas.positions.Progress.{settled-same_state}
+use Rattle.vte_core.proofs.lemmas.positions.TakenBytes.{takes-byte}
+use Rattle.vte_core.proofs.lemmas.positions.SettledStates.{settled-same_state}
 use Rattle.vte_core.proofs.lemmas.fields.PlaceOfState.{is_at-escape, is_at-text_begun}
 use Rattle.vte_core.proofs.lemmas.places.PlaceLeads.{escape-end, escape-key}
 use Rattle.vte_core.proofs.parser.machine.Machine.begin_or_dispatch.Goals as goal
@@ -13,7 +13,7 @@ use Rattle.vte_core.proofs.parser.machine.Machine.begin_or_dispatch.Goals as goa
 pub returns-then-byte-eq80-clause-takes : goal.returns-then-byte-eq80-clause-takes
 unfolding sequence_kind
 returns-then-byte-eq80-clause-takes g c = λ s.
-    takes-byte refl (record { fields = c.begin_head.ensures.head (is_at-escape _ s) })
+    takes-byte refl (record { fields = c.clear_numbers.ensures.head (is_at-escape _ s) })
     (escape-key DeviceControl (class-final _ c.requires.ends) (rw c.if-byte-eq80.true refl) refl)
 
 -- `]` begins a command.
@@ -27,7 +27,7 @@ returns-then-byte-eq93-clause-takes g c = λ s.
 pub returns-then-begins_ignored_string-clause-takes : goal.returns-then-begins_ignored_string-clause-takes
 returns-then-begins_ignored_string-clause-takes g c = λ s.
     let key =
-    other_key c.args.byte c.requires.other c.if-byte-eq80.false c.if-byte-eq93.false
+    other_key c.args.byte c.requires.no_bracket c.if-byte-eq80.false c.if-byte-eq93.false
     ∙ rw (← c.begins_ignored_string.ensures, c.if-begins_ignored_string.true) refl in
     takes-byte refl (record { fields = tt })
     (escape-key IgnoredString (class-final _ c.requires.ends) key refl)
@@ -36,13 +36,13 @@ returns-then-begins_ignored_string-clause-takes g c = λ s.
 pub returns-else-begins_ignored_string-clause-takes : goal.returns-else-begins_ignored_string-clause-takes
 returns-else-begins_ignored_string-clause-takes g c = λ s.
     let key =
-    other_key c.args.byte c.requires.other c.if-byte-eq80.false c.if-byte-eq93.false
+    other_key c.args.byte c.requires.no_bracket c.if-byte-eq80.false c.if-byte-eq93.false
     ∙ rw (← c.begins_ignored_string.ensures, c.if-begins_ignored_string.false) refl in
-    let d = c.dispatch_escape.ensures in
+    let dispatched = c.dispatch_escape.ensures in
     let holds = is_at-escape _ s in
     takes-byte
-    (rw (holds.kept, holds.too_many_intermediates) at d.reports.value)
-    (is_at-text_begun d.text)
+    (rw (holds.kept, holds.too_many_intermediates) at dispatched.reports.value)
+    (is_at-text_begun dispatched.text)
     (escape-end (class-final _ c.requires.ends) refl key)
 
 pub returns-else-begins_ignored_string-clause-handles : goal.returns-else-begins_ignored_string-clause-handles

@@ -4,7 +4,7 @@
 use Rattle.vte_core.proofs.Common.{ap, arith, false≢true, IsRun, length, slice_index, subst, sym, ℕ, ◌+◌, ◌<◌, ◌∙◌, ◌≡◌, ◌≤◌}
 use Rattle.vte_core.proofs.lemmas.bytes.Scalars.{fourth-broken, second-broken, spells-four, third-broken}
 use Rattle.vte_core.proofs.lemmas.bytes.Runs.{run-append}
-use Rattle.vte_core.proofs.lemmas.positions.Characters.{completes-broken, completes-then, completes-whole, goes-nowhere, goes-second, goes-third, unfinished-some}
+use Rattle.vte_core.proofs.lemmas.positions.Characters.{completes-malformed, completes-then, completes-well_formed, goes-nowhere, goes-second, goes-third, unfinished-some}
 use Rattle.vte_core.proofs.lemmas.positions.BetweenCharacters.{advances-first}
 use Rattle.vte_core.proofs.lemmas.positions.Stretches.{advances-weaker}
 use Rattle.vte_core.proofs.lemmas.positions.TextRuns.{advances-text}
@@ -24,57 +24,62 @@ next_counted next = omega arith
 -- The second byte does not fit the first one: broken.
 pub returns-then-not-may_begin_four-clause-advances : goal.returns-then-not-may_begin_four-clause-advances
 returns-then-not-may_begin_four-clause-advances g c =
-    let r = c.requires in
+    let requires = c.requires in
     -- The call's `ensures` says what its result means, and the test that it is false.
     let misfits = sym c.may_begin_four.ensures ∙ c.if-not-may_begin_four.true in
     -- The first byte is a lead byte, C2 to F4, so the call goes on by a character.
-    advances-first r.may_read (lead_of_two _ r.lead.low) r.lead.high
+    advances-first requires.may_read (lead_of_two _ requires.lead.low) requires.lead.high
     -- No further byte belongs to the character (`goes-nowhere`), and the next one breaks it.
-    (completes-broken (goes-nowhere c.args.self.now (unfinished-some _ _))
+    (completes-malformed (goes-nowhere c.args.self.now (unfinished-some _ _))
     -- The definition says so, and the code printed U+FFFD.
-    (λ more. second-broken c.args.first c.args.second more misfits) r.may_read.begun c.print_char.ensures.value
+    (λ more. second-broken c.args.first c.args.second more misfits) requires.may_read.in_state
+    c.print_char.ensures.value
     -- The next byte is within the call, and the one that was read.
-    r.within r.looked_at)
+    requires.within requires.looked_at)
 
 -- The call has two bytes or three: another function reads the last ones, one at a time.
 pub returns-then-next-len-clause-advances : goal.returns-then-next-len-clause-advances
 returns-then-next-len-clause-advances g c =
-    let r = c.requires in
+    let requires = c.requires in
     let second = sym c.may_begin_four.ensures ∙ c.if-not-may_begin_four.false in
-    advances-first r.may_read (lead_of_two _ r.lead.low) r.lead.high
-    (completes-then (goes-second c.args.self.now (lead_of_three _ r.lead.low) second r.within r.looked_at)
+    advances-first requires.may_read (lead_of_two _ requires.lead.low) requires.lead.high
+    (completes-then (goes-second c.args.self.now
+    (lead_of_three _ requires.lead.low) second requires.within requires.looked_at)
     c.continue_near_end.ensures.completes)
 
 -- The third byte does not continue: broken after two.
 pub returns-then-not-is_continuation-clause-advances : goal.returns-then-not-is_continuation-clause-advances
 returns-then-not-is_continuation-clause-advances g c =
-    let r = c.requires in
+    let requires = c.requires in
     let second = sym c.may_begin_four.ensures ∙ c.if-not-may_begin_four.false in
     let misfits = sym c.is_continuation.ensures ∙ c.if-not-is_continuation.true in
-    advances-first r.may_read (lead_of_two _ r.lead.low) r.lead.high
-    (completes-broken (goes-second c.args.self.now (lead_of_three _ r.lead.low) second r.within r.looked_at)
+    advances-first requires.may_read (lead_of_two _ requires.lead.low) requires.lead.high
+    (completes-malformed (goes-second c.args.self.now
+    (lead_of_three _ requires.lead.low) second requires.within requires.looked_at)
     (λ more. third-broken c.args.first c.args.second c.byte_at-third.result more misfits)
-    r.may_read.begun c.print_char-then-not-is_continuation.ensures.value
-    (omega (arith, r.within, c.if-next-len.false)) c.byte_at-third.ensures.value)
+    requires.may_read.in_state c.print_char-then-not-is_continuation.ensures.value
+    (omega (arith, requires.within, c.if-next-len.false)) c.byte_at-third.ensures.value)
 
 -- The fourth byte does not continue: broken after three.
 pub returns-then-not-is_continuation-2-clause-advances : goal.returns-then-not-is_continuation-2-clause-advances
 returns-then-not-is_continuation-2-clause-advances g c =
-    let r = c.requires in
+    let requires = c.requires in
     let second = sym c.may_begin_four.ensures ∙ c.if-not-may_begin_four.false in
     let third = sym c.is_continuation.ensures ∙ c.if-not-is_continuation.false in
     let misfits = sym c.is_continuation-2.ensures ∙ c.if-not-is_continuation-2.true in
-    let within : c.args.from + 1 + 2 < length c.args.input.bytes.now = omega (arith, r.within, c.if-next-len.false) in
-    advances-first r.may_read (lead_of_two _ r.lead.low) r.lead.high
-    (completes-broken (goes-third c.args.self.now r.lead.low second third within r.looked_at
+    let within : c.args.from + 1 + 2 < length c.args.input.bytes.now =
+    omega (arith, requires.within, c.if-next-len.false) in
+    advances-first requires.may_read (lead_of_two _ requires.lead.low) requires.lead.high
+    (completes-malformed (goes-third c.args.self.now requires.lead.low second third within requires.looked_at
     c.byte_at-third.ensures.value)
     (λ more. fourth-broken c.args.first c.args.second c.byte_at-third.result c.byte_at-fourth.result more misfits)
-    r.may_read.begun c.print_char-then-not-is_continuation-2.ensures.value within c.byte_at-fourth.ensures.value)
+    requires.may_read.in_state c.print_char-then-not-is_continuation-2.ensures.value within
+    c.byte_at-fourth.ensures.value)
 
 -- The run that the character begins: the four bytes, and what follows them.
 pub report_text-requires-clause-run : goal.report_text-requires-clause-run
 report_text-requires-clause-run g c =
-    let r = c.requires in
+    let requires = c.requires in
     let bytes = c.args.input.bytes.now in
     let from = c.args.from in
     let rest = c.find_run_end_after_non_ascii-end.ensures in
@@ -84,9 +89,9 @@ report_text-requires-clause-run g c =
     run-append g.P.CountedPerform.layout bytes from (from + 4) c.find_run_end_after_non_ascii-end.result (omega arith)
     (omega (arith, rest.scans.low))
     (run-four bytes from
-    (omega (arith, r.within, c.if-next-len.false)) r.may_read.looked_at r.looked_at
+    (omega (arith, requires.within, c.if-next-len.false)) requires.may_read.looked_at requires.looked_at
     (c.byte_at-third.ensures.value ∙ ap (slice_index bytes) to_third)
-    (c.byte_at-fourth.ensures.value ∙ ap (slice_index bytes) to_fourth) r.lead.low r.lead.high
+    (c.byte_at-fourth.ensures.value ∙ ap (slice_index bytes) to_fourth) requires.lead.low requires.lead.high
     (sym c.may_begin_four.ensures ∙ c.if-not-may_begin_four.false)
     (sym c.is_continuation.ensures ∙ c.if-not-is_continuation.false)
     (sym c.is_continuation-2.ensures ∙ c.if-not-is_continuation-2.false))
@@ -96,10 +101,10 @@ report_text-requires-clause-run g c =
 -- In runs, the character is reported with the run that it begins.
 pub returns-then-IN_RUNS-clause-advances : goal.returns-then-IN_RUNS-clause-advances
 returns-then-IN_RUNS-clause-advances g c =
-    let r = c.requires in
+    let requires = c.requires in
     let in_runs = sym c.IN_RUNS.ensures ∙ c.if-IN_RUNS.true in
     advances-weaker (λ given. absurd (false≢true (sym given.0 ∙ in_runs)))
-    (advances-text (r.no_stop in_runs) r.may_read.may_go_on r.may_read.begun
+    (advances-text (requires.no_stop in_runs) requires.may_read.may_go_on requires.may_read.in_state
     (omega (arith, c.find_run_end_after_non_ascii-end.ensures.scans.low))
     c.find_run_end_after_non_ascii-end.ensures.scans.high
     c.report_text.ensures.printed)
@@ -107,16 +112,17 @@ returns-then-IN_RUNS-clause-advances g c =
 -- Four bytes spell a character.
 pub returns-clause-advances : goal.returns-clause-advances
 returns-clause-advances g c =
-    let r = c.requires in
+    let requires = c.requires in
     let second = sym c.may_begin_four.ensures ∙ c.if-not-may_begin_four.false in
     let third = sym c.is_continuation.ensures ∙ c.if-not-is_continuation.false in
     let fourth = sym c.is_continuation-2.ensures ∙ c.if-not-is_continuation-2.false in
     let spells =
-    spells-four r.lead.low r.lead.high
+    spells-four requires.lead.low requires.lead.high
     second third fourth in
-    let within : c.args.from + 1 + 2 < length c.args.input.bytes.now = omega (arith, r.within, c.if-next-len.false) in
-    advances-first r.may_read (lead_of_two _ r.lead.low) r.lead.high
-    (completes-whole (goes-third c.args.self.now r.lead.low second third within r.looked_at
+    let within : c.args.from + 1 + 2 < length c.args.input.bytes.now =
+    omega (arith, requires.within, c.if-next-len.false) in
+    advances-first requires.may_read (lead_of_two _ requires.lead.low) requires.lead.high
+    (completes-well_formed (goes-third c.args.self.now requires.lead.low second third within requires.looked_at
     c.byte_at-third.ensures.value)
-    (λ more. (spells.is_whole, c.character_of_four.ensures)) r.may_read.begun
+    (λ more. (spells.is_whole, c.character_of_four.ensures)) requires.may_read.in_state
     c.report_character.ensures.value within c.byte_at-fourth.ensures.value (next_counted _))

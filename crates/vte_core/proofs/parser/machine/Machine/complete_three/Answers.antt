@@ -1,7 +1,7 @@
 -- The second and third byte of a character of three: each fits or breaks it, or the bytes of the call end.
 use Rattle.vte_core.proofs.Common.{arith, rules, sym, ℕ, ◌+◌, ◌∙◌, ◌≡◌}
 use Rattle.vte_core.proofs.lemmas.bytes.Scalars.{second-broken, spells-three, third-broken}
-use Rattle.vte_core.proofs.lemmas.positions.Characters.{completes-all, completes-broken, completes-whole, goes-nowhere, goes-second, unfinished-some}
+use Rattle.vte_core.proofs.lemmas.positions.Characters.{completes-all, completes-malformed, completes-well_formed, goes-nowhere, goes-second, unfinished-some}
 use Rattle.vte_core.proofs.parser.machine.Machine.complete_three.Goals as goal
 
 -- `omega` proves this over plain numbers, so that it has little to read.
@@ -11,35 +11,36 @@ counted from = omega arith
 -- The second byte does not fit the first one: broken.
 pub returns-then-not-may_begin_three-clause-completes : goal.returns-then-not-may_begin_three-clause-completes
 returns-then-not-may_begin_three-clause-completes g c =
-    let r = c.requires.may_read in
+    let requires = c.requires.may_read in
     let misfits = sym c.may_begin_three.ensures ∙ c.if-not-may_begin_three.true in
-    completes-broken (goes-nowhere c.args.self.now (unfinished-some _ _))
-    (λ more. second-broken c.args.first c.args.second more misfits) r.begun c.print_char.ensures.value r.within
-    r.looked_at
+    completes-malformed (goes-nowhere c.args.self.now (unfinished-some _ _))
+    (λ more. second-broken c.args.first c.args.second more misfits) requires.in_state c.print_char.ensures.value
+    requires.within
+    requires.looked_at
 
 -- The call ends after two bytes: still open.
-pub returns-then-next-len-clause-completes : goal.returns-then-next-len-clause-completes
-returns-then-next-len-clause-completes g c = search (rules, arith, completes-all, goes-second)
+pub returns-then-second_position-len-clause-completes : goal.returns-then-second_position-len-clause-completes
+returns-then-second_position-len-clause-completes g c = search (rules, arith, completes-all, goes-second)
 
 -- The third byte does not continue: broken after two.
 pub returns-then-not-is_continuation-clause-completes : goal.returns-then-not-is_continuation-clause-completes
 returns-then-not-is_continuation-clause-completes g c =
-    let r = c.requires.may_read in
+    let requires = c.requires.may_read in
     let second = sym c.may_begin_three.ensures ∙ c.if-not-may_begin_three.false in
     let misfits = sym c.is_continuation.ensures ∙ c.if-not-is_continuation.true in
-    completes-broken (goes-second c.args.self.now c.requires.lead.low second r.within r.looked_at)
-    (λ more. third-broken c.args.first c.args.second c.byte_at-third.result more misfits) r.begun
+    completes-malformed (goes-second c.args.self.now c.requires.lead.low second requires.within requires.looked_at)
+    (λ more. third-broken c.args.first c.args.second c.byte_at-third.result more misfits) requires.in_state
     c.print_char-then-not-is_continuation.ensures.value
-    (omega (arith, r.within, c.if-next-len.false)) c.byte_at-third.ensures.value
+    (omega (arith, requires.within, c.if-second_position-len.false)) c.byte_at-third.ensures.value
 
 -- Three bytes spell a character.
 pub returns-clause-completes : goal.returns-clause-completes
 returns-clause-completes g c =
-    let r = c.requires.may_read in
+    let requires = c.requires.may_read in
     let second = sym c.may_begin_three.ensures ∙ c.if-not-may_begin_three.false in
     let third = sym c.is_continuation.ensures ∙ c.if-not-is_continuation.false in
     let spells =
     spells-three c.requires.lead.low c.requires.lead.high second third in
-    completes-whole (goes-second c.args.self.now c.requires.lead.low second r.within r.looked_at)
-    (λ more. (spells.is_whole, c.character_of_three.ensures)) r.begun c.report_character.ensures.value
-    (omega (arith, r.within, c.if-next-len.false)) c.byte_at-third.ensures.value (counted _)
+    completes-well_formed (goes-second c.args.self.now c.requires.lead.low second requires.within requires.looked_at)
+    (λ more. (spells.is_whole, c.character_of_three.ensures)) requires.in_state c.report_character.ensures.value
+    (omega (arith, requires.within, c.if-second_position-len.false)) c.byte_at-third.ensures.value (counted _)

@@ -1,14 +1,15 @@
 -- Stretches add up: what leads from a position to the next leads from the start. The call ends at a stop, with all
 -- bytes, or when memory is refused.
 use Rattle.vte_core.proofs.Common.{ap, arith, Err, err_from_is_err_and, rules, ◌∙◌}
-use Rattle.vte_core.proofs.lemmas.positions.Progress.{call_ends-at_stop, call_ends-with_all, may_stop-some}
+use Rattle.vte_core.proofs.lemmas.positions.SettledStates.{may_stop-some}
+use Rattle.vte_core.proofs.lemmas.positions.CallEnds.{call_ends-at_stop, call_ends-with_all}
 use Rattle.vte_core.proofs.parser.machine.Machine.drive.Goals as goal
 
 -- The loop begins where the open character was completed.
 pub loop-position-init : goal.loop-position-init
 loop-position-init g c =
-    let f = c.finish_character-position.ensures in
-    record { is_at_position = f.is_at_position; settled = f.settled; spends = search rules }
+    let finished = c.finish_character-position.ensures in
+    record { is_at_position = finished.is_at_position; settled = finished.settled; spends = search rules }
 
 -- The bytes that the state's function reads lead from there to where it ends.
 pub loop-position-preserved : goal.loop-position-preserved
@@ -26,11 +27,11 @@ returns-clause-reads g c = call_ends-with_all (omega arith) c.loop-position.inva
 pub returns-in_err-position-clause-refuses : goal.returns-in_err-position-clause-refuses
 returns-in_err-position-clause-refuses g c =
     let error = err_from_is_err_and c.from_residual.result c.from_residual.ensures.1 in
-    let r = c.in_err-position.ensures in
+    let failed = c.in_err-position.ensures in
     rw (error.1 ∙ ap Err error.2) (record {
-      within = omega (arith, c.loop-position-test.true, c.len.ensures, r.refuses.stays);
+      within = omega (arith, c.loop-position-test.true, c.len.ensures, failed.refuses.stays);
       is_at_position = λ stream has_read.
-          r.advances.goes_on _ stream (c.loop-position.invariant.is_at_position stream has_read);
-      may_go_on = r.refuses.may_go_on;
-      refused = r.refuses.refused;
+          failed.advances.goes_on _ stream (c.loop-position.invariant.is_at_position stream has_read);
+      may_go_on = failed.refuses.may_go_on;
+      refused = failed.refuses.refused;
     })

@@ -1,5 +1,5 @@
 -- The call is at this position, and no character is open there.
-use Rattle.vte_core.proofs.Common.{chunk_call, eqb, HasReadWithLimit, IsAtPosition, IsSettled, length, List, not, SpendsWithin, ℕ, ◌-◌, ◌<◌}
+use Rattle.vte_core.proofs.Common.{ahead, chunk_call, eqb, HasReadWithLimit, IsAtPosition, IsSettled, length, List, not, per_byte, seen, SpendsWithin, ℕ, ◌-◌, ◌<◌}
 use Rattle.vte_core.proofs.parser.machine.Machine.drive.Given as goal
 
 abbrev pub invariant-loop-position : goal.invariant-loop-position
@@ -9,7 +9,8 @@ invariant-loop-position g l = record {
       g.B.Buffer.limit l.input.bytes.now) (g.P.CountedPerform.value_of l.fn.performer)
       (g.P.CountedPerform.value_of l.performer) stream l.position l.self;
   settled : l.position < length l.input.bytes.now → IsSettled l.self.state;
-  spends : SpendsWithin 5 0 2 l.input.bytes.now 0 l.position l.fn.self l.self l.fn.reader l.reader;
+  spends : SpendsWithin (per_byte 5) (seen 0) (ahead 2)
+      l.input.bytes.now 0 l.position l.fn.self l.self l.fn.reader l.reader;
 }
 
 abbrev pub decreases-loop-position : goal.decreases-loop-position

@@ -24,24 +24,24 @@ loop-position-init g c = search (rules, arith)
 -- In a text, the search has found a run of text, and the machine is between characters.
 pub returns-then-end-position-clause-comes : goal.returns-then-end-position-clause-comes
 returns-then-end-position-clause-comes g c =
-    let v = c.loop-position.invariant in
+    let invariant = c.loop-position.invariant in
     let found = c.find_run_end-end.ensures in
-    let settled = settled-text c.in-Text.is (v.settled (omega arith)) in
+    let settled = settled-text c.in-Text.is (invariant.settled (omega arith)) in
     comes-to_run (has-text settled (omega arith) found.scans.high found.scans.passed found.ended) (omega arith)
-    (sym c.terminated.ensures ∙ c.if-not-terminated.true) v.before_run.is_at_position
+    (sym c.terminated.ensures ∙ c.if-not-terminated.true) invariant.before_run.is_at_position
 
 -- In data, the search has found data that are put.
 pub returns-then-end-position-2-clause-comes : goal.returns-then-end-position-2-clause-comes
 returns-then-end-position-2-clause-comes g c =
-    let v = c.loop-position.invariant in
+    let invariant = c.loop-position.invariant in
     let found = c.find_device_data_end-end.ensures in
     comes-to_run (has-data c.in-DeviceData.is (omega arith) found.high found.passed found.ended) (omega arith)
-    (sym c.terminated.ensures ∙ c.if-not-terminated.true) v.before_run.is_at_position
+    (sym c.terminated.ensures ∙ c.if-not-terminated.true) invariant.before_run.is_at_position
 
 -- In a text that begins with no run, what is read belongs to no run.
 pub loop-position-preserved-else-end-position : goal.loop-position-preserved-else-end-position
 loop-position-preserved-else-end-position g c =
-    let read = c.read_unprinted-position.ensures.advances in
+    let read = c.read_outside_runs-position.ensures.advances in
     record {
       before_run = before_run-then c.loop-position.invariant.before_run tt read;
       settled = read.settled;
@@ -73,16 +73,16 @@ loop-position-preserved g c =
 pub returns-in_err-position-in_default : goal.returns-in_err-position-in_default
 returns-in_err-position-in_default g c =
     let error = err_from_is_err_and c.from_residual.result c.from_residual.ensures.1 in
-    let r = c.in_err-position-in_default.ensures in
+    let failed = c.in_err-position-in_default.ensures in
     let outside = outside-text_and_data _ c.in_default.not-Text c.in_default.not-DeviceData in
-    let refused = before_run-then c.loop-position.invariant.before_run outside r.advances in
+    let refused = before_run-then c.loop-position.invariant.before_run outside failed.advances in
     record {
       comes = search rules;
       refuses = rw (error.1 ∙ ap Err error.2) (record {
-        within = omega (arith, c.loop-position-test.true, c.len.ensures, r.refuses.stays);
+        within = omega (arith, c.loop-position-test.true, c.len.ensures, failed.refuses.stays);
         is_at_position = refused.is_at_position;
-        may_go_on = r.refuses.may_go_on;
-        refused = r.refuses.refused;
+        may_go_on = failed.refuses.may_go_on;
+        refused = failed.refuses.refused;
       });
       costs = search rules;
       outside_runs = λ stream has_read. rw (error.1 ∙ ap Err error.2) (refused.outside_runs stream has_read);
@@ -91,12 +91,13 @@ returns-in_err-position-in_default g c =
 -- Without a run, either the performer was terminated or all bytes are read.
 pub returns-clause-comes : goal.returns-clause-comes
 returns-clause-comes g c =
-    let v = c.loop-position.invariant in
+    let invariant = c.loop-position.invariant in
     let empty = c.empty.ensures in
-    comes-nowhere v.spends.high empty.start empty.end empty.kind v.before_run.is_at_position
+    comes-nowhere invariant.spends.high empty.start empty.end empty.kind invariant.before_run.is_at_position
     (λ left. elim c.loop-position-test.branch [
-      | then-loop-position-test+else-not-terminated w ↦ sym w.terminated.ensures ∙ w.if-not-terminated.false
-      | else-loop-position-test w ↦ absurd (omega (arith, left, w.loop-position-test.false, c.len.ensures))
+      | then-loop-position-test+else-not-terminated branch ↦ sym branch.terminated.ensures
+          ∙ branch.if-not-terminated.false
+      | else-loop-position-test branch ↦ absurd (omega (arith, left, branch.loop-position-test.false, c.len.ensures))
     ])
 
 pub returns-clause-outside_runs : goal.returns-clause-outside_runs

@@ -1,5 +1,5 @@
 -- As for `drive`; and what is reported so far is reported by no run.
-use Rattle.vte_core.proofs.Common.{chunk_call, ChunkCall, HasReadWithLimit, IsAtPosition, IsSettled, length, List, Machine, ReportsOutsideRuns, SpendsWithin, true, ℕ, ◌-◌, ◌<◌}
+use Rattle.vte_core.proofs.Common.{ahead, chunk_call, ChunkCall, HasReadWithLimit, IsAtPosition, IsSettled, length, List, Machine, per_byte, ReportsOutsideRuns, seen, SpendsWithin, true, ℕ, ◌-◌, ◌<◌}
 use Rattle.vte_core.proofs.parser.machine.Machine.drive_to_run.Given as goal
 
 -- The call is at this position, and what it has reported belongs to no run.
@@ -17,7 +17,8 @@ invariant-loop-position g l = record {
       (g.P.CountedPerform.value_of l.fn.performer) (g.P.CountedPerform.value_of l.performer) l.position l.fn.self
       l.self;
   settled : l.position < length l.input.bytes.now → IsSettled l.self.state;
-  spends : SpendsWithin 7 0 2 l.input.bytes.now 0 l.position l.fn.self l.self l.fn.reader l.reader;
+  spends : SpendsWithin (per_byte 7) (seen 0) (ahead 2)
+      l.input.bytes.now 0 l.position l.fn.self l.self l.fn.reader l.reader;
 }
 
 abbrev pub decreases-loop-position : goal.decreases-loop-position

@@ -1,7 +1,7 @@
 -- An ill-shaped head reports nothing. Any other is whole once the last number is settled, and is dispatched.
 use Rattle.vte_core.proofs.Common.{ap, arith, CsiDispatch, head_of, InText, refl, rules, sequence_event, [], ◌∙◌, ◌∷◌}
 use Rattle.vte_core.proofs.lemmas.bytes.Classes.{class-final}
-use Rattle.vte_core.proofs.lemmas.positions.Progress.{settled-same_state}
+use Rattle.vte_core.proofs.lemmas.positions.SettledStates.{settled-same_state}
 use Rattle.vte_core.proofs.lemmas.fields.Heads.{dispatched-ready, head-holds, ill_shaped-now}
 use Rattle.vte_core.proofs.lemmas.places.PlaceLeads.{control-dispatched, control-silent}
 use Rattle.vte_core.proofs.lemmas.fields.PlaceOfState.{is_at-text_begun}
@@ -23,14 +23,14 @@ returns-in-IllShaped-clause-takes g c = λ head s.
 pub returns-clause-takes : goal.returns-clause-takes
 returns-clause-takes g c = λ head s.
     let ready = c.end_head-ignore.ensures c.args.head.progress head (head-holds c.in_default.not-IllShaped s) in
-    let d = c.dispatch_control_sequence.ensures.dispatches in
+    let dispatch = c.dispatch_control_sequence.ensures.dispatches in
     record {
       reported = sequence_event CsiDispatch (head_of head) c.args.byte ∷ [];
       next = InText [];
-      performed = d.reports.value
+      performed = dispatch.reports.value
           ∙ ap (g.P.CountedPerform.step (g.P.CountedPerform.value_of c.args.performer.now))
           (dispatched-ready CsiDispatch c.args.byte ready);
-      is_at = is_at-text_begun d.text;
+      is_at = is_at-text_begun dispatch.text;
       leads = control-dispatched (class-final _ c.requires.final_byte) ready.well_shaped;
     }
 

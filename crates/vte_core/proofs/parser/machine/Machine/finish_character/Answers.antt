@@ -2,7 +2,8 @@
 use Rattle.vte_core.proofs.Common.{arith, false≢true, rules, sym, ◌∙◌}
 use Rattle.vte_core.proofs.lemmas.positions.Characters.{opens-text}
 use Rattle.vte_core.proofs.lemmas.positions.AddedEvents.{reports-nothing, reports-open}
-use Rattle.vte_core.proofs.lemmas.positions.Progress.{settled-nothing, settled-outside, settled-same_state, starts-at, starts-inside}
+use Rattle.vte_core.proofs.lemmas.positions.SettledStates.{settled-nothing, settled-outside, settled-same_state}
+use Rattle.vte_core.proofs.lemmas.positions.CallEnds.{starts-at, starts-inside}
 use Rattle.vte_core.proofs.parser.machine.Machine.finish_character.Goals as goal
 
 -- A text without an open character.

@@ -20,16 +20,16 @@ returns-in-IllShaped-clause-takes g c = λ head s.
 -- A well-shaped head is reported by `Hook`.
 pub returns-clause-takes : goal.returns-clause-takes
 returns-clause-takes g c = λ head s.
-    let f = c.end_head-ignore.ensures c.args.progress head (head-holds c.in_default.not-IllShaped s) in
+    let head_end = c.end_head-ignore.ensures c.args.progress head (head-holds c.in_default.not-IllShaped s) in
     record {
       reported = sequence_event Hook (head_of head) c.args.byte ∷ [];
       next = InDeviceData;
       performed =
           c.hook.ensures.value
           ∙ ap (g.P.CountedPerform.step (g.P.CountedPerform.value_of c.args.performer.now))
-          (dispatched-ready Hook c.args.byte f);
+          (dispatched-ready Hook c.args.byte head_end);
       is_at = record { fields = tt };
-      leads = device-well_shaped (class-final _ c.requires) f.well_shaped;
+      leads = device-well_shaped (class-final _ c.requires) head_end.well_shaped;
     }
 
 pub returns-clause-handles : goal.returns-clause-handles

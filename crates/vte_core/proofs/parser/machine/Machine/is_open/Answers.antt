@@ -6,11 +6,11 @@ use Rattle.vte_core.proofs.parser.machine.Machine.is_open.Goals.{in-Nothing, in_
 pub returns : goal.returns
 returns g c = record {
   closed = λ closed. elim c.match-matches.branch [
-    | in-Nothing w ↦ c.open.ensures.closed w.in-Nothing.is
-    | in_default w ↦ absurd (false≢true (sym closed ∙ ap not w.matches-is))
+    | in-Nothing branch ↦ c.open.ensures.closed branch.in-Nothing.is
+    | in_default branch ↦ absurd (false≢true (sym closed ∙ ap not branch.matches-is))
   ];
   opens = λ opened. elim c.match-matches.branch [
-    | in-Nothing w ↦ absurd (false≢true (sym (ap not w.matches-is) ∙ opened))
-    | in_default w ↦ c.open.ensures.opens w.in_default.not-Nothing
+    | in-Nothing branch ↦ absurd (false≢true (sym (ap not branch.matches-is) ∙ opened))
+    | in_default branch ↦ c.open.ensures.opens branch.in_default.not-Nothing
   ];
 }

@@ -5,7 +5,7 @@ use Rattle.vte_core.proofs.parser.machine.Machine.open.Goals as goal
 
 pub returns : goal.returns
 returns g c = record {
-  which = λ stream has_read. c.open.ensures ∙ which_is_open has_read;
+  kind = λ stream has_read. c.open.ensures ∙ which_is_open has_read;
   closed = λ nothing stream has_read. closed_is_finished c.args.self.now (sym c.open.ensures ∙ nothing) has_read;
   opens = λ something stream has_read. open_is_unfinished (λ nothing. something (c.open.ensures ∙ nothing)) has_read;
 }

@@ -4,14 +4,16 @@ use Rattle.vte_core.proofs.parser.machine.Machine.read_end.Goals as goal
 
 pub returns-then-byte-ne-ESCAPE-clause-advances : goal.returns-then-byte-ne-ESCAPE-clause-advances
 returns-then-byte-ne-ESCAPE-clause-advances g c =
-    let r = c.requires.may_read in
-    let d = c.end_body.ensures in
-    advances-given c.requires.outside (advances-byte r.within r.looked_at r.may_go_on d.takes d.handles.settled)
+    let requires = c.requires.may_read in
+    let ended = c.end_sequence.ensures in
+    advances-given c.requires.outside_runs
+    (advances-byte requires.within requires.looked_at requires.may_go_on ended.takes ended.handles.settled)
 
 pub returns-clause-advances : goal.returns-clause-advances
 returns-clause-advances g c =
-    let r = c.requires.may_read in
-    let d = c.end_body.ensures in
+    let requires = c.requires.may_read in
+    let ended = c.end_sequence.ensures in
     advances-then
-    (advances-given c.requires.outside (advances-byte r.within r.looked_at r.may_go_on d.takes d.handles.settled))
+    (advances-given c.requires.outside_runs
+    (advances-byte requires.within requires.looked_at requires.may_go_on ended.takes ended.handles.settled))
     c.read_escape.ensures.advances

@@ -1,8 +1,9 @@
 -- Bytes of an ignored string lead back to it, one by one (`advances-by`); then it ends, or the bytes do.
 use Rattle.vte_core.proofs.Common.{Advances, AreIgnored, arith, ChunkCall, IgnoredString, length, Machine, MayGoOn, refl, rules, suc, zero, ℕ, ◌+◌, ◌-◌, ◌≡◌, ◌≤◌}
 use Rattle.vte_core.proofs.lemmas.bytes.Classes.{ends_not_cancel}
-use Rattle.vte_core.proofs.lemmas.positions.Stretches.{advances-given, advances-in, advances-nothing, advances-then, advances-to_same, takes-byte, takes-in_ignored}
-use Rattle.vte_core.proofs.lemmas.positions.Progress.{settled-same_state}
+use Rattle.vte_core.proofs.lemmas.positions.Stretches.{advances-given, advances-nothing, advances-then, advances-to_same}
+use Rattle.vte_core.proofs.lemmas.positions.TakenBytes.{advances-in, takes-byte, takes-in_ignored}
+use Rattle.vte_core.proofs.lemmas.positions.SettledStates.{settled-same_state}
 use Rattle.vte_core.proofs.lemmas.fields.PlaceOfState.{is_at-by}
 use Rattle.vte_core.proofs.lemmas.places.PlaceLeads.{ignored-more}
 use Rattle.vte_core.proofs.parser.machine.Machine.read_ignored_string.Goals as goal
@@ -11,24 +12,24 @@ use Rattle.vte_core.proofs.parser.machine.Machine.read_ignored_string.Goals as g
 advances-by : {outside V B : Type 0} {call : ChunkCall V} {value : V} {parser : Machine B} (n i : ℕ)
     → parser.state ≡ IgnoredString → i + n ≤ length call.bytes → AreIgnored call.bytes i (i + n) → MayGoOn call value
     → Advances outside call value value i (i + n) parser parser
-advances-by zero i begun within are_ignored may_go_on =
-    advances-to_same (omega arith) (advances-nothing (λ _. settled-same_state begun tt))
-advances-by {call} {parser} (suc n) i begun within are_ignored may_go_on =
+advances-by zero i in_state within are_ignored may_go_on =
+    advances-to_same (omega arith) (advances-nothing (λ _. settled-same_state in_state tt))
+advances-by {call} {parser} (suc n) i in_state within are_ignored may_go_on =
     let ordinary = are_ignored i (omega arith) (omega arith) in
     advances-to_same (omega arith) (advances-then
-    (advances-given tt (advances-in begun (omega (arith, within)) refl may_go_on ordinary
+    (advances-given tt (advances-in in_state (omega (arith, within)) refl may_go_on ordinary
     (takes-in_ignored parser
-    (takes-byte refl (is_at-by begun tt)
-    (ignored-more (ends_not_cancel _ ordinary)))) (settled-same_state begun tt)))
-    (advances-by n (i + 1) begun (omega (arith, within))
+    (takes-byte refl (is_at-by in_state tt)
+    (ignored-more (ends_not_cancel _ ordinary)))) (settled-same_state in_state tt)))
+    (advances-by n (i + 1) in_state (omega (arith, within))
     (λ k low high. are_ignored k (omega (arith, low)) (omega (arith, high))) may_go_on))
 
 advances-ignored : {outside V B : Type 0} {call : ChunkCall V} {value : V} {i j : ℕ} {parser : Machine B}
     → parser.state ≡ IgnoredString → i ≤ j → j ≤ length call.bytes → AreIgnored call.bytes i j → MayGoOn call value
     → Advances outside call value value i j parser parser
-advances-ignored {i} {j} begun low high are_ignored may_go_on =
+advances-ignored {i} {j} in_state low high are_ignored may_go_on =
     advances-to_same (omega (arith, low))
-    (advances-by (j - i) i begun (omega (arith, low, high))
+    (advances-by (j - i) i in_state (omega (arith, low, high))
     (λ k from to. are_ignored k from (omega (arith, low, to))) may_go_on)
 
 pub returns-in-None-clause-advances : goal.returns-in-None-clause-advances

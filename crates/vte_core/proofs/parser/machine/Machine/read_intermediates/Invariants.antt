@@ -1,5 +1,5 @@
 -- The call is at this position, after intermediates.
-use Rattle.vte_core.proofs.Common.{Advances, chunk_call, eqb, EscapeIntermediate, MayGoOn, not, SpendsWithin, ◌≡◌}
+use Rattle.vte_core.proofs.Common.{Advances, ahead, chunk_call, eqb, EscapeIntermediate, MayGoOn, not, per_byte, seen, SpendsWithin, ◌≡◌}
 use Rattle.vte_core.proofs.parser.machine.Machine.read_intermediates.Given as goal
 
 abbrev pub invariant-loop-position : goal.invariant-loop-position
@@ -10,6 +10,7 @@ invariant-loop-position g l = record {
       l.initial.self l.self;
   may_go_on : MayGoOn (chunk_call (not (eqb g.row.MAY_STOP 0)) g.P.CountedPerform.step g.P.CountedPerform.is_terminated
       g.B.Buffer.limit l.input.bytes.now) (g.P.CountedPerform.value_of l.performer);
-  begun : l.self.state ≡ EscapeIntermediate;
-  spends : SpendsWithin 1 0 0 l.input.bytes.now l.from l.position l.initial.self l.self l.initial.reader l.reader;
+  in_state : l.self.state ≡ EscapeIntermediate;
+  spends : SpendsWithin (per_byte 1) (seen 0) (ahead 0)
+      l.input.bytes.now l.from l.position l.initial.self l.self l.initial.reader l.reader;
 }

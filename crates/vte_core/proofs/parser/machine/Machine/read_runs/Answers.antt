@@ -1,8 +1,8 @@
 -- In a round the call may first print a run of ASCII (`advances-ascii`). Then it is before a byte (`may_read-next`),
 -- which it reads by one of three branches, of which two join (`advances-next`).
-use Rattle.vte_core.proofs.Common.{Advances, arith, length, Nothing, rules, sym, Text, ◌<◌, ◌∙◌}
+use Rattle.vte_core.proofs.Common.{Advances, arith, Empty, length, rules, sym, Text, ◌<◌, ◌∙◌}
 use Rattle.vte_core.specs.private.Prelude.{MayReadByte}
-use Rattle.vte_core.proofs.lemmas.positions.Progress.{settled-same_state}
+use Rattle.vte_core.proofs.lemmas.positions.SettledStates.{settled-same_state}
 use Rattle.vte_core.proofs.lemmas.positions.Stretches.{advances-byte, advances-then, advances-without_promise}
 use Rattle.vte_core.proofs.lemmas.positions.TextRuns.{advances-text, may_go_on-malformed, may_go_on-text}
 use Rattle.vte_core.proofs.lemmas.positions.BetweenCharacters.{takes_bytes-single}
@@ -17,37 +17,39 @@ advances-ascii : (g : Over) (c : Joined-is_printed_ascii g)
     (g.P.CountedPerform.value_of c.if-is_printed_ascii.performer) c.args.from c.if-is_printed_ascii.position
     c.args.self.now c.loop-position.self
 advances-ascii g c =
-    let v = c.loop-position.invariant in
+    let invariant = c.loop-position.invariant in
     elim c.if-is_printed_ascii.branch [
-      | then-is_printed_ascii+in-Some w ↦
-          let run = w.print_ascii-run.ensures in
-          rw (w.performer-is, w.position-is) (advances-then v.advances
-          (advances-text c.requires.no_stop v.may_go_on (v.settled (omega (arith, c.loop-position-test.true)))
+      | then-is_printed_ascii+in-Some branch ↦
+          let run = branch.print_ascii-run.ensures in
+          rw (branch.performer-is, branch.position-is) (advances-then invariant.advances
+          (advances-text c.requires.no_stop invariant.may_go_on
+          (invariant.settled (omega (arith, c.loop-position-test.true)))
           run.progress run.high run.prints))
-      | else-is_printed_ascii w ↦ rw (w.performer-is, w.position-is) v.advances
+      | else-is_printed_ascii branch ↦ rw (branch.performer-is, branch.position-is) invariant.advances
     ]
 
 -- The call may read the byte after the run of ASCII.
 may_read-next : (g : Over) (c : Joined-is_printed_ascii g) → MayReadByte (call_at g c.args.input.bytes.now)
-    (g.P.CountedPerform.value_of c.if-is_printed_ascii.performer) (Text Nothing) c.loop-position.self
+    (g.P.CountedPerform.value_of c.if-is_printed_ascii.performer) (Text Empty) c.loop-position.self
     c.if-is_printed_ascii.position c.if-is_printed_ascii.byte
 may_read-next g c =
-    let v = c.loop-position.invariant in
+    let invariant = c.loop-position.invariant in
     let within : c.loop-position.position < length c.args.input.bytes.now =
     omega (arith, c.loop-position-test.true) in
     elim c.if-is_printed_ascii.branch [
-      | then-is_printed_ascii+in-Some w ↦
-          let run = w.print_ascii-run.ensures in
-          let next = rw w.in-Some.is at run.next in
-          rw (w.performer-is, w.position-is, w.byte-is) (record {
-            begun = v.settled within;
-            may_go_on = may_go_on-text (call_at g c.args.input.bytes.now) c.requires.no_stop v.may_go_on run.prints;
+      | then-is_printed_ascii+in-Some branch ↦
+          let run = branch.print_ascii-run.ensures in
+          let next = rw branch.in-Some.is at run.next_is in
+          rw (branch.performer-is, branch.position-is, branch.byte-is) (record {
+            in_state = invariant.settled within;
+            may_go_on = may_go_on-text
+                (call_at g c.args.input.bytes.now) c.requires.no_stop invariant.may_go_on run.prints;
             within = next.0;
             looked_at = next.1;
           })
-      | else-is_printed_ascii w ↦ rw (w.performer-is, w.position-is, w.byte-is) (record {
-        begun = v.settled within;
-        may_go_on = v.may_go_on;
+      | else-is_printed_ascii branch ↦ rw (branch.performer-is, branch.position-is, branch.byte-is) (record {
+        in_state = invariant.settled within;
+        may_go_on = invariant.may_go_on;
         within = within;
         looked_at = c.byte_at-byte.ensures.value;
       })
@@ -56,15 +58,16 @@ may_read-next g c =
 -- A run of ASCII up to the end of what was looked at: its characters, and nothing more in this round.
 pub loop-position-preserved-in-None : goal.loop-position-preserved-in-None
 loop-position-preserved-in-None g c =
-    let v = c.loop-position.invariant in
+    let invariant = c.loop-position.invariant in
     let within : c.loop-position.position < length c.args.input.bytes.now =
     omega (arith, c.loop-position-test.true) in
     let run = c.print_ascii-run.ensures in
     record {
-      advances = advances-then v.advances
-          (advances-text c.requires.no_stop v.may_go_on (v.settled within) run.progress run.high run.prints);
-      may_go_on = may_go_on-text (call_at g c.args.input.bytes.now) c.requires.no_stop v.may_go_on run.prints;
-      settled = λ _. v.settled within;
+      advances = advances-then invariant.advances
+          (advances-text c.requires.no_stop invariant.may_go_on
+          (invariant.settled within) run.progress run.high run.prints);
+      may_go_on = may_go_on-text (call_at g c.args.input.bytes.now) c.requires.no_stop invariant.may_go_on run.prints;
+      settled = λ _. invariant.settled within;
       spends = search rules;
       progress = search rules;
     }
@@ -74,35 +77,35 @@ pub read_run_at_lead-position-requires-clause-may_read : goal.read_run_at_lead-p
 read_run_at_lead-position-requires-clause-may_read g c = may_read-next g
     (goal.at.read_run_at_lead-position-requires-clause-may_read g c).Joined-is_printed_ascii
 
-pub read_sequence-requires-clause-may_read : goal.read_sequence-requires-clause-may_read
-read_sequence-requires-clause-may_read g c =
-    let here = may_read-next g (goal.at.read_sequence-requires-clause-may_read g c).Joined-is_printed_ascii in
-    record { begun = here.begun; may_go_on = here.may_go_on; within = here.within }
+pub read_from_escape-requires-clause-may_read : goal.read_from_escape-requires-clause-may_read
+read_from_escape-requires-clause-may_read g c =
+    let here = may_read-next g (goal.at.read_from_escape-requires-clause-may_read g c).Joined-is_printed_ascii in
+    record { in_state = here.in_state; may_go_on = here.may_go_on; within = here.within }
 
 -- At an ESC, the run, if any, comes first, and then the escape sequence.
 pub returns-then-byte-eq-ESCAPE-clause-advances : goal.returns-then-byte-eq-ESCAPE-clause-advances
 returns-then-byte-eq-ESCAPE-clause-advances g c =
     advances-then (advances-ascii g (goal.at.returns-then-byte-eq-ESCAPE-clause-advances g c).Joined-is_printed_ascii)
-    (advances-without_promise c.read_sequence.ensures.advances)
+    (advances-without_promise c.read_from_escape.ensures.advances)
 
 -- A control or malformed byte alone below A0, and what a lead byte begins.
 advances-next : (g : Over) (c : Joined-byte-lt160 g)
     → MayReadByte (call_at g c.args.input.bytes.now) (g.P.CountedPerform.value_of c.if-is_printed_ascii.performer)
-    (Text Nothing) c.loop-position.self c.if-is_printed_ascii.position c.if-is_printed_ascii.byte
+    (Text Empty) c.loop-position.self c.if-is_printed_ascii.position c.if-is_printed_ascii.byte
     → Advances ⊥ (call_at g c.args.input.bytes.now) (g.P.CountedPerform.value_of c.if-is_printed_ascii.performer)
     (g.P.CountedPerform.value_of c.if-byte-lt160.performer) c.if-is_printed_ascii.position c.if-byte-lt160.position
     c.loop-position.self c.if-byte-lt160.self
 advances-next g c here = elim c.if-byte-lt160.branch [
-  | then-byte-lt160+else-byte-eq-ESCAPE w ↦
-      let reported = w.report_lone_byte.ensures in
-      rw (w.self-is, w.performer-is, w.position-is) (advances-without_promise
+  | then-byte-lt160+else-byte-eq-ESCAPE branch ↦
+      let reported = branch.report_lone_byte.ensures in
+      rw (branch.self-is, branch.performer-is, branch.position-is) (advances-without_promise
       (advances-byte here.within here.looked_at here.may_go_on
-      (takes_bytes-single here.begun w.if-byte-eq-ESCAPE.false (grind (arith, w.if-byte-lt160.true))
+      (takes_bytes-single here.in_state branch.if-byte-eq-ESCAPE.false (grind (arith, branch.if-byte-lt160.true))
       reported.control reported.malformed)
-      (settled-same_state here.begun tt)))
-  | else-byte-lt160+then-is_lead w ↦
-      rw (w.self-is, w.performer-is, w.position-is)
-      (advances-without_promise w.read_run_at_lead-position.ensures.advances)
+      (settled-same_state here.in_state tt)))
+  | else-byte-lt160+then-is_lead branch ↦
+      rw (branch.self-is, branch.performer-is, branch.position-is)
+      (advances-without_promise branch.read_run_at_lead-position.ensures.advances)
 ]
 
 -- A stop after these.
@@ -123,8 +126,9 @@ loop-position-preserved g c =
           (advances-next g joins.Joined-byte-lt160 here);
       may_go_on = search rules;
       settled = elim c.if-byte-lt160.branch [
-        | then-byte-lt160+else-byte-eq-ESCAPE w ↦ rw w.self-is (λ _. here.begun)
-        | else-byte-lt160+then-is_lead w ↦ rw (w.self-is, w.position-is) w.read_run_at_lead-position.ensures.text
+        | then-byte-lt160+else-byte-eq-ESCAPE branch ↦ rw branch.self-is (λ _. here.in_state)
+        | else-byte-lt160+then-is_lead branch ↦ rw
+            (branch.self-is, branch.position-is) branch.read_run_at_lead-position.ensures.text
       ];
       spends = search rules;
       progress = search rules;
@@ -139,13 +143,13 @@ loop-position-preserved-else-is_lead g c =
     record {
       advances = advances-then (advances-ascii g joins.Joined-is_printed_ascii) (advances-without_promise
           (advances-byte here.within here.looked_at here.may_go_on
-          (takes_bytes-single here.begun (grind (arith, c.if-byte-lt160.false))
+          (takes_bytes-single here.in_state (grind (arith, c.if-byte-lt160.false))
           (sym c.is_lead.ensures ∙ c.if-is_lead.false) reported.control reported.malformed)
-          (settled-same_state here.begun tt)));
+          (settled-same_state here.in_state tt)));
       may_go_on = may_go_on-malformed g.P.CountedPerform.layout (call_at g c.args.input.bytes.now)
           c.requires.no_stop here.may_go_on (omega (arith, c.if-byte-lt160.false))
           (reported.malformed (omega (arith, c.if-byte-lt160.false)));
-      settled = λ _. here.begun;
+      settled = λ _. here.in_state;
       spends = search rules;
       progress = search rules;
     }

@@ -10,24 +10,24 @@ pub returns-then-is_final-clause-advances : goal.returns-then-is_final-clause-ad
 returns-then-is_final-clause-advances g c =
     let ended = c.end_control_sequence.ensures in
     advances-final_byte c.requires.may_read c.read_numbers-head.ensures.reads c.in-Some.is
-    (sym c.is_final.ensures ∙ c.if-is_final.true) ended.takes ended.handles.settled ended.next
+    (sym c.is_final.ensures ∙ c.if-is_final.true) ended.takes ended.handles.settled ended.value
 
 pub end_control_sequence-requires-clause-no_overflow : goal.end_control_sequence-requires-clause-no_overflow
 end_control_sequence-requires-clause-no_overflow g c =
-    let next = rw c.in-Some.is at c.read_numbers-head.ensures.reads.next in search rules
+    let next = rw c.in-Some.is at c.read_numbers-head.ensures.reads.next_byte in search rules
 
 -- After the number comes `;`.
 pub returns-then-byte-eq59-clause-advances : goal.returns-then-byte-eq59-clause-advances
 unfolding class_of
 returns-then-byte-eq59-clause-advances g c =
     let numbers = c.read_numbers-head.ensures in
-    let next = rw c.in-Some.is at numbers.reads.next in
+    let next = rw c.in-Some.is at numbers.reads.next_byte in
     let is_semicolon : c.in-Some.byte ≡ 59 = c.if-byte-eq59.true in
     advances-then
-    (advances-head ControlHead c.requires.may_read.begun
+    (advances-head ControlHead c.requires.may_read.in_state
     (reads_head-then numbers.reads.head (reads_head-byte next.0 next.1 (rw is_semicolon refl) (λ head s.
     rw is_semicolon
-    (holds-parameter head 59 numbers.may_have_parameters s refl c.end_number.ensures.same
+    (holds-parameter head 59 numbers.may_have_parameters s refl c.end_number.ensures.same_intermediates
     c.end_number.ensures.counts))))
     c.requires.may_read.may_go_on refl)
     c.read_more_numbers.ensures.advances
@@ -36,6 +36,6 @@ returns-then-byte-eq59-clause-advances g c =
 pub returns-clause-advances : goal.returns-clause-advances
 returns-clause-advances g c =
     advances-then
-    (advances-head ControlHead c.requires.may_read.begun c.read_numbers-head.ensures.reads.head
+    (advances-head ControlHead c.requires.may_read.in_state c.read_numbers-head.ensures.reads.head
     c.requires.may_read.may_go_on refl)
     c.read_more_numbers-2.ensures.advances

@@ -1,6 +1,6 @@
 -- The call is at this position, between characters if bytes are left. A byte of the text has three looks at most,
 -- and one more if it is searched: a call that may stop searches no further than it has read. Both loops keep that.
-use Rattle.vte_core.proofs.Common.{Advances, chunk_call, ChunkCall, length, List, looked, Machine, MayGoOn, Nothing, slice_index, SpendsWithin, Text, true, ℕ, ◌*◌, ◌+◌, ◌-◌, ◌<◌, ◌≡◌, ◌≤◌}
+use Rattle.vte_core.proofs.Common.{Advances, ahead, chunk_call, ChunkCall, Empty, length, List, looks_of, Machine, MayGoOn, per_byte, seen, slice_index, SpendsWithin, Text, true, ℕ, ◌*◌, ◌+◌, ◌-◌, ◌<◌, ◌≡◌, ◌≤◌}
 use Rattle.vte_core.specs.declared.reader.Reader.{Reader}
 use Rattle.vte_core.proofs.parser.machine.Machine.read_until_stop.Given as goal
 
@@ -14,9 +14,9 @@ pub record IsInText {B : Type 0} (g : goal.Over) (bytes prefix : List ℕ) (old 
     (from position : ℕ) (before parser : Machine B) (earlier later : Reader) : Type 0 where
   pub advances : Advances ⊥ (call_at g bytes) old value from position before parser
   pub may_go_on : MayGoOn (call_at g bytes) value
-  pub settled : position < length bytes → parser.state ≡ Text Nothing
-  pub count : looked later + 4 * from ≤ looked earlier + 3 * position + length prefix
-  pub spends : SpendsWithin 5 0 0 bytes from position before parser earlier later
+  pub settled : position < length bytes → parser.state ≡ Text Empty
+  pub looks_at_most : looks_of later + 4 * from ≤ looks_of earlier + 3 * position + length prefix
+  pub spends : SpendsWithin (per_byte 5) (seen 0) (ahead 0) bytes from position before parser earlier later
 
 abbrev pub invariant-loop-position-2 : goal.invariant-loop-position-2
 invariant-loop-position-2 g l = record {

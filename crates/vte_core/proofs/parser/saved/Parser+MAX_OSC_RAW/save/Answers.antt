@@ -3,8 +3,8 @@ use Rattle.vte_core.proofs.Common.{rules}
 use Rattle.vte_core.proofs.lemmas.fields.PlaceOfState.{reads_saved}
 use Rattle.vte_core.proofs.parser.saved.Parser+MAX_OSC_RAW.save.Goals as goal
 
-pub returns-in-Text-Nothing : goal.returns-in-Text-Nothing
-returns-in-Text-Nothing c = reads_saved (record {
+pub returns-in-Text-Empty : goal.returns-in-Text-Empty
+returns-in-Text-Empty c = reads_saved (record {
   state = search rules;
   intermediates = search rules;
   too_many_intermediates = search rules;

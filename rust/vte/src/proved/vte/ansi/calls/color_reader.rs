@@ -24,7 +24,7 @@ pub(crate) fn read_color<I: NumberIterator>(kind: u16, numbers: &mut I) -> Optio
 }
 
 /// Reads a colour after 38, 48 or 58 in one group.
-pub(crate) fn read_joined(numbers: &[u16]) -> Option<Color> {
+pub(crate) fn read_joined_color(numbers: &[u16]) -> Option<Color> {
     let (kind, mut left) = numbers.split_first()?;
     if left.len() > 3 {
         left = &left[1..];

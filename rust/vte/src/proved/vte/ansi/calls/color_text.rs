@@ -27,7 +27,7 @@ fn color_by_parts(text: &[u8]) -> Option<Rgb> {
     })
 }
 
-/// Returns the colour of digits in three parts of the same length.
+/// Returns the colour of hex digits, a third of them for each component.
 fn color_by_thirds(digits: &[u8]) -> Option<Rgb> {
     let count = digits.len() / 3;
     if digits.len() != 3 * count {
@@ -39,7 +39,7 @@ fn color_by_thirds(digits: &[u8]) -> Option<Rgb> {
     Some(Rgb { r, g, b })
 }
 
-/// Returns the number that hex digits write.
+/// Returns the number that hex digits stand for.
 fn read_hex(digits: &[u8]) -> Option<u32> {
     let mut number: u32 = 0;
     for byte in digits {
@@ -48,7 +48,7 @@ fn read_hex(digits: &[u8]) -> Option<u32> {
     Some(number)
 }
 
-/// Scales a number to 255, from the greatest number of as many digits.
+/// Scales the number of hex digits so that the greatest number with as many digits becomes 255.
 fn scale_to_255(digits: &[u8]) -> Option<u8> {
     let greatest = match digits.len() {
         1 => 0xf,

@@ -6,7 +6,7 @@ use crate::proved::vte::ansi::calls::color_text::xparse_color;
 use crate::proved::vte::ansi::calls::joined_text::{join_texts, text_in};
 use crate::proved::vte::ansi::calls::numbers::{parse_number, push_number};
 use crate::proved::vte::ansi::calls::text_buffer::TextBuffer;
-use crate::proved::vte::ansi::split::{id_in, strip_word};
+use crate::proved::vte::ansi::split::{link_id, strip_word};
 use crate::proved::vte_handler::{Handler, Hyperlink};
 use crate::proved::vte_types::cursor_icon::CursorIcon;
 use crate::proved::vte_types::CursorShape;
@@ -123,7 +123,7 @@ fn set_link_to<H: Handler + ?Sized>(handler: &mut H, parameters: &[u8], uri: &st
     if uri.is_empty() {
         handler.set_hyperlink(None);
     } else {
-        let id = id_in(parameters).and_then(|id| text_in(id, false));
+        let id = link_id(parameters).and_then(|id| text_in(id, false));
         handler.set_hyperlink(Some(Hyperlink { id, uri }));
     }
 }
@@ -143,7 +143,7 @@ fn set_dynamic_color<H: Handler + ?Sized>(
     }
 }
 
-/// Sets such colours, or asks for them: 10, 11 or 12, and those after it, one for each text.
+/// Sets dynamic colours, or asks for them: 10, 11 or 12, and those that follow, one for each text.
 fn set_dynamic_colors<H: Handler + ?Sized>(
     handler: &mut H,
     first: usize,

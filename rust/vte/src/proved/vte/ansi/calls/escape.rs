@@ -24,9 +24,9 @@ pub(crate) fn perform_execute<H: Handler + ?Sized>(handler: &mut H, byte: u8) {
 /// Makes the calls of an escape sequence.
 pub(crate) fn perform_escape<H: Handler + ?Sized>(handler: &mut H, intermediates: &[u8], byte: u8) {
     match (byte, intermediates) {
-        (b'B', [index]) => configure(handler, *index, StandardCharset::Ascii),
+        (b'B', [index]) => designate(handler, *index, StandardCharset::Ascii),
         (b'0', [index]) => {
-            configure(
+            designate(
                 handler,
                 *index,
                 StandardCharset::SpecialCharacterAndLineDrawing,
@@ -51,7 +51,7 @@ pub(crate) fn perform_escape<H: Handler + ?Sized>(handler: &mut H, intermediates
 }
 
 /// Configures the index that an intermediate designates.
-fn configure<H: Handler + ?Sized>(handler: &mut H, intermediate: u8, charset: StandardCharset) {
+fn designate<H: Handler + ?Sized>(handler: &mut H, intermediate: u8, charset: StandardCharset) {
     match intermediate {
         b'(' => handler.configure_charset(CharsetIndex::G0, charset),
         b')' => handler.configure_charset(CharsetIndex::G1, charset),

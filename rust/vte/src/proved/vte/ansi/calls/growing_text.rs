@@ -22,7 +22,7 @@ impl GrowingText {
         }
     }
 
-    /// Gives back its memory.
+    /// Frees its memory.
     #[inline]
     pub(crate) fn free(&mut self) {
         self.text.clear();

@@ -3,12 +3,12 @@
 
 use crate::proved::vte::ansi::calls::text_buffer::TextBuffer;
 
-/// How much longer than its pieces a joined text may be: by a `;` for each of 16. It has at most
-/// 15, but `push_part` asks for the size of one for each piece.
+/// How many bytes longer than its pieces a joined text may be: a `;` for each of 16 pieces. It has
+/// at most 15, but `push_part` requires room for one per piece.
 pub(crate) const SEPARATORS: usize = 16;
 
-/// Joins pieces with `;` between them. One that isn't UTF-8 counts as empty if all are kept, and is
-/// left out otherwise.
+/// Joins pieces with `;` between them. A piece that isn't UTF-8 counts as empty if all are kept,
+/// and is left out otherwise.
 pub(crate) fn join_texts<B: TextBuffer>(text: &mut B, pieces: &[&[u8]], keeps_all: bool) {
     text.clear();
     let mut is_first = true;
@@ -28,7 +28,7 @@ fn push_part<B: TextBuffer>(text: &mut B, is_first: bool, part: &str) {
     text.push_str(part);
 }
 
-/// Returns the text of a piece, if it is UTF-8. Any other counts as empty if all are kept.
+/// Returns the text of a piece, if it is UTF-8. Any other piece counts as empty if all are kept.
 pub(crate) fn text_in(piece: &[u8], keeps_all: bool) -> Option<&str> {
     let text = core::str::from_utf8(piece).ok();
     if keeps_all {

@@ -2,7 +2,9 @@
 //! The performer that calls a handler.
 
 use crate::proved::vte::ansi::calls::command::perform_system_command;
-use crate::proved::vte::ansi::calls::control::{change_mode, perform_control, ModeChange};
+use crate::proved::vte::ansi::calls::control_sequence::{
+    change_mode, perform_control_sequence, ModeChange,
+};
 use crate::proved::vte::ansi::calls::escape::{perform_escape, perform_execute};
 use crate::proved::vte::ansi::calls::input::InputAs;
 use crate::proved::vte::ansi::calls::numbers::first_number;
@@ -67,7 +69,7 @@ impl<'s, 'h, H: InputAs<G> + ?Sized, T: Timeout, B: TextBuffer, G> Perform
             self.set_private_modes(params);
         } else {
             let last = self.state.preceding_char;
-            perform_control::<H, G>(self.handler, last, params, intermediates, action);
+            perform_control_sequence::<H, G>(self.handler, last, params, intermediates, action);
         }
     }
 
@@ -103,7 +105,7 @@ impl<'s, 'h, H: Handler + ?Sized, T: Timeout, B: TextBuffer, G> Performer<'s, 'h
         }
     }
 
-    /// Sets a private mode. For that of updates it sets the timeout before the call.
+    /// Sets a private mode. If it is the mode of updates, the timeout is set before the call.
     fn set_private_mode(&mut self, number: u16) {
         if number == NamedPrivateMode::SyncUpdate as u16 {
             self.state
@@ -115,7 +117,7 @@ impl<'s, 'h, H: Handler + ?Sized, T: Timeout, B: TextBuffer, G> Performer<'s, 'h
     }
 }
 
-/// Returns the last character of a text, or the one before it if the text is empty.
+/// Returns the last character of a text, or `before` if the text is empty.
 #[inline(always)]
 fn last_char(text: &str, before: Option<char>) -> Option<char> {
     text.chars().next_back().or(before)

@@ -1,7 +1,7 @@
 // Written by tools/erase from crates/vte/src/ansi/calls/rendition.rt: edit that one.
 //! Select graphic rendition (SGR).
 
-use crate::proved::vte::ansi::calls::color_reader::{read_color, read_joined};
+use crate::proved::vte::ansi::calls::color_reader::{read_color, read_joined_color};
 use crate::proved::vte::ansi::calls::numbers::first_number;
 use crate::proved::vte_core::{Params, ParamsIter};
 use crate::proved::vte_handler::Handler;
@@ -12,7 +12,7 @@ use crate::proved::vte_types::{Attr, Color, NamedColor};
 pub(crate) fn perform_attributes<H: Handler + ?Sized>(handler: &mut H, params: &Params) {
     let mut groups = params.iter();
     while let Some(group) = groups.next() {
-        if let Some(attribute) = attribute(group, &mut groups) {
+        if let Some(attribute) = read_attribute(group, &mut groups) {
             handler.terminal_attribute(attribute);
         }
     }
@@ -20,21 +20,23 @@ pub(crate) fn perform_attributes<H: Handler + ?Sized>(handler: &mut H, params: &
 
 /// Returns the attribute of a group, which may use up some of the groups after it.
 #[inline]
-fn attribute(group: &[u16], groups: &mut ParamsIter<'_>) -> Option<Attr> {
+fn read_attribute(group: &[u16], groups: &mut ParamsIter<'_>) -> Option<Attr> {
     match group {
         [number @ (38 | 48 | 58)] => {
             let kind = first_number(groups.next()?);
-            colored_by(*number, read_color(kind, groups)?)
+            colored_attribute(*number, read_color(kind, groups)?)
         }
-        [number @ (38 | 48 | 58), numbers @ ..] => colored_by(*number, read_joined(numbers)?),
-        [number] => attribute_of_one(*number),
-        [4, numbers @ ..] => Some(underline(numbers)),
+        [number @ (38 | 48 | 58), numbers @ ..] => {
+            colored_attribute(*number, read_joined_color(numbers)?)
+        }
+        [number] => single_attribute(*number),
+        [4, numbers @ ..] => Some(underline_attribute(numbers)),
         _ => None,
     }
 }
 
 /// Returns the attribute that a number makes of a colour.
-fn colored_by(number: u16, color: Color) -> Option<Attr> {
+fn colored_attribute(number: u16, color: Color) -> Option<Attr> {
     match number {
         38 => Some(Attr::Foreground(color)),
         48 => Some(Attr::Background(color)),
@@ -44,7 +46,7 @@ fn colored_by(number: u16, color: Color) -> Option<Attr> {
 }
 
 /// Returns the attribute of a group of one number.
-fn attribute_of_one(number: u16) -> Option<Attr> {
+fn single_attribute(number: u16) -> Option<Attr> {
     let attribute = match number {
         0 => Attr::Reset,
         1 => Attr::Bold,
@@ -105,7 +107,7 @@ fn attribute_of_one(number: u16) -> Option<Attr> {
 }
 
 /// Returns the kind of underline, by the numbers after 4.
-fn underline(numbers: &[u16]) -> Attr {
+fn underline_attribute(numbers: &[u16]) -> Attr {
     match numbers {
         [0] => Attr::CancelUnderline,
         [2] => Attr::DoubleUnderline,

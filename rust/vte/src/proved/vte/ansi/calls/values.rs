@@ -37,7 +37,7 @@ pub(crate) fn character_path(number: u16) -> Option<ScpCharPath> {
     }
 }
 
-/// Returns how what is shown follows the path, the second selection of SCP.
+/// Returns how the display follows the character path, the second selection of SCP.
 pub(crate) fn scp_update_mode(number: u16) -> Option<ScpUpdateMode> {
     match number {
         0 => Some(ScpUpdateMode::ImplementationDependant),

@@ -14,8 +14,8 @@ use crate::proved::vte_handler::{Handler, Timeout};
 use crate::proved::vte_types::{NamedPrivateMode, PrivateMode};
 use core::time::Duration;
 
-/// For how many bytes a parsing turn allocates at once: little beside the memory of a hold, and
-/// enough that few slices are taken.
+/// How many bytes a parsing turn allocates for at once: few compared with the memory of a hold, but
+/// enough that a call takes few slices.
 const SLICE: usize = 65_536;
 
 /// The parser, the hold and the state of a processor, whatever its limit. `P`: parser, `B`: buffer
@@ -48,7 +48,7 @@ impl<P: EventParser, B: TextBuffer, T: Timeout> Engine<P, B, T> {
     /// Reads bytes, and parses them or holds them back: all of them, or as many as there is memory
     /// for. `G` says how the handler receives text.
     #[inline]
-    pub(crate) fn read<H: Handler + ?Sized, G: ParseAs<H, T, P>>(
+    pub(crate) fn advance<H: Handler + ?Sized, G: ParseAs<H, T, P>>(
         &mut self,
         handler: &mut H,
         bytes: &[u8],
@@ -71,7 +71,7 @@ impl<P: EventParser, B: TextBuffer, T: Timeout> Engine<P, B, T> {
     }
 
     /// Stops the update, whatever is held: there is memory to parse it.
-    // stops are rare: kept out of a turn, they leave its loop over bytes as it is
+    // stops are rare, so they are kept out of the loop over bytes of a turn
     #[inline(never)]
     pub(crate) fn stop<H: Handler + ?Sized, G: ParseAs<H, T, P>>(&mut self, handler: &mut H) {
         self.hold.release_all();
@@ -86,7 +86,7 @@ impl<P: EventParser, B: TextBuffer, T: Timeout> Engine<P, B, T> {
         self.state.timeout.clear_timeout();
     }
 
-    /// Parses the released bytes.
+    /// Parses the released bytes, if there are any.
     fn parse_released<H: Handler + ?Sized, G: ParseAs<H, T, P>>(&mut self, handler: &mut H) {
         let released = self.hold.released();
         if released.is_empty() {
@@ -96,7 +96,7 @@ impl<P: EventParser, B: TextBuffer, T: Timeout> Engine<P, B, T> {
     }
 
     /// Takes one turn, and returns how many bytes it read, or how many until memory was refused. It
-    /// asks the timeout once: while an update is pending, the bytes are held, or the update is
+    /// asks the timeout once. While an update is pending, the bytes are held, or the update is
     /// stopped if there is no room for them.
     #[inline]
     fn turn<H: Handler + ?Sized, G: ParseAs<H, T, P>>(
@@ -159,7 +159,7 @@ impl<P: EventParser, B: TextBuffer, T: Timeout> Engine<P, B, T> {
             .reserve(&mut self.state.text, self.hold.len(), more)
     }
 
-    /// Holds all bytes, and parses those that the end of an update among them releases.
+    /// Holds all bytes. If an update ends among them, parses the bytes that this releases.
     #[inline]
     fn hold_bytes<H: Handler + ?Sized, G: ParseAs<H, T, P>>(
         &mut self,
@@ -168,7 +168,7 @@ impl<P: EventParser, B: TextBuffer, T: Timeout> Engine<P, B, T> {
     ) {
         let begins = self.hold.add(bytes);
         set_timeout_times(&mut self.state.timeout, begins);
-        // Nothing stays held only if an update ends, and no other begins after it.
+        // Nothing stays held only if an update ends and no other begins after it.
         if self.hold.len() == 0 {
             self.end_update::<H, G>(handler);
         } else {

@@ -10,7 +10,7 @@ const CAPACITY: usize = 2_097_152;
 /// The most bytes that are held at once: two less, as in `vte`.
 pub(crate) const MAX_HELD: usize = CAPACITY - 2;
 
-/// The held bytes, none of which end an update, after those that were released last.
+/// The bytes that were released last, and after them the held bytes, in which no update ends.
 #[derive(Clone)]
 pub(crate) struct SyncState {
     bytes: Vec<u8>,
@@ -52,7 +52,7 @@ impl SyncState {
         added.begins
     }
 
-    /// Releases everything.
+    /// Releases all held bytes, when an update is stopped.
     #[inline]
     pub(crate) fn release_all(&mut self) {
         self.forget_released();

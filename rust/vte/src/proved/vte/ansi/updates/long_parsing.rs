@@ -1,6 +1,6 @@
 // Written by tools/erase from crates/vte/src/ansi/updates/long_parsing.rt: edit that one.
-//! The parser of a processor without a limit. It allocates before it reads, so that nothing is
-//! refused on the way.
+//! The parser of a processor without a limit. It allocates before it reads, so that no memory is
+//! refused while it reads.
 
 use crate::proved::vte::ansi::calls::joined_text::SEPARATORS;
 use crate::proved::vte::ansi::calls::performer::Performer;
@@ -25,7 +25,8 @@ impl EventParser for LongParser {
     }
 }
 
-/// Returns how many bytes a text has at most that is joined from these.
+/// Returns the largest size of a text that is joined from `stored` bytes and `more` that come, or
+/// `None` if that overflows.
 fn joined_size(stored: usize, more: usize) -> Option<usize> {
     stored.checked_add(more)?.checked_add(SEPARATORS)
 }

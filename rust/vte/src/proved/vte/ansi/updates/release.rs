@@ -7,7 +7,7 @@ use memchr::memrchr;
 /// The first byte of both sequences.
 const ESCAPE: u8 = 0x1b;
 
-/// What is found when bytes are added to a hold.
+/// What a hold releases when bytes are added to it.
 #[derive(Clone, Copy)]
 pub(crate) struct Release {
     /// How many updates begin among the added bytes, after the last one that ends.
@@ -17,8 +17,8 @@ pub(crate) struct Release {
     pub(crate) released: usize,
 }
 
-/// Finds what a hold releases, given its end, from a position on: the new bytes, and at most seven
-/// before them. No update ends among the older bytes, so it is enough to search these, backward,
+/// Finds what a hold releases. `text` is the hold from `start` on: the new bytes, and at most seven
+/// before them. No update ends among the older bytes, so it is enough to search `text`, backward,
 /// down to the last end-update.
 pub(crate) fn find_release(text: &[u8], start: usize) -> Release {
     let mut begin = start + text.len();
@@ -41,7 +41,8 @@ pub(crate) fn find_release(text: &[u8], start: usize) -> Release {
     Release { begins, released }
 }
 
-/// Goes back from a position over blocks in which neither sequence begins, and returns how far.
+/// Goes back from a position over blocks in which neither sequence begins. Returns the position
+/// before them.
 fn skip_blocks(text: &[u8], before: usize) -> usize {
     let mut unread = before;
     while unread >= 32 {
@@ -53,8 +54,8 @@ fn skip_blocks(text: &[u8], before: usize) -> usize {
     unread
 }
 
-/// Returns whether neither sequence begins in the first 32 bytes of a block, because no ESC is
-/// followed by what both have as their third byte. Compilers make vector instructions of the loop.
+/// Returns whether no ESC in the first 32 bytes of a block has `?` two bytes after it. Then neither
+/// sequence begins there. Compilers turn the loop into vector instructions.
 #[inline(always)]
 fn has_no_private_sequence(block: &[u8; 34]) -> bool {
     let mut none_found = true;

@@ -5,8 +5,8 @@ use Rattle.vte_core.specs.Text.{is_control_character}
 use Rattle.vte_core.proofs.lemmas.bytes.Runs.{chars-encode}
 use Rattle.vte.proofs.ansi.calls.input.AnyInputAsInRuns.input_char.Goals as goal
 
-pub input_text-requires-clause-plain : goal.input_text-requires-clause-plain
-input_text-requires-clause-plain g c =
+pub input_text-requires-clause-shown : goal.input_text-requires-clause-shown
+input_text-requires-clause-shown g c =
     let shown : is_control_character c.args.c ≡ false = grind (arith, nat_tests) in
     let spelt : chars c.encode_utf8.result.now ≡ c.args.c ∷ [] =
     rw c.encode_utf8.ensures.value (chars-encode c.args.c c.ranges.c.0) in

@@ -6,5 +6,5 @@ abbrev pub invariant-loop-group : goal.invariant-loop-group
 invariant-loop-group g l =
     let timeout = timeout_meaning g.T.Timeout.set g.T.Timeout.clear g.T.Timeout.allows in
     let set = with_private_modes g.H.Handler.step timeout in
-    let value = performer_value g.H.Handler.value_of g.T.Timeout.value_of g.B.TextBuffer.text_size in
+    let value = performer_value g.H.Handler.value_of g.T.Timeout.value_of g.B.TextBuffer.text_capacity in
     set (value l.self) l.group-iterator ≡ set (value l.initial.self) l.initial.group-iterator

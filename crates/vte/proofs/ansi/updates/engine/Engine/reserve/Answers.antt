@@ -4,7 +4,7 @@ use Rattle.vte.proofs.ansi.updates.engine.Engine.reserve.Goals as goal
 
 pub returns-clause-reserved : goal.returns-clause-reserved
 returns-clause-reserved g c = record {
-  same = λ parsed held timeout had. record {
+  stays = λ parsed held timeout had. record {
     has_read = c.reserve.ensures.reads parsed had.has_read;
     last = had.last;
     timeout_is = had.timeout_is;
@@ -16,5 +16,5 @@ returns-clause-reserved g c = record {
       rw (← had.holds, ← c.len.ensures.count) (c.reserve.ensures.memory yes parsed had.has_read);
   keeps_memory = c.reserve.ensures.keeps_memory;
   lost = c.reserve.ensures.keeps_lost;
-  lacks = λ no stream reads. rw (← c.len.ensures.count) (c.reserve.ensures.lacks no stream reads);
+  lacks_memory = λ no stream reads. rw (← c.len.ensures.count) (c.reserve.ensures.lacks_memory no stream reads);
 }

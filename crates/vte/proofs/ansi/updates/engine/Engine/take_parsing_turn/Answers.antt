@@ -39,18 +39,18 @@ returns-then-begins-clause-parsed g c = λ state is_at.
     c.parse_until_begin-parsed.ensures.stops in
     elim c.then-begins.branch [
       -- An update begins.
-      | then-begins-via-then-begins w ↦
+      | then-begins-via-then-begins branch ↦
           record {
             parsed = parsing-ends _ state c.args.bytes.now _ so_far c.loop-slice.invariant.within refl parsed_slice
-                w.if-begins.true;
+                branch.if-begins.true;
             refused = tt;
           }
       -- No update begins in the slice, and all bytes are read.
-      | then-begins-via-else-begins+then-read-bytes w ↦
+      | then-begins-via-else-begins+then-read-bytes branch ↦
           record {
             parsed = parsing-all _ state c.args.bytes.now
-                (parsing-more _ state c.args.bytes.now _ so_far refl parsed_slice w.if-begins.false)
-                (omega (arith, w.if-read-bytes.true));
+                (parsing-more _ state c.args.bytes.now _ so_far refl parsed_slice branch.if-begins.false)
+                (omega (arith, branch.if-read-bytes.true));
             refused = tt;
           }
     ]

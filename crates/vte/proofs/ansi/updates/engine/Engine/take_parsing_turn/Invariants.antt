@@ -1,17 +1,19 @@
 -- The slices so far begin no update, and are parsed. Each has at least one byte, so the loop reads all.
-use Rattle.vte.proofs.Common.{engine_view, EngineIsAt, EngineIsAtKeepingMemory, HasParsedWithoutBegin, length, meaning_of, State, ◌<◌, ◌≤◌}
+use Rattle.vte.proofs.Common.{engine_view, EngineIsAt, EngineIsAtKeepingMemory, HasParsedWithoutBegin, length, processor_meaning, State, ◌<◌, ◌≤◌}
 use Rattle.vte.proofs.ansi.updates.engine.Engine.take_parsing_turn.Given as goal
 
 abbrev pub invariant-loop-slice : goal.invariant-loop-slice
 invariant-loop-slice g l =
-    let m = meaning_of g.P.EventParser.limit g.H.Handler.step g.T.Timeout.set g.T.Timeout.clear g.T.Timeout.allows in
-    let view = engine_view g.P.EventParser.limit g.P.EventParser.view g.B.TextBuffer.text_size g.T.Timeout.value_of in
+    let meaning = processor_meaning g.P.EventParser.limit g.H.Handler.step g.T.Timeout.set g.T.Timeout.clear
+    g.T.Timeout.allows in
+    let view = engine_view g.P.EventParser.limit g.P.EventParser.view g.B.TextBuffer.text_capacity g.T.Timeout.value_of
+    in
     record {
       within : l.read ≤ length l.bytes;
       some : l._slice < length l.bytes → l.read < length l.bytes;
       reaches : (state : State g.H.Handler.Value g.T.Timeout.Value)
           → EngineIsAt view l.initial.self (g.H.Handler.value_of l.initial.handler) state
           → (l._slice ≤ l.read)
-          × HasParsedWithoutBegin m state l.bytes l.read
+          × HasParsedWithoutBegin meaning state l.bytes l.read
           (EngineIsAtKeepingMemory view l.initial.self l.self (g.H.Handler.value_of l.handler));
     }

@@ -1,6 +1,6 @@
 -- By the timeout's answer: the bytes are held while an update is pending and they fit the hold. Otherwise it is
 -- stopped if it is pending or bytes are held, and the turn parses.
-use Rattle.vte.proofs.Common.{and-false, arith, engine_view, EngineIsAtKeepingMemory, false, held_of, inr, length, max_held, meaning_of, nat_le, nat_tests, refl, sym, true, ◌+◌, ◌<◌, ◌∙◌, ◌≡◌}
+use Rattle.vte.proofs.Common.{and-false, arith, engine_view, EngineIsAtKeepingMemory, false, held_of, inr, length, max_held, nat_le, nat_tests, processor_meaning, refl, sym, true, ◌+◌, ◌<◌, ◌∙◌, ◌≡◌}
 use Rattle.vte.proofs.lemmas.turns.TurnKinds.{is_held, is_stopped, stop_if_due}
 use Rattle.vte.proofs.lemmas.turns.RefusedTurns.{refused-nothing}
 use Rattle.vte.proofs.lemmas.turns.EngineTurns.{ends_turn, engine-at_stop, keeping_memory-reserved, keeping_memory-same, keeping_memory-then, turned_hold}
@@ -13,34 +13,36 @@ returns-clause-turned g c = λ state is_at.
     let pending = c.pending_timeout-pending.result in
     let not_held : is_held pending state c.args.bytes.now ≡ false = elim c.else-pending.branch [
       -- The bytes don't fit the hold.
-      | else-pending-via-then-pending+else-has_room w ↦
+      | else-pending-via-then-pending+else-has_room branch ↦
           let full : nat_le (length state.held + length c.args.bytes.now) max_held ≡ false =
-          rw (← is_at.agrees.holds) (sym w.has_room.ensures ∙ w.if-has_room.false) in
+          rw (← is_at.agrees.holds) (sym branch.has_room.ensures ∙ branch.if-has_room.false) in
           rw (full, and-false) refl
       -- No update is pending.
-      | else-pending-via-else-pending w ↦ rw w.if-pending.false refl
+      | else-pending-via-else-pending branch ↦ rw branch.if-pending.false refl
     ] in
-    let m = meaning_of g.P.EventParser.limit g.H.Handler.step g.T.Timeout.set g.T.Timeout.clear g.T.Timeout.allows in
-    let view = engine_view g.P.EventParser.limit g.P.EventParser.view g.B.TextBuffer.text_size g.T.Timeout.value_of in
+    let meaning = processor_meaning g.P.EventParser.limit g.H.Handler.step g.T.Timeout.set g.T.Timeout.clear
+    g.T.Timeout.allows in
+    let view = engine_view g.P.EventParser.limit g.P.EventParser.view g.B.TextBuffer.text_capacity g.T.Timeout.value_of
+    in
     let here : EngineIsAtKeepingMemory view c.args.self.now c.if-pending-2.self
     (g.H.Handler.value_of c.if-pending-2.handler)
-    (stop_if_due m pending state) = elim c.if-pending-2.branch [
+    (stop_if_due meaning pending state) = elim c.if-pending-2.branch [
       -- The update is stopped first.
-      | then-pending-2 w ↦
-          let stopped : is_stopped pending state ≡ true = elim w.then-pending-2.branch [
+      | then-pending-2 branch ↦
+          let stopped : is_stopped pending state ≡ true = elim branch.then-pending-2.branch [
             | then-pending-2-via-then-pending-2 v ↦ rw v.if-pending-2.true refl
             | then-pending-2-via-else-pending-2+then-len-gt0 v ↦
                 let some_held : 0 < length state.held =
                 rw (← is_at.agrees.holds) (omega (arith, v.len.ensures.count, v.if-len-gt0.true)) in
                 grind (arith, nat_tests)
           ] in
-          rw (w.self-is, w.handler-is, stopped) (engine-at_stop w.stop.ensures.stopped is_at)
+          rw (branch.self-is, branch.handler-is, stopped) (engine-at_stop branch.stop.ensures.stopped is_at)
       -- Nothing is held.
-      | else-pending-2+else-len-gt0 w ↦
+      | else-pending-2+else-len-gt0 branch ↦
           let none_held : length state.held ≡ 0 =
-          rw (← is_at.agrees.holds) (omega (arith, w.len.ensures.count, w.if-len-gt0.false)) in
-          let not_stopped : is_stopped pending state ≡ false = rw (w.if-pending-2.false, none_held) refl in
-          rw (w.self-is, w.handler-is, not_stopped) (keeping_memory-same is_at)
+          rw (← is_at.agrees.holds) (omega (arith, branch.len.ensures.count, branch.if-len-gt0.false)) in
+          let not_stopped : is_stopped pending state ≡ false = rw (branch.if-pending-2.false, none_held) refl in
+          rw (branch.self-is, branch.handler-is, not_stopped) (keeping_memory-same is_at)
     ] in
     ends_turn pending
     (rw is_at.agrees.timeout_is at c.pending_timeout-pending.ensures) not_held here.keeps_memory _
@@ -72,13 +74,13 @@ returns-then-not-reserve-clause-turned g c =
     }
 
 -- Memory was refused for all bytes, which fit the hold.
-pub returns-then-not-reserve-clause-lacks : goal.returns-then-not-reserve-clause-lacks
-returns-then-not-reserve-clause-lacks g c =
+pub returns-then-not-reserve-clause-lacks_memory : goal.returns-then-not-reserve-clause-lacks_memory
+returns-then-not-reserve-clause-lacks_memory g c =
     let fits : nat_le (length (held_of c.reserve.new.self.hold) + length c.args.bytes.now) max_held ≡ true =
     rw c.reserve.ensures.hold (sym c.has_room.ensures ∙ c.if-has_room.true) in
     record {
       more = length c.args.bytes.now;
       within = omega arith;
       at_most = inr (grind (arith, nat_tests));
-      lacks = c.reserve.ensures.reserved.lacks c.if-not-reserve.true;
+      lacks_memory = c.reserve.ensures.reserved.lacks_memory c.if-not-reserve.true;
     }

@@ -1,6 +1,6 @@
 -- The older bytes have no end of an update, so the search over the last seven of them and the new ones finds what the
 -- whole hold has (`find_release`).
-use Rattle.vte.proofs.Common.{Adds, ap, arith, drop, held_of, IsHeldTail, length, length-append, length-drop, List, refl, rules, take, take_all, ℕ, ◌++◌, ◌-◌, ◌∙◌, ◌≡◌}
+use Rattle.vte.proofs.Common.{ap, arith, drop, FindsRelease, held_of, IsHeldTail, length, length-append, length-drop, List, refl, rules, take, take_all, ℕ, ◌++◌, ◌-◌, ◌∙◌, ◌≡◌}
 use Rattle.vte.proofs.lemmas.updates.Sequences.{stays-is, stays_held}
 use Rattle.vte.proofs.ansi.updates.hold.SyncState.add.Goals as goal
 
@@ -18,7 +18,7 @@ invariant_of-self g c =
     let old = held_of c.args.self.now in
     let all = old ++ c.args.more.now in
     let bytes_are : c.extend_from_slice.new.self.items ≡ all = search rules in
-    let added : Adds all (length c.args.more.now) c.find_release-added.result =
+    let added : FindsRelease all (length c.args.more.now) c.find_release-added.result =
     c.find_release-added.ensures old c.args.more.now
     (held_tail-slice (c.as_slice.ensures.value ∙ bytes_are) (search rules) c.saturating_sub-start.ensures)
     c.args.self.now.no_end in
@@ -33,7 +33,7 @@ pub returns : goal.returns
 returns g c =
     let old = held_of c.args.self.now in
     let bytes_are : c.extend_from_slice.new.self.items ≡ old ++ c.args.more.now = search rules in
-    let added : Adds (old ++ c.args.more.now) (length c.args.more.now) c.find_release-added.result =
+    let added : FindsRelease (old ++ c.args.more.now) (length c.args.more.now) c.find_release-added.result =
     c.find_release-added.ensures old c.args.more.now
     (held_tail-slice (c.as_slice.ensures.value ∙ bytes_are) (search rules) c.saturating_sub-start.ensures)
     c.args.self.now.no_end in

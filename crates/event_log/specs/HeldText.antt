@@ -1,0 +1,37 @@
+-- What a collector holds, and what an event adds to it.
+use Rattle.std.specs.Prelude.{Bool, false, if◌then◌else◌, length, List, nat_le, nat_lt, true, ℕ, [], ◌++◌, ◌+◌, ◌/◌}
+use Rattle.vte_core.specs.Event.{Event}
+use Rattle.event_log.specs.declared.lines.Lines.{Lines}
+
+-- The text, and whether something was dropped.
+pub record HeldText : Type 0 where
+  pub bytes : List ℕ
+  pub lost : Bool
+
+abbrev pub empty_text : HeldText
+empty_text = record { bytes = []; lost = false }
+
+-- How many bytes a collector holds at most.
+abbrev pub capacity : ℕ
+capacity = 8192
+
+-- Whether there is room for a text after these bytes.
+abbrev pub has_room_after : List ℕ → List ℕ → Bool
+has_room_after bytes text = nat_le (length bytes + length text) capacity
+
+-- A text is appended whole if there is room for it, and dropped otherwise.
+unfoldable pub held_with_text : HeldText → List ℕ → HeldText
+held_with_text held text =
+    if has_room_after held.bytes text then record { bytes = held.bytes ++ text; lost = held.lost }
+    else record { bytes = held.bytes; lost = true }
+
+abbrev pub held_with_event : (Event → List ℕ) → HeldText → Event → HeldText
+held_with_event text_of held event = held_with_text held (text_of event)
+
+-- Whether more than half of the capacity is in use.
+abbrev pub is_to_be_written : HeldText → Bool
+is_to_be_written held = nat_lt (capacity / 2) (length held.bytes)
+
+-- What a `Lines` holds.
+abbrev pub held_text_in : Lines → HeldText
+held_text_in lines = record { bytes = lines.bytes.items; lost = lines.lost }

@@ -1,8 +1,0 @@
--- What is left to hand over gives what all gives.
-use Rattle.vte.proofs.Common.{after, Input, replicate, ◌-◌, ◌≡◌}
-use Rattle.vte.proofs.ansi.calls.control.repeat.Given as goal
-
-abbrev pub invariant-loop : goal.invariant-loop
-invariant-loop g l =
-    after g.H.Handler.step (g.H.Handler.value_of l.handler) (replicate (l.count - l.counter) (Input l.c))
-    ≡ after g.H.Handler.step (g.H.Handler.value_of l.fn.handler) (replicate l.count (Input l.c))

@@ -1,0 +1,69 @@
+-- A turn more leads on (`reaches-more`), until all bytes are read or a turn is refused memory.
+use Rattle.vte.proofs.Common.{arith, drop, length, take, ◌+◌, ◌-◌, ◌≡◌}
+use Rattle.vte.proofs.lemmas.turns.EngineTurns.{engine_reads-all, engine_reads-until, keeping_memory-same, reached-refused, reaches-more, reaches-nothing, rest-size}
+use Rattle.vte.proofs.ansi.updates.engine.Engine.advance.Goals as goal
+
+-- Before the first turn, nothing is read.
+pub loop-turn-init : goal.loop-turn-init
+loop-turn-init g c =
+    record {
+      within = omega arith;
+      some = λ some_bytes. some_bytes;
+      reaches = λ state is_at. reaches-nothing _ state c.args.bytes.now (keeping_memory-same is_at);
+    }
+
+-- After one more turn, bytes are left.
+pub loop-turn-preserved : goal.loop-turn-preserved
+loop-turn-preserved g c =
+    let before = c.loop-turn.invariant in
+    let size = rest-size c.args.bytes.now c.loop-turn.read before.within in
+    record {
+      within = omega (arith, before.within, c.in-Ok.ensures.within, size);
+      some = λ turns_left. omega (arith, before.within, c.in-Ok.ensures.within, size, c.if-read-bytes.false);
+      reaches = λ state is_at.
+          let reached = before.reaches state is_at in
+          reaches-more _ state c.args.bytes.now reached (before.some c.loop-turn-test.true)
+          (c.in-Ok.ensures.turned reached.here reached.is_at.engine_at).turned;
+    }
+
+-- A turn has bytes to read.
+pub turn-requires : goal.turn-requires
+turn-requires g c =
+    record {
+      not_empty = rw (rest-size c.args.bytes.now c.loop-turn.read c.loop-turn.invariant.within)
+          (omega (arith, c.loop-turn.invariant.some c.loop-turn-test.true));
+    }
+
+-- The turn has read the last byte.
+pub returns-then-read-bytes : goal.returns-then-read-bytes
+returns-then-read-bytes g c =
+    let before = c.loop-turn.invariant in
+    engine_reads-all c.args.bytes.now (λ state is_at. (
+    let reached =
+    before.reaches state is_at in
+    reaches-more _ state c.args.bytes.now reached (before.some c.loop-turn-test.true)
+    (c.in-Ok.ensures.turned reached.here reached.is_at.engine_at).turned))
+    (λ state is_at. c.if-read-bytes.true)
+
+-- The turn was refused memory.
+pub returns-in-Err : goal.returns-in-Err
+returns-in-Err g c =
+    let bytes = c.args.bytes.now in
+    let read = c.loop-turn.read in
+    let size = rest-size bytes read c.loop-turn.invariant.within in
+    let left : length (take (length bytes - read) (drop read bytes)) - c.in-Err.refused.read
+    ≡ length bytes - (read + c.in-Err.refused.read) = omega (arith, size) in
+    engine_reads-until c.args.bytes.now
+    (λ state is_at.
+    (let reached = c.loop-turn.invariant.reaches state is_at in
+    reached-refused _ state bytes reached c.loop-turn.invariant.within
+    (c.in-Err.ensures.turned reached.here reached.is_at.engine_at).refused))
+    (omega (arith, c.loop-turn.invariant.within, c.in-Err.ensures.within, size))
+    (rw left at c.in-Err.ensures.lacks_memory)
+
+-- After as many turns as there are bytes, all bytes are read.
+pub returns : goal.returns
+returns g c =
+    engine_reads-all c.args.bytes.now c.loop-turn.invariant.reaches
+    (λ state is_at. let reached = c.loop-turn.invariant.reaches state is_at in
+    omega (arith, reached.enough, c.loop-turn-test.false, c.loop-turn.invariant.within))

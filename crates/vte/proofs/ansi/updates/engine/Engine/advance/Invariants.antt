@@ -1,0 +1,19 @@
+-- The turns so far have led to a state in which the processor is. Each reads a byte or more.
+use Rattle.vte.proofs.Common.{engine_view, EngineIsAt, EngineIsAtKeepingMemory, length, processor_meaning, State, ◌<◌, ◌≤◌}
+use Rattle.vte.proofs.lemmas.turns.EngineTurns.{HasReached}
+use Rattle.vte.proofs.ansi.updates.engine.Engine.advance.Given as goal
+
+abbrev pub invariant-loop-turn : goal.invariant-loop-turn
+invariant-loop-turn g l =
+    let meaning = processor_meaning g.P.EventParser.limit g.H.Handler.step g.T.Timeout.set g.T.Timeout.clear
+    g.T.Timeout.allows in
+    let view = engine_view g.P.EventParser.limit g.P.EventParser.view g.B.TextBuffer.text_capacity g.T.Timeout.value_of
+    in
+    record {
+      within : l.read ≤ length l.bytes;
+      some : l._turn < length l.bytes → l.read < length l.bytes;
+      reaches : (state : State g.H.Handler.Value g.T.Timeout.Value)
+          → EngineIsAt view l.initial.self (g.H.Handler.value_of l.initial.handler) state
+          → HasReached meaning state l.bytes l._turn l.read
+          (EngineIsAtKeepingMemory view l.initial.self l.self (g.H.Handler.value_of l.handler));
+    }

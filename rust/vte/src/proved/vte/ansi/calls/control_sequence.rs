@@ -1,0 +1,225 @@
+// Written by tools/erase from crates/vte/src/ansi/calls/control_sequence.rt: edit that one.
+//! The calls of control sequences.
+
+use crate::proved::vte::ansi::calls::input::InputAs;
+use crate::proved::vte::ansi::calls::numbers::{first_number, NumberIterator};
+use crate::proved::vte::ansi::calls::rendition::perform_attributes;
+use crate::proved::vte::ansi::calls::values::{
+    character_path, keyboard_behavior, keyboard_modes, scp_update_mode, scrolling_bottom,
+};
+use crate::proved::vte_core::Params;
+use crate::proved::vte_handler::Handler;
+use crate::proved::vte_types::{
+    ClearMode, CursorShape, CursorStyle, LineClearMode, Mode, ModifyOtherKeys, PrivateMode,
+    TabulationClearMode,
+};
+
+/// Makes the calls of a control sequence, other than `ESC [ ? .. h`, which may begin an update.
+#[inline]
+// a guard would read the numbers
+#[allow(clippy::collapsible_match)]
+pub(crate) fn perform_control_sequence<H: InputAs<G> + ?Sized, G>(
+    handler: &mut H,
+    last: Option<char>,
+    params: &Params,
+    intermediates: &[u8],
+    action: char,
+) {
+    let mut numbers = params.iter();
+    match (intermediates, action) {
+        (_, 'c') => {
+            if numbers.next_or(0) == 0 {
+                handler.identify_terminal(intermediates.first().map(|byte| char::from(*byte)));
+            }
+        }
+        ([], _) => perform_without_intermediates::<H, G>(handler, last, params, action),
+        ([b'?'], 'W') => {
+            if numbers.next_or(0) == 5 {
+                handler.set_tabs(8);
+            }
+        }
+        ([b'?'], 'l') => change_modes(handler, params, ModeChange::ResetPrivate),
+        ([b'$'], 'p') => handler.report_mode(Mode::new(numbers.next_or(0))),
+        ([b'?', b'$'], 'p') => handler.report_private_mode(PrivateMode::new(numbers.next_or(0))),
+        ([b' '], 'q') => set_cursor_style(handler, numbers.next_or(0)),
+        ([b' '], 'k') => {
+            let path = character_path(numbers.next_or(0));
+            let update = scp_update_mode(numbers.next_or(0));
+            if let (Some(path), Some(update)) = (path, update) {
+                handler.set_scp(path, update);
+            }
+        }
+        ([b'>'], 'm') => {
+            if numbers.next_or(1) == 4 {
+                set_other_keys(handler, numbers.next_or(0));
+            }
+        }
+        ([b'?'], 'm') => {
+            if matches!(numbers.next(), Some([4])) {
+                handler.report_modify_other_keys();
+            }
+        }
+        ([b'>'], 'u') => handler.push_keyboard_mode(keyboard_modes(numbers.next_or(0))),
+        ([b'<'], 'u') => handler.pop_keyboard_modes(numbers.next_or(1)),
+        ([b'='], 'u') => {
+            let modes = keyboard_modes(numbers.next_or(0));
+            handler.set_keyboard_mode(modes, keyboard_behavior(numbers.next_or(1)));
+        }
+        ([b'?'], 'u') => handler.report_keyboard_mode(),
+        _ => {}
+    }
+}
+
+/// Makes the calls of a control sequence without intermediates, except those of DA.
+#[inline]
+fn perform_without_intermediates<H: InputAs<G> + ?Sized, G>(
+    handler: &mut H,
+    last: Option<char>,
+    params: &Params,
+    action: char,
+) {
+    let mut numbers = params.iter();
+    match action {
+        '@' => handler.insert_blank(usize::from(numbers.next_or(1))),
+        'A' => handler.move_up(usize::from(numbers.next_or(1))),
+        'B' | 'e' => handler.move_down(usize::from(numbers.next_or(1))),
+        'b' => repeat::<H, G>(handler, last, numbers.next_or(1)),
+        'C' | 'a' => handler.move_forward(usize::from(numbers.next_or(1))),
+        'D' => handler.move_backward(usize::from(numbers.next_or(1))),
+        'd' => handler.goto_line(i32::from(numbers.next_or(1)) - 1),
+        'E' => handler.move_down_and_cr(usize::from(numbers.next_or(1))),
+        'F' => handler.move_up_and_cr(usize::from(numbers.next_or(1))),
+        'G' | '`' => handler.goto_col(usize::from(numbers.next_or(1)) - 1),
+        'H' | 'f' => {
+            let line = i32::from(numbers.next_or(1)) - 1;
+            let column = usize::from(numbers.next_or(1)) - 1;
+            handler.goto(line, column);
+        }
+        'I' => handler.move_forward_tabs(numbers.next_or(1)),
+        'Z' => handler.move_backward_tabs(numbers.next_or(1)),
+        'g' => clear_tabs(handler, numbers.next_or(0)),
+        'J' => clear_screen(handler, numbers.next_or(0)),
+        'K' => clear_line(handler, numbers.next_or(0)),
+        'X' => handler.erase_chars(usize::from(numbers.next_or(1))),
+        'L' => handler.insert_blank_lines(usize::from(numbers.next_or(1))),
+        'M' => handler.delete_lines(usize::from(numbers.next_or(1))),
+        'P' => handler.delete_chars(usize::from(numbers.next_or(1))),
+        'S' => handler.scroll_up(usize::from(numbers.next_or(1))),
+        'T' => handler.scroll_down(usize::from(numbers.next_or(1))),
+        'r' => {
+            let top = usize::from(numbers.next_or(1));
+            handler.set_scrolling_region(top, scrolling_bottom(numbers.next_or(0)));
+        }
+        's' => handler.save_cursor_position(),
+        'u' => handler.restore_cursor_position(),
+        'm' => perform_attributes(handler, params),
+        'h' => change_modes(handler, params, ModeChange::Set),
+        'l' => change_modes(handler, params, ModeChange::Reset),
+        'n' => handler.device_status(usize::from(numbers.next_or(0))),
+        't' => operate_window(handler, numbers.next_or(1)),
+        _ => {}
+    }
+}
+
+/// Passes on the last printed character `count` times, if there is one.
+fn repeat<H: InputAs<G> + ?Sized, G>(handler: &mut H, last: Option<char>, count: u16) {
+    if let Some(c) = last {
+        for _ in 0..count {
+            handler.input_char(c);
+        }
+    }
+}
+
+/// Makes the call of a window operation (XTWINOPS), by its number.
+fn operate_window<H: Handler + ?Sized>(handler: &mut H, number: u16) {
+    match number {
+        14 => handler.text_area_size_pixels(),
+        18 => handler.text_area_size_chars(),
+        22 => handler.push_title(),
+        23 => handler.pop_title(),
+        _ => {}
+    }
+}
+
+/// Clears the tab stops that TBC selects.
+fn clear_tabs<H: Handler + ?Sized>(handler: &mut H, number: u16) {
+    match number {
+        0 => handler.clear_tabs(TabulationClearMode::Current),
+        3 => handler.clear_tabs(TabulationClearMode::All),
+        _ => {}
+    }
+}
+
+/// Clears the part of the screen that ED selects.
+fn clear_screen<H: Handler + ?Sized>(handler: &mut H, number: u16) {
+    match number {
+        0 => handler.clear_screen(ClearMode::Below),
+        1 => handler.clear_screen(ClearMode::Above),
+        2 => handler.clear_screen(ClearMode::All),
+        3 => handler.clear_screen(ClearMode::Saved),
+        _ => {}
+    }
+}
+
+/// Clears the part of the line that EL selects.
+fn clear_line<H: Handler + ?Sized>(handler: &mut H, number: u16) {
+    match number {
+        0 => handler.clear_line(LineClearMode::Right),
+        1 => handler.clear_line(LineClearMode::Left),
+        2 => handler.clear_line(LineClearMode::All),
+        _ => {}
+    }
+}
+
+/// Sets how modified keys are sent.
+fn set_other_keys<H: Handler + ?Sized>(handler: &mut H, number: u16) {
+    match number {
+        0 => handler.set_modify_other_keys(ModifyOtherKeys::Reset),
+        1 => handler.set_modify_other_keys(ModifyOtherKeys::EnableExceptWellDefined),
+        2 => handler.set_modify_other_keys(ModifyOtherKeys::EnableAll),
+        _ => {}
+    }
+}
+
+/// Sets the cursor style of DECSCUSR. `None` is the terminal's own style.
+fn set_cursor_style<H: Handler + ?Sized>(handler: &mut H, number: u16) {
+    let shape = match number {
+        0 => return handler.set_cursor_style(None),
+        1 | 2 => CursorShape::Block,
+        3 | 4 => CursorShape::Underline,
+        5 | 6 => CursorShape::Beam,
+        _ => return,
+    };
+    let blinking = number % 2 == 1;
+    handler.set_cursor_style(Some(CursorStyle { shape, blinking }));
+}
+
+/// What happens to modes.
+#[derive(Clone, Copy)]
+pub(crate) enum ModeChange {
+    /// SM
+    Set,
+    /// RM
+    Reset,
+    /// DECSET
+    SetPrivate,
+    /// DECRST
+    ResetPrivate,
+}
+
+/// Changes the modes that the first numbers of the groups name.
+fn change_modes<H: Handler + ?Sized>(handler: &mut H, params: &Params, change: ModeChange) {
+    for group in params {
+        change_mode(handler, change, first_number(group));
+    }
+}
+
+/// Changes one mode.
+pub(crate) fn change_mode<H: Handler + ?Sized>(handler: &mut H, change: ModeChange, number: u16) {
+    match change {
+        ModeChange::Set => handler.set_mode(Mode::new(number)),
+        ModeChange::Reset => handler.unset_mode(Mode::new(number)),
+        ModeChange::SetPrivate => handler.set_private_mode(PrivateMode::new(number)),
+        ModeChange::ResetPrivate => handler.unset_private_mode(PrivateMode::new(number)),
+    }
+}

@@ -9,7 +9,7 @@ from pathlib import Path
 TOP = Path(__file__).resolve().parents[2]
 
 
-def listed(top):
+def list_files(top):
     """The files below `top` that git tracks or doesn't ignore: their paths from there."""
     command = ["git", "ls-files", "-co", "--exclude-standard"]
     paths = subprocess.run(command, cwd=top, capture_output=True, text=True, check=True).stdout

@@ -11,7 +11,7 @@ from tests.support import Tool, write
 
 def failures(text, run=True, name="page.md"):
     files = "a/src/known.rt", *(f"crates/{it}/specs/Two.antt" for it in ("a", "examples", "a/b"))
-    tool = Tool("check_docs", tracked=lambda: list(map(Path, files)),
+    tool = Tool("check_docs", list_paths=lambda: list(map(Path, files)),
                 words=lambda: {"one", "two", "three", "rt"},
                 words_by_file=lambda: [{"one", "two", "rt"}, {"three"}],
                 source_lines=lambda: {"f();", "g(1);"}, sources=lambda: {Path("a.rt"): "f();\n h"},
@@ -78,6 +78,23 @@ def test_each_call_is_named_and_has_an_example():
         "crates/vte/specs/CallExamples.antt doesn't have PutTab"]
 
 
+# a text, and the names that nothing declares
+@pytest.mark.parametrize("text, wanted", [
+    ("(`one`, clause\n`two`) and `gone`", ""), ("(`B`, `c`, `s` of `C::one`) (`x/y.z`)", ""),
+    ("(`one`, `gone`)", "gone"), ("(`three`, as\n`four`)", "three four"), ("(`five::B`)", "five"),
+    ("(`six`)", "six"), ("(`seven`)", "seven")])
+def test_clauses_are_declared(text, wanted):
+    files = {"crates/C/src/s.rt": "pub const fn f()\n    requires one {\n    ensures* two { four }",
+             "crates/C/specs/A.antt": "pub record B : Type 0 where\n  -- pub three\n  pub c : ℕ",
+             "rust/C/src/r.rs": "/// A type five.\nfn g() {}", "rust/C/tests/t.rs": "fn six() {}",
+             "crates/C/proofs/P.antt": "pub seven : ℕ"}
+    texts = {Path(path): text for path, text in files.items()}
+    tool = Tool("check_docs", sources=lambda: texts, list_paths=lambda: list(texts))
+    found = list(tool.parts["failures_of_clauses"](text))
+    assert found == [f"no module, definition, field or clause is named {it}"
+                     for it in wanted.split()]
+
+
 # a page, and what is wrong with it. `Two` of b imports both `One`
 @pytest.mark.parametrize("page, wanted", [
     ("- `One` of `crates/a/specs`: ..\n- `One`,\n  `Two` of `crates/b/specs`, not `no`", ""),
@@ -93,7 +110,7 @@ def test_modules_are_listed_after_those_that_they_import(page, wanted):
              "crates/b/specs/Two.antt": "use Rattle.b.specs.One.{f}\nuse Rattle.a.specs.One as a\n"
                                         "use Rattle.b.specs.Two.{g}",
              "crates/b/specs/private/One.antt": "", "crates/b/specs/private.antt": ""}
-    tool = Tool("check_docs", tracked=lambda: list(map(Path, files)))
+    tool = Tool("check_docs", list_paths=lambda: list(map(Path, files)))
     for path, text in files.items():
         write(path, text)
     found = tool.parts["failures_of_modules"](page + "\n`One`, `Two`")
@@ -138,5 +155,5 @@ def test_which_pages_are_checked(words, faulty, status, reported):
 
 def test_documents_are_no_sources():
     write("b.py", "one")
-    tool = Tool("check_docs", tracked=lambda: map(Path, ("docs/a.py", "b.py", "c.md")))
+    tool = Tool("check_docs", list_paths=lambda: map(Path, ("docs/a.py", "b.py", "c.md")))
     assert tool.parts["sources"]() == {Path("b.py"): "one"}

@@ -12,32 +12,32 @@ MADE, USED, UNCOUNTED = (f":1: {fault}" for fault in (
     "other modules can make this", "the bytes of a call are used", "bytes are read uncounted"))
 
 
-def stands(places, allowed="0"):
+def fault_of(places, allowed="0"):
     return f": `unsafe` stands here {places}; allowed is {allowed}"
 
 
 # a file, its text, and its fault: `unsafe` in files that may have some, or none
 UNSAFE = {
-    "in another file": ("a.rt", f"{TEXT} // unsafe, as unsafe_code is", stands(ONE)),
-    "in a file of the same name": (f"old/{READER}", TEXT, stands(ONE)),
+    "in another file": ("a.rt", f"{TEXT} // unsafe, as unsafe_code is", fault_of(ONE)),
+    "in a file of the same name": (f"old/{READER}", TEXT, fault_of(ONE)),
     "where it may be": (READER, TEXT, ""),
-    "elsewhere": (READER, "fn text_between() {} fn g() { unsafe { h() } }", stands("1 g", ONE)),
-    "twice": (READER, TEXT.replace("g()", "unsafe"), stands("2 text_between", ONE)),
-    "not even once": (READER, "", stands("0", ONE)),
+    "elsewhere": (READER, "fn text_between() {} fn g() { unsafe { h() } }", fault_of("1 g", ONE)),
+    "twice": (READER, TEXT.replace("g()", "unsafe"), fault_of("2 text_between", ONE)),
+    "not even once": (READER, "", fault_of("0", ONE)),
     # a call of `text_between` says why it is right, so that one isn't safe to call
     "in a function that became safe to call": (
         f"{CARGO}reader.rs", f"{TEXT} unsafe fn take_run() {{ unsafe {{ f() }} }}",
-        stands("3 text_between take_run", "4 text_between take_run")),
+        fault_of("3 text_between take_run", "4 text_between take_run")),
     "not around a call": (
         f"{CARGO}reader/advance.rs", "fn advance_to_run() { take_run(bytes, range) }",
-        stands("0", "1 advance_to_run")),
+        fault_of("0", "1 advance_to_run")),
     "of attributes, functions, traits, types and macros": (
         "a.rs", "unsafe #[unsafe(no_mangle)]\npub extern \"C\" fn f() {} unsafe impl T for U {} "
         "\npub unsafe extern \"C\" fn g(h: unsafe fn()) { unsafe {} } macro_rules! m { unsafe }",
-        stands("7 - f T g m")),
+        fault_of("7 - f T g m")),
     "in strings, and after one that looks like a comment": (
-        "a.rs", 'fn f() { g("//"); unsafe { h("unsafe", r#"unsafe"#) } }', stands("1 f")),
-    "after '\"'": ("a.rs", "fn f() { g('\"'); unsafe {} } // \" unsafe", stands("1 f")),
+        "a.rs", 'fn f() { g("//"); unsafe { h("unsafe", r#"unsafe"#) } }', fault_of("1 f")),
+    "after '\"'": ("a.rs", "fn f() { g('\"'); unsafe {} } // \" unsafe", fault_of("1 f")),
     "in an unclosed string": ("a.rs", '\nfn f() { unsafe { " } }', ":2: unclosed quote: \"")}
 # the same for the root of a crate, which must refuse `unsafe` elsewhere
 ROOTS = {
@@ -75,7 +75,8 @@ CASES = {**UNSAFE, **ROOTS, **{name: (f"{CORE}{file}.rt", text, fault)
 def test_what_is_refused_in_a_file(path, text, fault):
     write(path, text)
     write("HANDLES", "Handles allowed: none.\n")
-    status, output = Tool("check_trust", listed=lambda _: [path], unused=lambda _: []).run()
+    tool = Tool("check_trust", list_files=lambda _: [path], find_unused=lambda _: [])
+    status, output = tool.run()
     wanted = [*[path + fault] * bool(fault), f"1 files, {bool(fault):d} places that are refused"]
     assert (status, output.splitlines()) == (bool(fault), wanted)
 
@@ -86,7 +87,7 @@ def test_all_files_and_handles():
     for path in "crates/x/specs/A.antt", "crates/x/out/A.rt", "bench/b.rs", "c/d.rt", "e.md":
         write(path, "unsafe one\n")
     write("HANDLES", "Handles allowed: some.\n")
-    status, output = Tool("check_trust", unused=lambda _: []).run()
+    status, output = Tool("check_trust", find_unused=lambda _: []).run()
     assert status == 1 and sorted(line.partition(":")[0] for line in output.splitlines()) == [
         "2 files, 3 places that are refused", "HANDLES", "bench/b.rs", "c/d.rt"]
 
@@ -105,5 +106,5 @@ def test_a_name_that_nothing_has_any_more(path, word, fault):
     for file in files:
         text = (TOOLS.parent / file).read_text()
         write(file, text.replace(word, "other") if file == changed else text)
-    output = [*tool.parts["unused"](files if word else files - {changed})]
+    output = [*tool.parts["find_unused"](files if word else files - {changed})]
     assert [line.endswith(fault) for line in output] == [True] * bool(fault)

@@ -38,9 +38,13 @@ def differences(source, written, path="c/mod.rs", adapter=""):
     ("fn f() { g(text_between(a, b.c)); take_run(a); }",
      "fn f() { g(unsafe { text_between(a, b.c) }); unsafe { take_run(a) }; }", ""),
     ("fn f() { text_between(a); }", "fn f() { unsafe { text_between(b) }; }", "+fn f, -fn f"),
+    ("fn f() { g(a); }", "fn f() { unsafe { g(a) }; }", "+fn f, -fn f"),
     *(("fn f() { g(a); }", f"fn f() {{ unsafe {{ {made} }} }}", "+fn f, -fn f")
       for made in ("g(a);", "text_between(a); g(a);", "h(text_between(a))")),
     ("fn f() { input.up_to(a); }", "fn f() { up_to(input, b); }", "+fn f, -fn f"),
+    *((f"fn f() {{ g({one}); }}", f"fn f() {{ g({other}); }}", "+fn f, -fn f") for one, other in (
+        ("input.bytes_read", "input_read"), ("an_input.bytes", "an_input"),
+        ("&mut reader_of_a", "reader_of_a"))),
     # contracts and ghosts
     ("fn f() // requires { }\n ghost a: { ℕ }\n requires b { { \"}\" } ≡ '}' } "
      "ensures* { c } { g(); }", "fn f() { g(); }", ""),
@@ -50,7 +54,9 @@ def differences(source, written, path="c/mod.rs", adapter=""):
     # marks
     ("fn f() {\n// cargo instead: a();\nb(); }", "fn f() { b(); }", "+fn f, -fn f"),
     ("// cargo lacks: why\nfn f() {}\nfn g() {}", "fn f() {}", "+fn f, -fn g"),
-    ("fn f() { match a { 0..16 => 1 } }", "fn f() { match a { 0..=16 => 1 } }", "+fn f, -fn f")])
+    ("fn f() { match a { 0..16 => 1 } }", "fn f() { match a { 0..=16 => 1 } }", "+fn f, -fn f"),
+    ("fn f() { let A(b) = c else { break; }; }",
+     "fn f() { let b = match c { A(b) => b, _ => return, }; }", "+fn f, -fn f")])
 def test_what_differs_is_reported(source, written, wanted):
     shown = re.compile("c/mod.rs (.*?): it isn't (?:written|in the source as it is written: (.*))")
     found = [shown.fullmatch(line) for line in differences(source, written)]
@@ -58,9 +64,24 @@ def test_what_differs_is_reported(source, written, wanted):
     assert all(word in written for it in found for word in (it[2] or "").split())
 
 
-@pytest.mark.parametrize("example", [it[2] for it in Tool("check_erased").parts["PATTERNS"]])
-def test_what_may_differ(example):
-    assert differences(*(f"fn f() {{ {text} }}" for text in example.split(" -> "))) == []
+EXAMPLES = [it[2].split(" -> ") for it in Tool("check_erased").parts["PATTERNS"]]
+
+
+@pytest.mark.parametrize("texts", EXAMPLES)
+def test_what_may_differ(texts):
+    assert differences(*(f"fn f() {{ {text} }}" for text in texts)) == []
+
+
+@pytest.mark.parametrize("source, written", EXAMPLES)
+def test_any_other_token_differs(source, written):
+    """Only the name of a law doesn't count."""
+    ignored = []
+    for token in re.finditer(r"\w+|[^\w\s(){}[\]]", source):
+        other = " 7 " if token[0].isdigit() else " other "
+        changed = source[:token.start()] + other + source[token.end():]
+        if not differences(f"fn f() {{ {changed} }}", f"fn f() {{ {written} }}"):
+            ignored.append(token[0])
+    assert ignored == (["f"] if "laws" in source else [])
 
 
 def test_documentation_is_repeated():
@@ -86,7 +107,7 @@ def test_all_files_are_compared():
 
 def erase(*words):
     plans = [Plan(folder=folder, modules={"c": "crate::c"}) for folder in ("v", "w")]
-    return Tool("erase", PLANS=plans, formatted=lambda files: files).run(*words)
+    return Tool("erase", PLANS=plans, format_files=lambda files: files).run(*words)
 
 
 def test_what_is_out_of_date_is_told_and_then_written(folder):
@@ -111,11 +132,11 @@ def test_each_folder_is_written():
 
 @pytest.mark.skipif(not shutil.which("rustfmt"), reason="without rustfmt")
 def test_layout():
-    formatted = Tool("erase").parts["formatted"]
-    assert formatted({"mod.rs": "mod a;", "a.rs": "fn f( ){}"}) == {
+    format_files = Tool("erase").parts["format_files"]
+    assert format_files({"mod.rs": "mod a;", "a.rs": "fn f( ){}"}) == {
         "mod.rs": "mod a;\n", "a.rs": "fn f() {}\n"}
     with pytest.raises(OSError, match="rustfmt failed with status 1"):
-        formatted({"mod.rs": "fn f( {"})
+        format_files({"mod.rs": "fn f( {"})
 
 
 @pytest.mark.parametrize("words", [[], ["--check"]])

@@ -75,7 +75,7 @@ mod tests { fn g() { 1; } }
 '''
 
 
-def before_and_after(marked):
+def split_marked(marked):
     """A text with marks, as it is before and after."""
     return re.sub("[‹›]|«[^»]*»", "", marked), re.sub("[«»]|‹[^›]*›", "", marked)
 
@@ -152,7 +152,7 @@ TEXTS = [
 
 def test_traps():
     assert "".join(token.text for token in split(TRAPS)) == TRAPS
-    before, after = before_and_after(TRAPS)
+    before, after = split_marked(TRAPS)
     text, tests, _ = erase(before, "a", "a/x", plan())
     assert words(text) == words(after)
     assert tests == {"a/x/cases", "a/x/tests"}
@@ -162,7 +162,7 @@ def test_traps():
     " ".join(re.sub("[‹›«»]", "", marked).split())[:50] for _, marked in TEXTS])
 def test_texts(entries, marked):
     """What the eraser writes has no difference for the tool that shares no rule with it."""
-    (before, after), of_test = before_and_after(marked), plan(**entries)
+    (before, after), of_test = split_marked(marked), plan(**entries)
     assert words(erase(before, "a", "a/x", of_test)[0]) == words(after)
     write("crates/a/src/x.rt", before)
     write("o/a/x.rs", after)
@@ -218,4 +218,4 @@ def test_each_entry_is_needed(entries):
 def test_a_match_with_a_comment_stays(text, pattern, stays):
     source = Source(text)
     rewrite(source, pattern, "()")
-    assert (source.written() == text) == stays
+    assert (source.join_text() == text) == stays

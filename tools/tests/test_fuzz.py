@@ -32,8 +32,9 @@ def test_what_is_fuzzed(words, targets, seconds, failing, status):
             return name not in failing
         return function
 
-    fuzz = Tool("fuzz", missing=lambda: (), build=lambda *words: words, build_different=str,
-                fuzz=fake("fuzz"), finds=fake("finds"), coverage=lambda: "coverage" not in failing)
+    fuzz = Tool("fuzz", find_missing=lambda: (), build=lambda *words: words,
+                build_different=str, fuzz=fake("fuzz"), finds=fake("finds"),
+                check_coverage=lambda: "coverage" not in failing)
     wanted = [line for target in targets.split()
               for line in (f"{target} {(target, seconds)} {seconds}", f"{target} {target}")]
     found, output = fuzz.run(*words.split())

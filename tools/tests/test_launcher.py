@@ -80,7 +80,7 @@ def checkout(folder, monkeypatch):
     (top / "hangs").unlink(missing_ok=True)
 
 
-def runs(*words):
+def run_launcher(*words):
     """Runs the launcher by the link: its status, output and errors, and what was asked for. Its
     input is for the program alone, and it leaves nothing."""
     write("asked", "")
@@ -103,11 +103,11 @@ def test_answers():
     manifest = (TOP / "rust/vtlog/Cargo.toml").read_text()
     version = f"vtlog {re.search('^version = .(.*).$', manifest, re.M)[1]}\n"
     for word, answer in ("--help", shown), ("-h", shown), ("--version", version):
-        assert runs(word) == (0, answer, "", "")
+        assert run_launcher(word) == (0, answer, "", "")
     for words, shown in ((["Text"], "Text"), ([""], ""), (["a\x1b[m"], "a?[m"), (["a", "b"], "a"),
                          (["text", "b"], "b"), (["--help", "b c"], "b c")):
-        assert runs(*words) == (2, "", UNEXPECTED.format(shown), "")
-    assert runs("text", b"\xff") == (3, "", "vtlog: no arguments read\n", "")
+        assert run_launcher(*words) == (2, "", UNEXPECTED.format(shown), "")
+    assert run_launcher("text", b"\xff") == (3, "", "vtlog: no arguments read\n", "")
 
 
 @pytest.mark.parametrize("target", ["", "a b"])
@@ -118,18 +118,18 @@ def test_cargo(checkout, monkeypatch, target):
     cargo = write_program("bin/cargo", CARGO)
     asked = ("cargo build --message-format=json-render-diagnostics --quiet --release "
              f"--manifest-path {checkout}/rust/vtlog/Cargo.toml\n")
-    assert runs("text") == (5, "ran text\ninput\n", UNPROVED, asked)
+    assert run_launcher("text") == (5, "ran text\ninput\n", UNPROVED, asked)
     time.sleep(0.05)
-    assert runs() == (5, "ran\ninput\n", "", asked)
+    assert run_launcher() == (5, "ran\ninput\n", "", asked)
     write(f"built/{target}/vtlog", "\x7fELF of another machine", 0o755)
-    status, _, errors, _ = runs()
+    status, _, errors, _ = run_launcher()
     assert status == 70 and errors.endswith("vtlog: what cargo built is for another machine\n")
     write("fails", "")
     errors = "no crate\nvtlog: cargo could not build the program, as above\n"
-    assert runs("text") == (70, "", errors, asked)
+    assert run_launcher("text") == (70, "", errors, asked)
     cargo.unlink()
     errors = "vtlog: building the program takes cargo, or rt of a Rattle kit\n"
-    assert runs("text") == (70, "", errors, "")
+    assert run_launcher("text") == (70, "", errors, "")
 
 
 @pytest.mark.parametrize("path, variables", [
@@ -162,13 +162,13 @@ def test_builds():
                    *(f"rm crates/vtlog/out/vtlog{end}" for end in ("", ".stamp", ".crates"))):
         time.sleep(0.02)
         subprocess.run(["sh", "-c", change], check=True)
-        assert runs("text") == (7, "ran text\n", BUILT, ALL), change
-        assert runs("a  b") == (7, "ran a  b\n", "", ""), change
+        assert run_launcher("text") == (7, "ran text\n", BUILT, ALL), change
+        assert run_launcher("a  b") == (7, "ran a  b\n", "", ""), change
     # an edit while it is built
     Path("crates/vtlog/src/main.rt").touch()
     write("edited", "")
     for errors, asked in (BUILT, ALL), (BUILT, ALL), ("", ""):
-        assert runs("text") == (7, "ran text\n", errors, asked)
+        assert run_launcher("text") == (7, "ran text\n", errors, asked)
 
 
 # of the log its end is shown alone
@@ -178,7 +178,7 @@ def test_builds():
 def test_failures(file, errors, asked):
     write(file, "")
     write("log", "line\n" * 30)
-    assert runs("text") == (70, "", f"{BEGINS}{errors}{FAILED}", asked)
+    assert run_launcher("text") == (70, "", f"{BEGINS}{errors}{FAILED}", asked)
 
 
 def test_without_a_folder(monkeypatch):

@@ -5,36 +5,44 @@ import pytest
 
 from tests.support import Tool, write
 
-PATH = "tools/mutants/c/m.edit"
+PATH, MUST_FAIL = "tools/mutants/c/m.edit", "crates/c/must-fail/other.edit"
 MUTANT = "# A rule.\nfile: src/lib.rt\nold: one\nnew: two\n# refused at abc1234 by goal\n"
 
 
 @pytest.fixture
 def copy(tmp_path_factory):
     """A folder for a copy, beside that of a crate with a mutant."""
-    for file in "crates.txt", "HANDLES", "crates/c/must-fail/other.edit", PATH:
+    for file in "crates.txt", "HANDLES", "crates/c/src/a/b.rt", MUST_FAIL, PATH:
         write(file, MUTANT)
-    write("crates/c/src/lib.rt", "f(one); f(two);")
+    write("crates/c/src/lib.rt", "fn d() { f(one); f(two); }")
     return tmp_path_factory.mktemp("copy")
 
 
 # what stands in an edit in the place of something, and what is wrong with it
 @pytest.mark.parametrize("path, old, new, fault", [
     (PATH, "", "", None),
-    (PATH, "old: one", "old: f(", "crates/c/src/lib.rt hasn't exactly one 'f('"),
-    (PATH, "lib.rt", "gone.rt", "crates/c/src/gone.rt hasn't exactly one 'one'"),
-    (PATH, "# A rule.\n", "", "it names no rule"),
-    (PATH, "# refused at abc1234 by goal\n", "", "it wasn't refused: run tools/mutate"),
+    *((path, *case) for path in (PATH, MUST_FAIL) for case in (
+        ("old: one", "old: f(", "crates/c/src/lib.rt hasn't exactly one 'f('"),
+        ("lib.rt", "gone.rt", "crates/c/src/gone.rt hasn't exactly one 'one'"),
+        ("new: two", "new: 3\nold: 3\nnew: 4", None),
+        ("new: two", "new: 3\nold: one\nnew: 4", "crates/c/src/lib.rt hasn't exactly one 'one'"),
+        ("# A rule.\n", "", "it names no rule"))),
+    *((path, "# refused at abc1234 by goal\n", "", None) for path in (PATH, MUST_FAIL)),
+    (PATH, "# refused at abc1234 by goal", "# not refused at abc1234",
+     "it wasn't refused: run tools/mutate"),
     *((PATH, "by goal", f"by {verdict}", None)
       for verdict in ("returns-then-x of a::B+C::d", "a goal of src/a/b.rt:1")),
+    *((PATH, "by goal", f"by x of {gone}", f"its verdict names {gone}, which is gone")
+      for gone in ("a::gone", "src/a/gone.rt:1")),
     *((PATH, " by goal", verdict, "its verdict names no goal")
       for verdict in (" by a goal", ": `goal`: why")),
-    ("crates/c/must-fail/other.edit", "# A rule.\n", "", "it names no rule"),
     ("crates/c/must-fail/m.edit", "", "", "it stands twice")])
 def test_faults_of_mutants(copy, path, old, new, fault):
     write(path, MUTANT.replace(old, new))
     faults = [f"{PATH if 'twice' in fault else path}: {fault}"] if fault else []
-    output = "\n".join([*faults, f"1 mutants, {len(faults)} faults\n"])
+    untried = int(path == PATH and "refused at" in old and not new)
+    counts = f"1 mutants, {len(faults)} faults, {untried} not tried yet\n"
+    output = "\n".join([*faults, counts])
     assert Tool("mutate").run("--check") == (len(faults), output)
 
 
@@ -46,8 +54,9 @@ def mutate(output, *words):
 
 # what `rt must-fail` says in the end, and the last line of the mutant then
 @pytest.mark.parametrize("output, status, line", [
-    ("NOT TRIED", 1, "# refused at abc1200 by old"), ("not refused", 1, "new: two"),
-    ("refused, as it must be: why", 1, "new: two"),
+    ("NOT TRIED", 1, "# refused at abc1200 by old"),
+    *((other, 1, "# not refused at abc1234") for other in (
+        "not refused", "refused, as it must be: why")),
     *((f"refused, as it must be: {why}", 0, f"# refused at abc1234 by {goal}") for goal, why in {
         "x-y": "`x-y`: why (`x`)",
         "x of src/a/b.rt:2": "note: src/a/b.rt:2:1: what `q` requires isn't proved (`x`); `y`",

@@ -1,11 +1,13 @@
 """Tests of what tools/release checks, and of the contents that it writes."""
 import json
+import os
 from pathlib import Path
 
 import pytest
 
-from tests.support import run_here, write
+from tests.support import TOOLS, Tool, run_here, write, write_program
 
+CHECK = "tools/lib/releasing/check"
 MANIFESTS = ("rust/vtlog/Cargo.toml", "rust/vte_c/Cargo.toml", "python/pyproject.toml",
              "python/Cargo.toml")
 # what else of a release of version 1.2.3 names it, or the version of the C interface
@@ -37,9 +39,36 @@ RELEASE = {
 def test_versions_of_a_release(path, old, new, reported):
     for name, text in RELEASE.items():
         write(name, (text.replace(old, new) if name == path else text) + "\n")
+    write(CHECK, (TOOLS.parent / CHECK).read_text(), 0o755)
     # with all versions right, the release would be made
     wanted = f"versions: {reported}" if reported else "release: it was not made"
     assert run_here("release", "--check", git="exit 1") == (1, [wanted, "1 faults"])
+
+
+# what makes a release, what uses it on a fresh machine, and what is reported
+@pytest.mark.parametrize("make, use, reported", [
+    ("", "", []), ("exit 1", "", ["release: it was not made"]),
+    ("case $1 in *second) rm a; exit 1; esac", "", [
+        "release: it was not made again", "release: the second differs from the first"]),
+    ("umask >mask", "", ["release: the second differs from the first"]),
+    ("echo b >a", "", ["release: a sum is wrong"]),
+    ("", "exit 1", ["use: a fresh machine could not use the release"]),
+    ("", '[ "$1 $2 $4 $5 $6" = "--with pkg-config ./try_release 1.2.3 7" ] && cd $3 && '
+         '[ "$(echo $(git ls-files))" = "SHA256SUMS a program.c program.rs try_release" ]', [])])
+def test_making_and_using_a_release(folder, monkeypatch, make, use, reported):
+    write_program("tools/release", "mkdir $1 && cd $1 && echo a >a && "
+                  f"sha256sum a >SHA256SUMS; {make}")
+    monkeypatch.setenv("FRESH_MACHINE", str(write_program("machine", use)) if use else "")
+    monkeypatch.setattr(os, "geteuid", lambda: 0)
+    monkeypatch.setenv("COMPILED_CRATES", "")
+    tool = Tool("lib/releasing/check", faults_of_versions=lambda *_: [])
+    for path in tool.parts["PROGRAMS"]:
+        write(path, "")
+    status, output = tool.run("0.15.0+naqshuve.1.2.3", "7", str(folder))
+    missing = ["missing: root and $FRESH_MACHINE, so no fresh machine has used the release"]
+    is_missing = not use and reported[:1] != ["release: it was not made"]
+    assert output.splitlines() == [*missing * is_missing, *reported, f"{len(reported)} faults"]
+    assert status == (1 if reported else 0)
 
 
 def test_contents_of_a_release(monkeypatch):

@@ -5,21 +5,28 @@ from pathlib import Path
 from types import SimpleNamespace
 
 import pytest
+from lib.documents import Page, Repository
 
 from tests.support import Tool, write
 
 
+def check_docs(**known):
+    """The tool, and what it knows of a repository other than what this folder has."""
+    repository = Repository(Path.cwd())
+    vars(repository).update(known)
+    return Tool("check_docs", REPOSITORY=repository)
+
+
 def failures(text, run=True, name="page.md"):
     files = "a/src/known.rt", *(f"crates/{it}/specs/Two.antt" for it in ("a", "examples", "a/b"))
-    tool = Tool("check_docs", list_paths=lambda: list(map(Path, files)),
-                words=lambda: {"one", "two", "three", "rt"},
-                words_by_file=lambda: [{"one", "two", "rt"}, {"three"}],
-                source_lines=lambda: {"f();", "g(1);"}, sources=lambda: {Path("a.rt"): "f();\n h"},
-                is_in_history=lambda commit: commit == "abc1234")
+    tool = check_docs(paths=list(map(Path, files)), words={"one", "two", "three", "rt"},
+                      words_by_file=[{"one", "two", "rt"}, {"three"}],
+                      source_lines={"f();", "g(1);"}, sources={Path("a.rt"): "f();\n h"},
+                      is_in_history=lambda commit: commit == "abc1234")
     if not name.endswith(".md"):
         return [it for _, it in tool.parts["failures_of_comments"](text)]
-    page = tool.parts["Page"](write(name, text))
-    return [it for _, it in tool.parts["failures"](page, run)]
+    page = Page(write(name, text))
+    return [it for _, it in tool.parts["failures_of_page"](page, run)]
 
 
 # a page, and what is wrong with it
@@ -69,7 +76,7 @@ def test_each_module_is_named():
 
 
 def test_each_call_is_named_and_has_an_example():
-    tool = Tool("check_docs")
+    tool = check_docs()
     write(tool.parts["EXAMPLES"], "Bell")
     write(tool.parts["TRAIT"], "".join(f"    fn {it}(&mut self)\n" for it in (
         "bell", "newline", "put_tab")) + "pub trait HandlerText")
@@ -89,7 +96,7 @@ def test_clauses_are_declared(text, wanted):
              "rust/C/src/r.rs": "/// A type five.\nfn g() {}", "rust/C/tests/t.rs": "fn six() {}",
              "crates/C/proofs/P.antt": "pub seven : ℕ"}
     texts = {Path(path): text for path, text in files.items()}
-    tool = Tool("check_docs", sources=lambda: texts, list_paths=lambda: list(texts))
+    tool = check_docs(sources=texts, paths=list(texts))
     found = list(tool.parts["failures_of_clauses"](text))
     assert found == [f"no module, definition, field or clause is named {it}"
                      for it in wanted.split()]
@@ -110,7 +117,7 @@ def test_modules_are_listed_after_those_that_they_import(page, wanted):
              "crates/b/specs/Two.antt": "use Rattle.b.specs.One.{f}\nuse Rattle.a.specs.One as a\n"
                                         "use Rattle.b.specs.Two.{g}",
              "crates/b/specs/private/One.antt": "", "crates/b/specs/private.antt": ""}
-    tool = Tool("check_docs", list_paths=lambda: list(map(Path, files)))
+    tool = check_docs(paths=list(map(Path, files)))
     for path, text in files.items():
         write(path, text)
     found = tool.parts["failures_of_modules"](page + "\n`One`, `Two`")
@@ -133,8 +140,9 @@ def test_commands_that_lack_something_are_missing(needs, crates, lacking, monkey
 @pytest.mark.parametrize("status, output, wanted", [
     (0, "false\n", True), (1, "false\n", False), (1, "true\n", True)])
 def test_the_history(status, output, wanted):
-    tool = Tool("check_docs", git=lambda *_: SimpleNamespace(returncode=status, stdout=output))
-    assert tool.parts["is_in_history"]("abc1234") == wanted
+    repository = Repository(Path.cwd())
+    repository.git = lambda *_: SimpleNamespace(returncode=status, stdout=output)
+    assert repository.is_in_history("abc1234") == wanted
 
 
 # words, the pages that have a fault, and what is reported: whether commands are run
@@ -149,11 +157,13 @@ def test_which_pages_are_checked(words, faulty, status, reported):
     write(".gitignore", "out/\n")
     for path in "README.md", "docs/A.md", "tools/README.md", "out/README.md", "a.py":
         write(path, "")
-    tool = Tool("check_docs", failures=lambda page, run: [(5, run)] * (page.path.name in faulty))
+    tool = check_docs()
+    tool.parts["failures_of_page"] = lambda page, run: [(5, run)] * (page.path.name in faulty)
     assert tool.run(*words.split()) == (status, "".join(f"{line}\n" for line in reported))
 
 
 def test_documents_are_no_sources():
     write("b.py", "one")
-    tool = Tool("check_docs", list_paths=lambda: map(Path, ("docs/a.py", "b.py", "c.md")))
-    assert tool.parts["sources"]() == {Path("b.py"): "one"}
+    repository = Repository(Path.cwd())
+    repository.paths = map(Path, ("docs/a.py", "b.py", "c.md"))
+    assert repository.sources == {Path("b.py"): "one"}

@@ -1,0 +1,117 @@
+"""What documents name: the parts of a page, and the files, sources and history of a repository."""
+import re
+import subprocess
+from functools import cache, cached_property
+from pathlib import Path
+
+from lib.files import list_files
+
+SOURCES = {".rt", ".antt", ".rs", ".py", ".h", ".hpp", ".c", ".cpp", ".sh", ".toml", ".txt",
+           ".edit", ""}
+FILE = re.compile(r"[\w*-][\w.*-]*")
+PATH = re.compile(r"[\w.*-]*/[\w.*/-]*")
+BUILT = re.compile(r"(^|/)(out|target)/|\b[A-Z]{4,}\b")
+# a name after a word that declares it in Rust and Rattle
+DECLARED = re.compile(r"\b(?:pub|record|data|ensures\*?|requires|ghost|fn|mod|struct|enum|trait|const"
+                      r"|static|type)\s+(?=(\w+))")
+DECLARING = re.compile(r"(crates|rust)/\w+/(src|specs)/")
+
+
+class Page:
+    """A Markdown page, as text outside its blocks and a list of blocks."""
+
+    def __init__(self, path):
+        self.path = path
+        self.prose = []  # (line number, text)
+        self.blocks = []  # (line number of the first line, info string, lines)
+        fence = None
+        for number, line in enumerate(path.read_text().splitlines(), 1):
+            if line.lstrip().startswith("```"):
+                if fence is None:
+                    fence = (number + 1, line.strip("` "), [])
+                else:
+                    self.blocks.append(fence)
+                    fence = None
+            elif fence is not None:
+                fence[2].append(line)
+            elif not line.startswith("    "):
+                self.prose.append((number, line))
+
+    def headings(self):
+        for _, line in self.prose:
+            if line.startswith("#"):
+                title = re.sub(r"[^\w\- ]", "", line.lstrip("# ").lower())
+                yield title.replace(" ", "-")
+
+
+def strip_marks(line):
+    """A line without its indentation and without the mark of a doc comment, because examples there
+    may be quoted too."""
+    return line.strip().removeprefix("//! ").removeprefix("/// ").strip()
+
+
+class Repository:
+    """What the documents of a repository can name: its files, what stands in its sources, and its
+    commits. Documents aren't sources."""
+
+    def __init__(self, top):
+        self.top = top
+        self.is_in_history = cache(self.find_in_history)
+
+    @cached_property
+    def paths(self):
+        """The files, from the top."""
+        return [Path(path) for path in list_files(self.top)]
+
+    @cached_property
+    def sources(self):
+        """The text of each source file."""
+        return {path: (self.top / path).read_text(errors="replace") for path in self.paths
+                if path.suffix in SOURCES and path.parts[0] != "docs"}
+
+    @cached_property
+    def source_lines(self):
+        """The lines of all sources, without their marks."""
+        return {strip_marks(line) for text in self.sources.values() for line in text.splitlines()}
+
+    @cached_property
+    def words_by_file(self):
+        """The words of each source file, but for comments, and of its path."""
+        return [{*re.findall(r"\w+", re.sub(r"(?m)(^|\s)(--|//) .*", "", text)), *path.parts,
+                 path.stem, path.suffix[1:]} for path, text in self.sources.items()]
+
+    @cached_property
+    def words(self):
+        return set().union(*self.words_by_file)
+
+    @cached_property
+    def declared(self):
+        """The names of modules, and of what they declare."""
+        return {name for path, text in self.sources.items() if DECLARING.match(str(path))
+                for name in (*path.parts, path.stem,
+                             *DECLARED.findall(re.sub(r"(--|//).*", "", text)))}
+
+    @cached_property
+    def suffixes(self):
+        return {path.suffix for path in self.paths if path.suffix[1:].isalpha()}
+
+    def is_path(self, span):
+        """Whether a code span is a path in here, not an absolute one or a build output."""
+        is_file = Path(span).suffix in self.suffixes and FILE.fullmatch(span)
+        return bool((is_file or PATH.fullmatch(span)) and not BUILT.search(span)
+                    and not span.startswith("/") and re.search(r"[a-z]", span))
+
+    def has_path(self, span):
+        """Whether a path exists: from the top, or as the end of the path of a file or folder, with
+        or without its suffix."""
+        named = re.escape(span.removeprefix("./").strip("/")).replace(r"\*", "[^/]*")
+        pattern = re.compile(rf"(?:.*/)?{named}(?:\.\w+)?(?:/.*)?")
+        return any(pattern.fullmatch(str(path)) for path in self.paths)
+
+    def git(self, *words):
+        return subprocess.run(["git", *words], cwd=self.top, capture_output=True, text=True)
+
+    def find_in_history(self, commit):
+        """Whether HEAD stands on a commit. In a shallow clone nothing can be looked up."""
+        return (self.git("merge-base", "--is-ancestor", commit, "HEAD").returncode == 0
+                or self.git("rev-parse", "--is-shallow-repository").stdout == "true\n")

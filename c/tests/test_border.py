@@ -26,7 +26,7 @@ EACH_KIND = b"a\r\x1bP1q+\x1b\\\x1b]t\x07\x1b[1mb\x1b(B\x1bPq-\x18\x1bPqxyz"
     (STREAM, ALL_KINDS, 1 << TEXT, ROOMS, (1, 1, 0)),
     (STREAM, ALL_KINDS, 1 << CSI, ROOMS, (5, 2, 3)),
     (DATA_STRINGS, ALL_KINDS, 1 << DATA, ROOMS, (8, 3, 3))])
-def test_edges(library, sent, kinds, stops, rooms, wanted):
+def test_rooms_and_stops(library, sent, kinds, stops, rooms, wanted):
     # a parser without a limit has its own room for data
     for parser in parsers(library)[:1 if rooms[1] < 2112 else 2]:
         # data of earlier calls are gone
@@ -68,7 +68,7 @@ def test_kinds_and_stops(library, kind):
     (TEXT, b"ab\rcd\x1b]t\x07ef\x1b[1mgh\x1b(Bij\x1bP1q+\x1b\\kl\x1bPq\x18mn\xc2\x85op",
      [b"ab", b"cd", b"ef", b"gh", b"ij", b"kl", b"mn", b"op"]),
     (DATA, DATA_STRINGS, [b"xyz\n", b"b", b"cde", b"f"])])
-def test_places(library, kind, sent, wanted):
+def test_runs_are_in_the_bytes(library, kind, sent, wanted):
     """Texts and data are in the bytes of the call, one event each that these have whole."""
     for parser in parsers(library):
         for step, chunks in (len(sent), wanted), (1, [b"%c" % byte for byte in b"".join(wanted)]):
@@ -115,7 +115,7 @@ CALLS = (b"a\a\b\t\r\n\x1b[1;2H\x1b[31mb\x1b]2;t\a\x1b[18t\x1b[?25lc",
 
 
 @pytest.mark.parametrize("count", [0, 1, 3, len(FUNCTIONS), len(FUNCTIONS) + 3])
-def test_tables(cargo_build, count):
+def test_tables_of_other_versions(cargo_build, count):
     """A table may be that of an earlier version or a later one. A part of a function is none."""
     processor, known = Processor(cargo_build, 8 * count), [name for name, _ in FUNCTIONS[:count]]
     assert processor.advance(CALLS[0]) == (OK, len(CALLS[0]))

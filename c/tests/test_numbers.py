@@ -47,7 +47,7 @@ def of_rust():
     return {name: numbered(re.search(LIST.format(f" {name}"), text)[1]) for name in ENUMS}
 
 
-def test_names():
+def test_constants_of_headers():
     wanted = {"VTE_SHAPE_OWN": -1, "VTE_BELL": 1, "VTE_TRUNCATED": 2}
     wanted |= {f"VTE_{name}": at for names in OF_C for at, name in enumerate(names.split())}
     for kind, names in ENUMS.items():
@@ -61,7 +61,7 @@ def test_names():
         name: number for name, number in wanted.items() if name}
 
 
-def test_handler(cargo_build):
+def test_handler_of_cpp(cargo_build):
     need("c++", "vte.hpp was not tested")
     words = ["-std=c++17", "-Wl,--wrap=malloc", "-Wl,--wrap=realloc"]
     assert output_of([cargo_build.program(PROGRAMS / "handler.cpp", *words, compiler="c++")]) == b""

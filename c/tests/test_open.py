@@ -9,7 +9,7 @@ from library import at_once
 
 def test_prefixes(library):
     """Each prefix is read byte by byte, and whole, if what is no command may be skipped."""
-    def test(stream):
+    def check_prefixes(stream):
         slow_parsers = parsers(library)
         for end in range(len(stream) + 1):
             for slow, fast in zip(slow_parsers, parsers(library)):
@@ -21,4 +21,4 @@ def test_prefixes(library):
 
     by_hand = [bytes_of(vector["pieces"]) for vector in vectors() if vector["kind"] == "events"]
     hostile = [b"".join(hostile_stream(52, number)) for number in range(100)]
-    at_once(test, [stream for stream in by_hand + hostile if len(stream) < 300])
+    at_once(check_prefixes, [stream for stream in by_hand + hostile if len(stream) < 300])

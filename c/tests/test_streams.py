@@ -72,14 +72,14 @@ def joined(lines):
 
 def test_vectors(library):
     """Events and text are as worked out by hand, for a parser that keeps 1,024 bytes."""
-    def test_vector(case):
+    def check_vector(case):
         vector, stream = case
         is_text = vector["kind"] == "text"
         wanted = bytes_of(vector["text"]) if is_text else joined(lines_of(vector["events"]))
         ways = STRIP_WAYS if is_text else WAYS
         compare(library, f"vector: {vector['name']}", stream, wanted, [ways[0], ways[2]])
 
-    at_once(test_vector, VECTORS)
+    at_once(check_vector, VECTORS)
 
 
 def test_commands(library):
@@ -115,7 +115,7 @@ def test_streams(library, request):
     program, text, *chunk = ((library.events, "strip", "65536") if option.short else
                              (builder.proved_program("vtlog"), "text"))
 
-    def test_stream(numbered):
+    def check_stream(numbered):
         number, (name, stream) = numbered
         stops = STOPS_WAYS[:2] if name.startswith("random") else STOPS_WAYS
         stops = [STOPS_WAYS[number % 9]] if option.short else stops
@@ -123,4 +123,4 @@ def test_streams(library, request):
         compare(library, name, stream, output_of([program, text, *chunk], stream), STRIP_WAYS)
         compare_losses(library, name, stream)
 
-    at_once(test_stream, enumerate(all_streams(option)))
+    at_once(check_stream, enumerate(all_streams(option)))

@@ -186,7 +186,7 @@ def test_states_of_other_versions(make, word, read):
         getattr(made, read)(STREAM)
 
 
-def test_refused():
+def test_refused_is_pickled():
     for lost in [], [True]:
         refused = pickle.loads(pickle.dumps(vte.Refused(3, [Text("a")], *lost)))
         assert isinstance(refused, MemoryError) and type(refused) is vte.Refused

@@ -28,7 +28,7 @@ NAMES |= {f"{name}.{of}": part for name, value in NAMES.items()
           for of, part in vars(value).items() if of[0] != "_"}
 
 
-def test_names():
+def test_public_names():
     modules = {name for name, value in vars(vte).items() if isinstance(value, type(vte))}
     assert set(vte.__all__) == {name for name in vars(vte) if name[0] != "_"} - modules | {"calls"}
     of = {getattr(vte, name).__module__ for name in set(vte.__all__) - {"calls", "Event"}}

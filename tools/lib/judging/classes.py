@@ -63,21 +63,30 @@ def find_needed_rule(chunks, depends_on_cut, same, kind, house, but=()):
     the rules `but`. It is exact if the case is shrunk."""
     steps = steps_of(b"".join(chunks), house)
     if depends_on_cut:
-        divided = {name for index in steps_at_cuts(steps, cuts_of(chunks)).values()
-                   if index is not None for name in steps[index].rules
-                   if name in ORDER and is_about(name, kind)}
-        return CUT_PREFIX + find_most_special(divided) if divided else BETWEEN
+        return find_cut_rule(steps, cuts_of(chunks), kind)
     if not steps:
         return "text"
-    # what comes after an event that has another field doesn't matter, nor does a terminator after
-    # another event
+    # what is near a limit is about it, as the case is the smallest
+    names = {name.replace(NEAR, "") for step in find_needed_steps(steps, same, kind)
+             for name in step.rules}
+    return find_most_special(name for name in names if name not in but and is_about(name, kind))
+
+
+def find_cut_rule(steps, cuts, kind):
+    """The name of the rule about what cuts divide."""
+    divided = {name for index in steps_at_cuts(steps, cuts).values() if index is not None
+               for name in steps[index].rules if name in ORDER and is_about(name, kind)}
+    return CUT_PREFIX + find_most_special(divided) if divided else BETWEEN
+
+
+def find_needed_steps(steps, same, kind):
+    """The steps that a difference after the same lines can be about: none after an event that has
+    another field, and no terminator of an event before."""
     ends = list(accumulate(len(step.lines) for step in steps))
     last = next((index for index, end in enumerate(ends) if end > same), len(steps) - 1)
-    needed = steps[:last + 1] if kind in FIELDS else [
-        step for step in steps if "terminator" not in step.rules or step == steps[last]]
-    # what is near a limit is about it, as the case is the smallest
-    names = {name.replace(NEAR, "") for step in needed for name in step.rules}
-    return find_most_special(name for name in names if name not in but and is_about(name, kind))
+    if kind in FIELDS:
+        return steps[:last + 1]
+    return [step for step in steps if "terminator" not in step.rules or step == steps[last]]
 
 
 def is_about(rule, kind):
@@ -122,19 +131,23 @@ def free_case(chunks, rules, house):
     stream, cuts = b"".join(chunks), cuts_of(chunks)
     steps = steps_of(stream, house) if rules else []
     if any(rules.intersection(step.rules) for step in steps):
-        positions = kept_places(stream.decode("latin-1"), rules, house)
+        positions = find_kept_positions(stream.decode("latin-1"), rules, house)
         stream = bytes(stream[it] for it in positions)
         cuts = [bisect_left(positions, it) for it in cuts]
         steps = steps_of(stream, house)
-    divided = {name[len(CUT_PREFIX):] for name in rules if name.startswith(CUT_PREFIX)}
-    unwanted = {cut for cut, index in steps_at_cuts(steps, cuts if divided else []).items()
-                if (BETWEEN in rules if index is None
-                    else divided.intersection(steps[index].rules))}
+    unwanted = find_unwanted_cuts(steps, cuts, rules)
     return cut_at(stream, [cut for cut in cuts if cut not in unwanted])
 
 
-def kept_places(text, rules, house):
-    """The positions of what is left of a text without what rules are about, in one pass: where
+def find_unwanted_cuts(steps, cuts, rules):
+    """The cuts that divide what these rules are about, if they are about cuts."""
+    divided = {name[len(CUT_PREFIX):] for name in rules if name.startswith(CUT_PREFIX)}
+    return {cut for cut, index in steps_at_cuts(steps, cuts if divided else []).items()
+            if (BETWEEN in rules if index is None else divided.intersection(steps[index].rules))}
+
+
+def find_kept_positions(text, rules, house):
+    """The positions of what is left of a text without what rules are about, in one pass: if
     something goes, only the last that was read before is read again, without what followed it."""
     # the reader has what stands at the positions `front`, and then all from `rest` on
     reader, front, rest, read = Reader(text, house), [], 0, []

@@ -4,10 +4,10 @@ import mmap
 import os
 import re
 from contextlib import nullcontext
-from runpy import run_path
 from types import SimpleNamespace
 
 import pytest
+from lib.documents import Page
 from lib.judging import candidate, definition, formats, house, reference, report, shrinking, views
 from lib.judging.cases import Case
 from lib.judging.classes import Difference
@@ -78,7 +78,6 @@ def test_each_house_rule_is_tested_and_on_the_page():
 
 
 def test_headings_of_rules_are_there():
-    Page = run_path(str(TOOLS / "check_docs"))["Page"]
     links = [it.page for it in [*RULES.values(), *ALONE.values(), CUT]]
     links += [it["page"] for it in FILES[1]["rules"].values()]
     for page, _, heading in (link.partition("#") for link in links):

@@ -4,7 +4,7 @@ use Rattle.vte_core.specs.Event.{Event}
 use Rattle.vte_core.specs.Saved.{HasReadSaved}
 use Rattle.vte_core.specs.Stream.{added, default_limit}
 use Rattle.vte_core.specs.declared.parser.saved.Saved.{Saved}
-use Rattle.vte_c.specs.Record.{data_kind, events_in, kinds_in, min_data, min_events, min_text, text_kind}
+use Rattle.vte_c.specs.Record.{data_kind, events_in, kinds_of, min_data, min_events, min_text, text_kind}
 use Rattle.vte_c.specs.Reported.{AreEncoded, AtMostOneFollowsStop, HasReported, HasStripped, is_stop, no_room, NoEventStops, NoKindStops, read_count}
 use Rattle.vte_c.specs.declared.event.VteEvent.{VteEvent}
 use Rattle.vte_c.specs.declared.feed.VteCounts.{VteCounts}
@@ -44,14 +44,14 @@ pub record Feeds (kinds stops : ℕ) (parser next : Saved) (bytes : List ℕ)
   pub too_little : length old_area < min_data
       → FeedsNothing parser next old_events events old_area area counts result
   -- With enough room, it reads at least one byte, unless it writes a record among the stops.
-  pub progress : (given : List Event) (stream rest : List ℕ) →
+  pub reads_some : (given : List Event) (stream rest : List ℕ) →
       HasReported kinds parser given stream (bytes ++ rest) →
       min_events ≤ length old_events → min_data ≤ length old_area →
-      NoKindStops stops (kinds_in counts.events events) → 0 < length bytes → 0 < result
+      NoKindStops stops (kinds_of (take counts.events events)) → 0 < length bytes → 0 < result
   -- If a record among the stops is written, at most one follows it.
   pub at_most_one_follows : (given : List Event) (stream rest : List ℕ) →
       HasReported kinds parser given stream (bytes ++ rest) →
-      AtMostOneFollowsStop stops (kinds_in counts.events events)
+      AtMostOneFollowsStop stops (kinds_of (take counts.events events))
   -- Unless text or data stop, a record among the stops came with the last byte that was read: no
   -- shorter prefix of the bytes adds one.
   pub stops_at_once : (stream : List ℕ) → HasReadSaved parser stream →
@@ -66,7 +66,7 @@ pub record Strips (parser next : Saved) (bytes old_text text : List ℕ)
   pub enough : min_text ≤ length old_text → result ≡ read_count result
   pub within : read_count result ≤ length bytes
   -- With enough room, it reads at least one byte, whatever the parser's bytes are.
-  pub progress : min_text ≤ length old_text → 0 < length bytes → 0 < result
+  pub reads_some : min_text ≤ length old_text → 0 < length bytes → 0 < result
   -- It stops early only where the text of one more byte may not fit.
   pub fills : (given stream rest : List ℕ) → HasStripped parser given stream (bytes ++ rest) →
       min_text ≤ length old_text → result < length bytes → length text < written + 8

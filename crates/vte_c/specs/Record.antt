@@ -174,9 +174,9 @@ contains_kind kinds kind = (kinds / 2 ^ (kind % 32)) % 2 == 1
 abbrev pub all_kinds : ℕ
 all_kinds = 255
 
--- The events of these kinds.
-abbrev pub reported : ℕ → List Event → List Event
-reported kinds events = filter (λ event. contains_kind kinds (event_kind event)) events
+-- The events of these kinds, which the caller wants.
+abbrev pub wanted_events : ℕ → List Event → List Event
+wanted_events kinds events = filter (λ event. contains_kind kinds (event_kind event)) events
 
 -- What a run of bytes is: text, or data of a device control string.
 pub data InputRunKind : Type 0 where
@@ -273,9 +273,8 @@ events_of input area vte_event =
     else if vte_event.kind == data_kind then events_of_run DataRun (run_in input area vte_event)
     else event_in area vte_event ∷ []
 
--- The kinds of the first `count` records.
-abbrev pub kinds_in : ℕ → List VteEvent → List ℕ
-kinds_in count records = map (λ vte_event. vte_event.kind) (take count records)
+abbrev pub kinds_of : List VteEvent → List ℕ
+kinds_of records = map (λ vte_event. vte_event.kind) records
 
 -- The events of the first `count` records.
 abbrev pub events_in : ℕ → List VteEvent → List ℕ → List ℕ → List Event

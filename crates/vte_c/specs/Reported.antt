@@ -9,7 +9,7 @@ use Rattle.vte_core.specs.Saved.{HasReadSaved}
 use Rattle.vte_core.specs.Stream.{added, default_limit, events}
 use Rattle.vte_core.specs.Text.{HasNoControls}
 use Rattle.vte_core.specs.declared.parser.saved.Saved.{Saved}
-use Rattle.vte_c.specs.Record.{contains_kind, DataRun, Entry, entry_data, entry_events, event_kind, InInput, InputRunKind, records_from, reported, Single, TextRun, without_loss}
+use Rattle.vte_c.specs.Record.{contains_kind, DataRun, Entry, entry_data, entry_events, event_kind, InInput, InputRunKind, records_from, Single, TextRun, wanted_events, without_loss}
 use Rattle.vte_c.specs.declared.event.VteEvent.{VteEvent}
 
 -- The parser has read the stream except for the unread bytes at its end. What was given of its
@@ -25,7 +25,8 @@ pub record HasGiven {A : Type 0} (report_of : List Event → List A) (parser : S
 
 -- The events of these kinds were reported.
 abbrev pub HasReported : ℕ → Saved → List Event → List ℕ → List ℕ → Type 0
-HasReported kinds parser given stream unread = HasGiven (reported kinds) parser given stream unread
+HasReported kinds parser given stream unread =
+    HasGiven (wanted_events kinds) parser given stream unread
 
 -- The text of the events was written.
 abbrev pub HasStripped : Saved → List ℕ → List ℕ → List ℕ → Type 0

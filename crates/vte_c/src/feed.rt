@@ -80,13 +80,13 @@ fn read_into(saved: &mut Saved, bytes: &[u8], writer: &mut EventWriter<'_>) -> u
 {
     let mut parser = Parser::new();
     parser.restore(saved);
-    let read = read_all(&mut parser, bytes, writer);
+    let read = read_until_full(&mut parser, bytes, writer);
     parser.save(saved);
     read
 }
 
 /// Reads bytes until they end or the buffers are full.
-fn read_all(parser: &mut Parser<1024>, bytes: &[u8], writer: &mut EventWriter<'_>) -> usize
+fn read_until_full(parser: &mut Parser<1024>, bytes: &[u8], writer: &mut EventWriter<'_>) -> usize
     requires are_empty { AreEmptyBuffers (buffers_of writer.old) }
     requires fits_32_bits { length bytes.now < 2 ^ 32 }
     ensures within { result ≤ length bytes.now }
@@ -94,7 +94,7 @@ fn read_all(parser: &mut Parser<1024>, bytes: &[u8], writer: &mut EventWriter<'_
         HasReadOn (buffers_of writer.old)
         (buffers_of writer.new) parser.new already_read bytes.now 0
         result }
-    ensures progress { (already_read : List ℕ) → HasRead parser.old already_read →
+    ensures reads_some { (already_read : List ℕ) → HasRead parser.old already_read →
         NoRecordStops (buffers_of writer.old).stops (buffers_of writer.new).events →
         0 < length bytes.now → 0 < result }
 {
@@ -124,13 +124,13 @@ fn read_more(
         HasReadOn (buffers_of writer.old)
         (buffers_of writer.new) parser.new already_read bytes.now from
         result }
-    ensures progress { (already_read : List ℕ) → HasRead parser.old already_read →
+    ensures reads_some { (already_read : List ℕ) → HasRead parser.old already_read →
         AreEmptyBuffers (buffers_of writer.old) →
         NoRecordStops (buffers_of writer.old).stops (buffers_of writer.new).events → 0 < result }
 {
     laws::early_stops();
     laws::opens_silently();
     let run = parser.advance_to_run(writer, &bytes[from..]);
-    writer.add_run(from, run, parser.command_lost_data());
+    writer.write_run(from, run, parser.command_lost_data());
     run.end
 }

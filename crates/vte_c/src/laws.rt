@@ -5,7 +5,7 @@ ghost use Rattle.vte_core.specs.Event.{Event};
 ghost use Rattle.vte_core.specs.Saved.{IsZero};
 ghost use Rattle.vte_core.specs.Stream.{default_limit, events};
 ghost use Rattle.vte_core.specs.declared.parser.saved.Saved.{Saved};
-ghost use Rattle.vte_c.specs.Record.{all_kinds, reported};
+ghost use Rattle.vte_c.specs.Record.{all_kinds, wanted_events};
 ghost use Rattle.vte_c.specs.Reported.{HasReported, HasStripped};
 
 use vte_core::Saved;
@@ -16,17 +16,17 @@ pub fn events_are_reported()
     ensures starts { (kinds : ℕ) (parser : Saved) → IsZero parser
         → HasReported kinds parser [] [] [] }
     // More bytes may come at any time, after those that are still unread.
-    ensures more { (kinds : ℕ) (parser : Saved) (given : List Event)
+    ensures goes_on { (kinds : ℕ) (parser : Saved) (given : List Event)
         (stream unread bytes : List ℕ) →
         HasReported kinds parser given stream unread →
         HasReported kinds parser given (stream ++ bytes) (unread ++ bytes) }
     // Once all are read, exactly these events of the stream have been reported, with 1,024 data
     // bytes of a command.
-    ensures all { (kinds : ℕ) (parser : Saved) (given : List Event) (stream : List ℕ) →
+    ensures ends { (kinds : ℕ) (parser : Saved) (given : List Event) (stream : List ℕ) →
         HasReported kinds parser given stream [] →
-        given ≡ reported kinds (events default_limit stream) }
+        given ≡ wanted_events kinds (events default_limit stream) }
     // All kinds are all events.
-    ensures every { (events : List Event) → reported all_kinds events ≡ events }
+    ensures all_wanted { (events : List Event) → wanted_events all_kinds events ≡ events }
 {
     vte_core::laws::empty_stream();
     let _ = Saved::new();
@@ -35,10 +35,10 @@ pub fn events_are_reported()
 /// Calls of `vte_strip` write exactly the text of the stream.
 pub fn text_is_stripped()
     ensures starts { (parser : Saved) → IsZero parser → HasStripped parser [] [] [] }
-    ensures more { (parser : Saved) (text stream unread bytes : List ℕ) →
+    ensures goes_on { (parser : Saved) (text stream unread bytes : List ℕ) →
         HasStripped parser text stream unread →
         HasStripped parser text (stream ++ bytes) (unread ++ bytes) }
-    ensures all { (parser : Saved) (text stream : List ℕ) → HasStripped parser text stream [] →
+    ensures ends { (parser : Saved) (text stream : List ℕ) → HasStripped parser text stream [] →
         text ≡ plain_text (events default_limit stream) }
 {
     vte_core::laws::empty_stream();

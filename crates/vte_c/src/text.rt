@@ -150,7 +150,7 @@ pub(crate) fn strip(parser: &mut Saved, bytes: &[u8], text: &mut [u8], written: 
 fn read_into(saved: &mut Saved, bytes: &[u8], writer: &mut TextWriter<'_>) -> usize
     requires is_empty { IsEmptyBuffer (written_text_of writer.old) }
     ensures within { result ≤ length bytes.now }
-    ensures progress { 0 < length bytes.now → 0 < result }
+    ensures reads_some { 0 < length bytes.now → 0 < result }
     ensures fills { result < length bytes.now
         → (written_text_of writer.new).size < (written_text_of writer.new).used + 8 }
     ensures strips { (text stream rest : List ℕ) →

@@ -57,13 +57,13 @@ fn read_more(
         }
     }
     let run = parser.advance_to_run(writer, unread)?;
-    writer.add_run(from, run, parser.command_lost_data());
+    writer.write_run(from, run, parser.command_lost_data());
     Ok(run.end)
 }
 
 /// Reads bytes until they end, the buffers are full, a stop comes or memory is refused. Returns how
 /// many were read, and whether memory was refused.
-fn read_all(
+fn read_until_full(
     parser: &mut LongParser,
     bytes: &[u8],
     kinds: u32,
@@ -143,7 +143,7 @@ pub unsafe extern "C" fn vte_long_feed(
     }
     *data = area.as_ptr();
     let mut writer = EventWriter::new(events, area, kinds, stops);
-    let (read, is_refused) = read_all(parser, bytes, kinds, &mut writer);
+    let (read, is_refused) = read_until_full(parser, bytes, kinds, &mut writer);
     *counts = VteCounts {
         events: writer.count(),
         bytes: writer.used(),

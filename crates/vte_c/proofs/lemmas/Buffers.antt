@@ -1,7 +1,7 @@
 -- What events leave in the buffers. Those that aren't full have room for what one byte adds, so each event is written
 -- as one entry (`event-written`), or isn't one of the kinds asked for (`event-passed`); so is all that one byte reports
 -- (`entries-unit_more`), and a run of the input (`entries-run`).
-use Rattle.vte_c.proofs.Common.{add-zero, after, All, All-head, All-tail, any_of_kinds, ap, append-nil, append_assoc, AreaHolds, AreBrief, AreGroups, AreReadable, arith, AtMostOneFollowsStop, Bool, Buffers, buffers_of, buffers_with_event, cases_Bool, concat, contains_kind, count_of, CsiDispatch, data_of, DataRun, default_limit, Entry, entry_data, EscDispatch, Event, event_kind, EventWriter, Execute, false, filter-append, flag_byte, flat_map, flat_map-append, group_bytes, has_room_for, HasEntries, Hook, if◌then◌else◌, InInput, inl, InputRunKind, inr, IsBounded, IsNonEmpty, IsRunAt, IsShort, kinds_of, len_utf8_bounds, length, length-append, length-encode, length-map, List, map, map-append, max_data_per_byte, may_have_lost, must_return, nat_lt, nat_tests, NoRecordStops, or_parts, OscDispatch, piece_bytes, Print, Put, record_at, records_from, refl, reported, resumed, run_kind, run_record, Single, subst, sum_by-cons, sym, take, TextRun, true, two_bytes, Unhook, VteEvent, with_entries, with_record, with_record_alone, without_loss, ℕ, [], ◌%◌, ◌*◌, ◌++◌, ◌+◌, ◌<◌, ◌∙◌, ◌∷◌, ◌≡◌, ◌≤◌}
+use Rattle.vte_c.proofs.Common.{add-zero, after, All, All-head, All-tail, any_of_kinds, ap, append-nil, append_assoc, AreaHolds, AreBrief, AreGroups, AreReadable, arith, AtMostOneFollowsStop, Bool, Buffers, buffers_of, buffers_with_event, cases_Bool, concat, contains_kind, count_of, CsiDispatch, data_of, DataRun, default_limit, Entry, entry_data, EscDispatch, Event, event_kind, EventWriter, Execute, false, filter-append, flag_byte, flat_map, flat_map-append, group_bytes, has_room_for, HasEntries, Hook, if◌then◌else◌, InInput, inl, InputRunKind, inr, IsBounded, IsNonEmpty, IsRunAt, IsShort, kinds_of, len_utf8_bounds, length, length-append, length-encode, length-map, List, map, map-append, max_data_per_byte, may_have_lost, must_return, nat_lt, nat_tests, NoRecordStops, or_parts, OscDispatch, piece_bytes, Print, Put, record_at, records_from, refl, resumed, run_kind, run_record, Single, subst, sum_by-cons, sym, take, TextRun, true, two_bytes, Unhook, VteEvent, wanted_events, with_entries, with_record, with_record_alone, without_loss, ℕ, [], ◌%◌, ◌*◌, ◌++◌, ◌+◌, ◌<◌, ◌∙◌, ◌∷◌, ◌≡◌, ◌≤◌}
 use Rattle.std.proofs.Math.Bool.{or-false, or_assoc}
 use Rattle.std.proofs.lemmas.List.Folds.{list_any-append}
 use Rattle.vte_core.proofs.lemmas.places.PlaceLeads.{short_bounded}
@@ -90,10 +90,10 @@ with_entries-append buffers front back =
     (rw (append_assoc buffers.events, append_assoc buffers.area, or_assoc) refl)
 
 -- As long as buffers aren't full, no record stops.
-pub no_record_stops-free : {old new : Buffers} {input : List ℕ} {entries : List Entry}
+pub no_record_stops-not_returning : {old new : Buffers} {input : List ℕ} {entries : List Entry}
     → HasEntries old new input entries → must_return new ≡ false
     → NoRecordStops old.stops (records_from old.used entries)
-no_record_stops-free {old} {new} {input} {entries} has_entries free =
+no_record_stops-not_returning {old} {new} {input} {entries} has_entries not_returning =
     let has_stopped : new.has_stopped ≡ false = grind (arith, nat_tests) in
     no_kind_stops-none old.stops (records_from old.used entries)
     (or_parts old.has_stopped (any_of_kinds old.stops (records_from old.used entries))
@@ -131,7 +131,7 @@ entries-nothing buffers input =
 pub entries-then : {old mid new : Buffers} {input : List ℕ} {front back : List Entry} → HasEntries old mid input front
     → must_return mid ≡ false
     → HasEntries mid new input back → HasEntries old new input (front ++ back)
-entries-then {old} {mid} {new} {input} {front} {back} has_front free has_back =
+entries-then {old} {mid} {new} {input} {front} {back} has_front not_returning has_back =
     let before = records_from old.used front in
     let soon =
     subst (λ (held : Buffers). AtMostOneFollowsStop held.stops (kinds_of (records_from held.used back)))
@@ -146,7 +146,8 @@ entries-then {old} {mid} {new} {input} {front} {back} has_front free has_back =
         last = soon.last;
         parts = rw (records-append old.used front back, map-append, append_assoc (kinds_of before), ← soon.parts) refl;
         others =
-            no_kind_stops-append old.stops (kinds_of before) soon.before (no_record_stops-free has_front free)
+            no_kind_stops-append old.stops (kinds_of before) soon.before
+            (no_record_stops-not_returning has_front not_returning)
             soon.others;
         at_most = soon.at_most;
       };
@@ -191,7 +192,7 @@ pub entries-run : {old new : Buffers} (input : List ℕ) (run : InputRunKind) (s
     → new ≡ with_record_alone old (run_record (run_kind run) start size)
     → HasEntries old new input (InInput run start size ∷ [])
 unfolding with_record_alone
-entries-run {old} {new} input run start size free is_run recorded =
+entries-run {old} {new} input run start size not_returning is_run recorded =
     let has_record_room : nat_lt old.count old.capacity ≡ true = grind (arith, nat_tests) in
     record {
       readable = (is_run, tt);
@@ -204,11 +205,12 @@ entries-run {old} {new} input run start size free is_run recorded =
 pub resumed-same : (buffers : Buffers) → buffers.paused ≡ false → resumed buffers ≡ buffers
 resumed-same buffers unpaused = ap (λ (paused : Bool). record buffers { paused = paused }) (sym unpaused)
 
-pub free-unpaused : (buffers : Buffers) → must_return buffers ≡ false → buffers.paused ≡ false
-free-unpaused buffers free = grind (arith, nat_tests)
+pub not_returning-unpaused : (buffers : Buffers) → must_return buffers ≡ false → buffers.paused ≡ false
+not_returning-unpaused buffers not_returning = grind (arith, nat_tests)
 
-pub resumed-free : (buffers : Buffers) → must_return buffers ≡ false → must_return (resumed buffers) ≡ false
-resumed-free buffers free = ap must_return (resumed-same buffers (free-unpaused buffers free)) ∙ free
+pub resumed-not_returning : (buffers : Buffers) → must_return buffers ≡ false → must_return (resumed buffers) ≡ false
+resumed-not_returning buffers not_returning =
+    ap must_return (resumed-same buffers (not_returning-unpaused buffers not_returning)) ∙ not_returning
 
 choice-resumed : (choice : Bool) (first second other_first other_second : Buffers)
     → resumed first ≡ resumed other_first → resumed second ≡ resumed other_second
@@ -247,8 +249,11 @@ pub record HasRoomFor (buffers : Buffers) (count size : ℕ) : Type 0 where
   pub data_fits : buffers.used + size ≤ buffers.size
 
 -- Buffers that aren't full have room for what one byte adds.
-free-has_room : (buffers : Buffers) → must_return buffers ≡ false → HasRoomFor buffers 2 max_data_per_byte
-free-has_room buffers free = record { events = grind (arith, nat_tests); data_fits = grind (arith, nat_tests) }
+not_returning-has_room : (buffers : Buffers) → must_return buffers ≡ false → HasRoomFor buffers 2 max_data_per_byte
+not_returning-has_room buffers not_returning = record {
+  events = grind (arith, nat_tests);
+  data_fits = grind (arith, nat_tests);
+}
 
 pub event-written : (buffers : Buffers) (event : Event) → buffers.paused ≡ false
     → HasRoomFor buffers 1 (length (data_of event))
@@ -269,7 +274,7 @@ event-passed buffers event unpaused other = rw other (resumed-same buffers unpau
 
 -- Each event that is reported has an entry.
 abbrev pub entries_of : Buffers → List Event → List Entry
-entries_of buffers events = map Single (reported buffers.kinds events)
+entries_of buffers events = map Single (wanted_events buffers.kinds events)
 
 entries-event : (input : List ℕ) (buffers : Buffers) (event : Event) → IsBounded default_limit event
     → buffers.paused ≡ false
@@ -302,15 +307,15 @@ event-has_few buffers event = elim (cases_Bool (contains_kind buffers.kinds (eve
 entries-unit : (input : List ℕ) (buffers : Buffers) (unit : List Event) → AreBrief default_limit unit
     → must_return buffers ≡ false
     → HasEntries buffers (resumed (after buffers_with_event buffers unit)) input (entries_of buffers unit)
-entries-unit input buffers [] brief free =
-    rw (resumed-same buffers (free-unpaused buffers free)) (entries-nothing buffers input)
-entries-unit input buffers (event ∷ []) brief free =
-    let room_for = free-has_room buffers free in
+entries-unit input buffers [] brief not_returning =
+    rw (resumed-same buffers (not_returning-unpaused buffers not_returning)) (entries-nothing buffers input)
+entries-unit input buffers (event ∷ []) brief not_returning =
+    let room_for = not_returning-has_room buffers not_returning in
     let size = data_of-at_most event brief in
-    entries-event input buffers event brief (free-unpaused buffers free)
+    entries-event input buffers event brief (not_returning-unpaused buffers not_returning)
     (record { events = omega (arith, room_for.events); data_fits = omega (arith, room_for.data_fits) })
-entries-unit input buffers (event ∷ last ∷ []) brief free =
-    let room_for = free-has_room buffers free in
+entries-unit input buffers (event ∷ last ∷ []) brief not_returning =
+    let room_for = not_returning-has_room buffers not_returning in
     -- The first event has at most 1,088 bytes of data, and the last one at most four.
     let size = data_of-at_most event brief.0 in
     let short = data_of-short last brief.1 in
@@ -320,7 +325,7 @@ entries-unit input buffers (event ∷ last ∷ []) brief free =
     let next : Buffers = resumed (buffers_with_event buffers event) in
     -- The buffers aren't full, so they have room for the first event.
     let first =
-    entries-event input buffers event brief.0 (free-unpaused buffers free)
+    entries-event input buffers event brief.0 (not_returning-unpaused buffers not_returning)
     (record { events = omega (arith, room_for.events); data_fits = omega (arith, room_for.data_fits) }) in
     -- After that event, the buffers differ from the old ones by the entry alone.
     let kinds : next.kinds ≡ buffers.kinds = ap (λ (held : Buffers). held.kinds) first.written in
@@ -337,7 +342,7 @@ entries-unit input buffers (event ∷ last ∷ []) brief free =
     let second =
     subst
     (λ (asked : ℕ).
-    HasEntries next (resumed (buffers_with_event next last)) input (map Single (reported asked (last ∷ []))))
+    HasEntries next (resumed (buffers_with_event next last)) input (map Single (wanted_events asked (last ∷ []))))
     kinds
     (entries-event input next last (short_bounded default_limit last brief.1) refl room_for_last) in
     -- The entries of both events are those of the first, followed by those of the last.
@@ -360,24 +365,24 @@ entries-unit input buffers (event ∷ last ∷ []) brief free =
             length-append (entries_of buffers (event ∷ [])) (entries_of buffers (last ∷ [])),
           ));
     })
-entries-unit input buffers (event ∷ last ∷ third ∷ events) brief free = absurd brief
+entries-unit input buffers (event ∷ last ∷ third ∷ events) brief not_returning = absurd brief
 
 pub entries-unit_more : {old : Buffers} (input : List ℕ) (buffers : Buffers) (before unit : List Event)
     → HasEntries old (resumed (after buffers_with_event buffers before)) input (entries_of old before)
     → must_return (after buffers_with_event buffers before) ≡ false → AreBrief default_limit unit
     → HasEntries old (resumed (after buffers_with_event buffers (before ++ unit))) input
     (entries_of old (before ++ unit))
-entries-unit_more {old} input buffers before unit has_entries free brief =
+entries-unit_more {old} input buffers before unit has_entries not_returning brief =
     let mid : Buffers = after buffers_with_event buffers before in
     -- The buffers before the unit aren't full, so they aren't paused either.
-    let same : resumed mid ≡ mid = resumed-same mid (free-unpaused mid free) in
+    let same : resumed mid ≡ mid = resumed-same mid (not_returning-unpaused mid not_returning) in
     let first : HasEntries old mid input (entries_of old before) = rw same at has_entries in
     let kinds : mid.kinds ≡ old.kinds = ap (λ (held : Buffers). held.kinds) first.written in
     -- The unit is written into these buffers, which report the kinds of the old ones.
     rw (after_events-append buffers_with_event buffers before unit, filter-append, map-append)
-    (entries-then first free
+    (entries-then first not_returning
     (subst
     (λ (asked : ℕ).
-    HasEntries mid (resumed (after buffers_with_event mid unit)) input (map Single (reported asked unit)))
+    HasEntries mid (resumed (after buffers_with_event mid unit)) input (map Single (wanted_events asked unit)))
     kinds
-    (entries-unit input mid unit brief free)))
+    (entries-unit input mid unit brief not_returning)))

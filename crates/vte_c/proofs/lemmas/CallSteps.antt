@@ -1,6 +1,6 @@
 -- A call goes on (`ReadsOn`) by calls of the parser, whose events are written as long as there is room, and by the runs
 -- that these return. One step after another is a longer one (`goes-then`).
-use Rattle.vte_c.proofs.Common.{added, after, ap, append-nil, AreCharacters, AreEmptyBuffers, arith, Bool, breaks_at, Buffers, buffers_with_event, cases_Bool, cases_lt, chars, ComesTo, contains_kind, data_of, DataRun, default_limit, drop, drop-drop, entry_events, Event, event_kind, events_of_run, false, false≢true, filter-append, flat_map, flat_map-append, GoesOnFromPositions, HasEntries, HasRead, HasReadOn, if◌then◌else◌, InInput, inl, InputRunKind, inr, is_stop, IsRunAt, IsRunOfKind, len_utf8_bounds, length, length-append, length-drop, length-encode, List, map, must_return, nat_tests, NoRecordStops, NoRunStops, OpensSilently, Parser, Print, Put, ReadsOn, refl, replacement, reported, reported_before, ReportsUnits, resumed, resumed_stream, run_kind, run_record, Single, subst, sym, take, TextRun, true, with_entries, with_run, with_run_record, with_taken, zero-add, ℕ, [], ◌++◌, ◌+◌, ◌-◌, ◌<◌, ◌∙◌, ◌∷◌, ◌≡◌, ◌≤◌}
+use Rattle.vte_c.proofs.Common.{added, after, ap, append-nil, AreCharacters, AreEmptyBuffers, arith, Bool, breaks_at, Buffers, buffers_with_event, cases_Bool, cases_lt, chars, ComesTo, contains_kind, data_of, DataRun, default_limit, drop, drop-drop, entry_events, Event, event_kind, events_of_run, false, false≢true, filter-append, flat_map, flat_map-append, GoesOnFromPositions, HasEntries, HasRead, HasReadOn, if◌then◌else◌, InInput, inl, InputRunKind, inr, is_stop, IsRunAt, IsRunOfKind, len_utf8_bounds, length, length-append, length-drop, length-encode, List, map, must_return, nat_tests, NoRecordStops, NoRunStops, OpensSilently, Parser, Print, Put, ReadsOn, refl, replacement, reported_before, ReportsUnits, resumed, resumed_stream, run_kind, run_record, Single, subst, sym, take, TextRun, true, wanted_events, with_entries, with_run, with_run_record, with_taken, zero-add, ℕ, [], ◌++◌, ◌+◌, ◌-◌, ◌<◌, ◌∙◌, ◌∷◌, ◌≡◌, ◌≤◌}
 use Rattle.vte_core.proofs.lemmas.streams.After.{added-nothing}
 use Rattle.vte_core.specs.AdvanceToRun.{IsLongestRun, ReturnsRun, run_bytes, run_events, taken_bytes}
 use Rattle.vte_core.specs.declared.reader.run.Run.{Run}
@@ -8,14 +8,14 @@ use Rattle.vte_core.specs.declared.reader.run.Taken.{Taken}
 use Rattle.vte_core.specs.declared.reader.run.Taken.TheVariants.{Data, Nothing, Text}
 use Rattle.vte_core.proofs.lemmas.EarlyStops.{passed-at}
 use Rattle.vte_c.proofs.lemmas.Continuations.{continues-added, continues-call, continues-nothing, continues-then, no_event_stops-append, no_event_stops-before, no_event_stops-earlier, no_event_stops-entries, no_event_stops-front, no_event_stops-reported, no_event_stops-run}
-use Rattle.vte_c.proofs.lemmas.Buffers.{entries-nothing, entries-run, entries-then, entries-unit_more, entries_of, event-passed, event-written, free-unpaused, no_record_stops-free, paused-after_event, resumed-free, resumed-same}
+use Rattle.vte_c.proofs.lemmas.Buffers.{entries-nothing, entries-run, entries-then, entries-unit_more, entries_of, event-passed, event-written, no_record_stops-not_returning, not_returning-unpaused, paused-after_event, resumed-not_returning, resumed-same}
 
 -- ---- a run of the input
 
 -- All events of a run are reported, or none.
 calls-reported : (kinds : ℕ) (wanted : Bool) (call : ℕ → Event)
     → ((n : ℕ) → contains_kind kinds (event_kind (call n)) ≡ wanted)
-    → (ns : List ℕ) → reported kinds (map call ns) ≡ (if wanted then map call ns else [])
+    → (ns : List ℕ) → wanted_events kinds (map call ns) ≡ (if wanted then map call ns else [])
 calls-reported kinds true call each_wanted [] = refl
 calls-reported kinds false call each_wanted [] = refl
 calls-reported kinds true call each_wanted (n ∷ ns) =
@@ -25,7 +25,7 @@ calls-reported kinds false call each_wanted (n ∷ ns) =
 
 run-reported : (kinds : ℕ) (wanted : Bool) (run : InputRunKind) (bytes : List ℕ)
     → contains_kind kinds (run_kind run) ≡ wanted
-    → reported kinds (events_of_run run bytes) ≡ (if wanted then events_of_run run bytes else [])
+    → wanted_events kinds (events_of_run run bytes) ≡ (if wanted then events_of_run run bytes else [])
 run-reported kinds wanted TextRun bytes kind_wanted = calls-reported kinds wanted Print (λ c. kind_wanted) (chars bytes)
 run-reported kinds wanted DataRun bytes kind_wanted = calls-reported kinds wanted Put (λ b. kind_wanted) bytes
 
@@ -34,12 +34,12 @@ run-never_stops : (buffers : Buffers) (run : InputRunKind) → NoRunStops buffer
 run-never_stops buffers TextRun no_run_stops = no_run_stops.0
 run-never_stops buffers DataRun no_run_stops = no_run_stops.1
 
-goes-run : {old new : Buffers} {already_read bytes : List ℕ} (run : InputRunKind) {from size : ℕ}
+reads_on-run : {old new : Buffers} {already_read bytes : List ℕ} (run : InputRunKind) {from size : ℕ}
     → must_return old ≡ false
     → new ≡ with_run_record old (run_record (run_kind run) from size) → IsRunAt bytes run from size
     → added default_limit already_read (take size (drop from bytes)) ≡ events_of_run run (take size (drop from bytes))
     → ReadsOn old new already_read (already_read ++ take size (drop from bytes)) bytes from size
-goes-run {old} {new} {already_read} {bytes} run {from} {size} free recorded is_run adds =
+reads_on-run {old} {new} {already_read} {bytes} run {from} {size} not_returning recorded is_run adds =
     let part : List ℕ = take size (drop from bytes) in
     let goes_on = rw adds at (continues-added already_read (drop from bytes) size) in
     let before = λ (no_run_stops : NoRunStops old) (i : ℕ) (earlier : i < size).
@@ -51,7 +51,7 @@ goes-run {old} {new} {already_read} {bytes} run {from} {size} free recorded is_r
         entries = InInput run from size ∷ [];
         continues = goes_on;
         shows = rw (append-nil (events_of_run run part)) (sym (run-reported old.kinds true run part wanted));
-        holds = entries-run bytes run from size free is_run (rw wanted at recorded);
+        holds = entries-run bytes run from size not_returning is_run (rw wanted at recorded);
         before = before;
       }
       | inr other ↦ record {
@@ -71,11 +71,11 @@ events-singles input [] = refl
 events-singles input (event ∷ events) = ap (λ (events : List Event). event ∷ events) (events-singles input events)
 
 -- Before the first byte at most U+FFFD is given, for a character that it breaks, and that doesn't fill the buffers.
-free-at_first : (old : Buffers) (broken : Bool) → AreEmptyBuffers old
+not_returning-at_first : (old : Buffers) (broken : Bool) → AreEmptyBuffers old
     → NoRecordStops old.stops (after buffers_with_event old (if broken then Print replacement ∷ [] else [])).events
     → must_return (after buffers_with_event old (if broken then Print replacement ∷ [] else [])) ≡ false
-free-at_first old false are_empty no_stops = grind (arith, nat_tests)
-free-at_first old true are_empty no_stops =
+not_returning-at_first old false are_empty no_stops = grind (arith, nat_tests)
+not_returning-at_first old true are_empty no_stops =
     -- U+FFFD has at most four bytes of data, and its event doesn't pause the writer.
     let small : length (data_of (Print replacement)) ≤ 4 =
     omega (arith, length-encode replacement, (len_utf8_bounds replacement).1) in
@@ -104,7 +104,8 @@ pub record Laws : Type 0 where
   pub goes_on : GoesOnFromPositions default_limit
   pub silent : OpensSilently default_limit
 
-module _ (old new : Buffers) (already_read bytes : List ℕ) (from n : ℕ) (laws : Laws) (free : must_return old ≡ false)
+module _ (old new : Buffers) (already_read bytes : List ℕ) (from n : ℕ) (laws : Laws)
+    (not_returning : must_return old ≡ false)
     (comes : ComesTo buffers_with_event must_return old default_limit already_read (drop from bytes) new n) where
   abbrev given_at : ℕ → List Event
   given_at i = reported_before default_limit already_read (drop from bytes) i
@@ -116,16 +117,16 @@ module _ (old new : Buffers) (already_read bytes : List ℕ) (from n : ℕ) (law
       passed-at (λ events. HasEntries old (resumed (after buffers_with_event old events)) bytes (entries_of old events))
       (λ events. must_return (after buffers_with_event old events) ≡ false)
       already_read (drop from bytes) laws.units
-      (rw (resumed-same old (free-unpaused old free)) (entries-nothing old bytes)) free
+      (rw (resumed-same old (not_returning-unpaused old not_returning)) (entries-nothing old bytes)) not_returning
       (entries-unit_more bytes old)
       i (omega (arith, comes.within)) (λ j earlier. comes.earlier j (omega arith))
 
-  goes-call : ReadsOn old (resumed new) already_read (resumed_stream already_read (drop from bytes) n) bytes from n
-  goes-call = record {
+  reads_on-call : ReadsOn old (resumed new) already_read (resumed_stream already_read (drop from bytes) n) bytes from n
+  reads_on-call = record {
     given = given_at n;
     entries = entries_of old (given_at n);
     continues = continues-call laws.goes_on already_read (drop from bytes) n;
-    shows = events-singles bytes (reported old.kinds (given_at n));
+    shows = events-singles bytes (wanted_events old.kinds (given_at n));
     holds =
         subst (λ (held : Buffers). HasEntries old (resumed held) bytes (entries_of old (given_at n)))
         (sym comes.performed) (given-written n (omega arith));
@@ -135,17 +136,17 @@ module _ (old new : Buffers) (already_read bytes : List ℕ) (from n : ℕ) (law
         laws.silent
         (λ i earlier start.
         no_event_stops-reported old.kinds old.stops (given_at i)
-        (rw (events-singles bytes (reported old.kinds (given_at i))) at
+        (rw (events-singles bytes (wanted_events old.kinds (given_at i))) at
         (no_event_stops-entries old.stops bytes old.used (entries_of old (given_at i))
-        (no_record_stops-free (given-written i (omega arith))
-        (resumed-free (after buffers_with_event old (given_at i)) (comes.earlier i earlier start))))));
+        (no_record_stops-not_returning (given-written i (omega arith))
+        (resumed-not_returning (after buffers_with_event old (given_at i)) (comes.earlier i earlier start))))));
   }
 
 -- ---- one step after the other, if the buffers aren't full in between
 
-goes-nothing : {buffers : Buffers} {already_read bytes : List ℕ} {from : ℕ}
+reads_on-nothing : {buffers : Buffers} {already_read bytes : List ℕ} {from : ℕ}
     → ReadsOn buffers buffers already_read already_read bytes from 0
-goes-nothing {buffers} {already_read} {bytes} {from} = record {
+reads_on-nothing {buffers} {already_read} {bytes} {from} = record {
   given = [];
   entries = [];
   continues = continues-nothing already_read (drop from bytes);
@@ -158,7 +159,7 @@ goes-then : {old mid new : Buffers} {already_read next last bytes : List ℕ} {f
     (reads : ReadsOn old mid already_read next bytes from n)
     → must_return mid ≡ false → from + n + m ≤ length bytes → ReadsOn mid new next last bytes (from + n) m
     → ReadsOn old new already_read last bytes from (n + m)
-goes-then {old} {mid} {already_read} {bytes} {from} {n} {m} reads free within reads_on =
+goes-then {old} {mid} {already_read} {bytes} {from} {n} {m} reads not_returning within reads_on =
     let unread : List ℕ = drop from bytes in
     let size = length-drop from bytes in
     -- The second step begins n bytes after the first, with the same kinds and stops.
@@ -171,8 +172,8 @@ goes-then {old} {mid} {already_read} {bytes} {from} {n} {m} reads free within re
       continues = continues-then reads.continues (rw rest at reads_on.continues) (omega (arith, within));
       shows =
           rw (flat_map-append (entry_events bytes) reads.entries reads_on.entries, filter-append, reads.shows)
-          (rw kinds at (ap (λ (events : List Event). reported old.kinds reads.given ++ events) reads_on.shows));
-      holds = entries-then reads.holds free reads_on.holds;
+          (rw kinds at (ap (λ (events : List Event). wanted_events old.kinds reads.given ++ events) reads_on.shows));
+      holds = entries-then reads.holds not_returning reads_on.holds;
       before = λ no_run_stops i earlier. elim (cases_lt i n) [
         | inl front ↦ reads.before no_run_stops i front
         | inr after_it ↦
@@ -184,7 +185,8 @@ goes-then {old} {mid} {already_read} {bytes} {from} {n} {m} reads free within re
             let given_without_stop =
             no_event_stops-reported old.kinds old.stops reads.given
             (rw reads.shows at
-            (no_event_stops-entries old.stops bytes old.used reads.entries (no_record_stops-free reads.holds free))) in
+            (no_event_stops-entries old.stops bytes old.used reads.entries
+            (no_record_stops-not_returning reads.holds not_returning))) in
             -- Before the end of the second step, none of its events stops either.
             let later_without_stop =
             rw (kinds, stops, rest) at (reads_on.before (rw (kinds, stops) no_run_stops) k (omega arith)) in
@@ -197,17 +199,17 @@ goes-then {old} {mid} {already_read} {bytes} {from} {n} {m} reads free within re
 
 pub gone-nothing : {old : Buffers} {parser : Parser 1024} {already_read bytes : List ℕ} → HasRead parser already_read
     → HasReadOn old old parser already_read bytes 0 0
-gone-nothing {already_read} reads = record { next = already_read; reads = reads; goes = goes-nothing }
+gone-nothing {already_read} reads = record { next = already_read; reads = reads; goes = reads_on-nothing }
 
 pub gone-then : {old mid new : Buffers} {parser last : Parser 1024} {already_read bytes : List ℕ} {n m : ℕ}
     (has_read : HasReadOn old mid parser already_read bytes 0 n)
     → must_return mid ≡ false → n + m ≤ length bytes → HasReadOn mid new last has_read.next bytes n m
     → HasReadOn old new last already_read bytes 0 (n + m)
-gone-then has_read free within has_read_on =
+gone-then has_read not_returning within has_read_on =
     record {
       next = has_read_on.next;
       reads = has_read_on.reads;
-      goes = goes-then has_read.goes free (rw zero-add within) (rw zero-add has_read_on.goes);
+      goes = goes-then has_read.goes not_returning (rw zero-add within) (rw zero-add has_read_on.goes);
     }
 
 -- ---- a call of the parser, and the run that it returned
@@ -221,51 +223,53 @@ run-empty bytes end (Data slice) longest no_bytes buffers start = absurd (omega 
 run-empty bytes end Nothing longest no_bytes buffers start = refl
 
 module _ (old mid new : Buffers) (already_read bytes : List ℕ) (from : ℕ) (run : Run) {HasReadBefore : List ℕ → Type 0}
-    (laws : Laws) (free : must_return old ≡ false) (begins : from ≤ length bytes)
+    (laws : Laws) (not_returning : must_return old ≡ false) (begins : from ≤ length bytes)
     (returned : ReturnsRun buffers_with_event must_return old mid default_limit HasReadBefore (drop from bytes) run)
     (before : HasReadBefore already_read) where
   abbrev after_call : List ℕ
   after_call = resumed_stream already_read (drop from bytes) run.start
 
-  goes-to_run_start : ReadsOn old (resumed mid) already_read after_call bytes from run.start
-  goes-to_run_start = goes-call old mid already_read bytes from run.start laws free (returned.comes already_read before)
+  reads_on-to_run_start : ReadsOn old (resumed mid) already_read after_call bytes from run.start
+  reads_on-to_run_start =
+      reads_on-call old mid already_read bytes from run.start laws not_returning (returned.comes already_read before)
 
   -- A run of this kind was recorded.
-  goes-recorded : (kind : InputRunKind) → 0 < length (run_bytes run)
+  reads_on-recorded : (kind : InputRunKind) → 0 < length (run_bytes run)
       → new ≡ with_run_record mid (run_record (run_kind kind) (from + run.start) (length (run_bytes run)))
       → IsRunOfKind kind (run_bytes run) → run_events run ≡ events_of_run kind (run_bytes run)
       → ReadsOn old new already_read (after_call ++ run_bytes run) bytes from run.end
-  goes-recorded kind not_empty recorded is_run same_events =
+  reads_on-recorded kind not_empty recorded is_run same_events =
       let here : take (length (run_bytes run)) (drop (from + run.start) bytes) ≡ run_bytes run =
       ap (take (length (run_bytes run))) (sym (drop-drop run.start from bytes)) ∙ sym returned.is_run.bytes_are in
       let within : from + run.start + length (run_bytes run) ≤ length bytes =
       omega (arith, begins, returned.is_run.end, returned.is_run.within, length-drop from bytes) in
       let open_room = returned.may_go_on (omega (arith, returned.is_run.end)) in
-      let same_room : resumed mid ≡ mid = resumed-same mid (free-unpaused mid open_room) in
+      let same_room : resumed mid ≡ mid = resumed-same mid (not_returning-unpaused mid open_room) in
       let by_run =
-      goes-run {already_read = after_call} kind open_room recorded
+      reads_on-run {already_read = after_call} kind open_room recorded
       (record { within = within; some = not_empty; is_of_kind = rw here is_run })
       (rw here (returned.adds already_read before ∙ same_events)) in
-      rw returned.is_run.end (goes-then (rw same_room at goes-to_run_start) open_room within (rw here at by_run))
+      rw returned.is_run.end (goes-then (rw same_room at reads_on-to_run_start) open_room within (rw here at by_run))
 
-  goes-taken : (taken : Taken) → run.taken ≡ taken → AreCharacters taken → IsLongestRun (drop from bytes) run.end taken
+  reads_on-taken : (taken : Taken) → run.taken ≡ taken → AreCharacters taken
+      → IsLongestRun (drop from bytes) run.end taken
       → new ≡ with_taken mid (from + run.start) taken
       → ReadsOn old new already_read (after_call ++ run_bytes run) bytes from run.end
-  goes-taken (Text text) same_taken utf8 longest written =
+  reads_on-taken (Text text) same_taken utf8 longest written =
       let bytes_are : run_bytes run ≡ text.now = ap taken_bytes same_taken in
-      goes-recorded TextRun (rw bytes_are longest.0) (rw bytes_are written) (rw bytes_are (utf8, longest.1))
+      reads_on-recorded TextRun (rw bytes_are longest.0) (rw bytes_are written) (rw bytes_are (utf8, longest.1))
       (rw same_taken refl)
-  goes-taken (Data slice) same_taken utf8 longest written =
+  reads_on-taken (Data slice) same_taken utf8 longest written =
       let bytes_are : run_bytes run ≡ slice.now = ap taken_bytes same_taken in
-      goes-recorded DataRun (rw bytes_are longest.0) (rw bytes_are written) tt (rw same_taken refl)
-  goes-taken Nothing same_taken utf8 longest written =
+      reads_on-recorded DataRun (rw bytes_are longest.0) (rw bytes_are written) tt (rw same_taken refl)
+  reads_on-taken Nothing same_taken utf8 longest written =
       let no_bytes : run_bytes run ≡ [] = ap taken_bytes same_taken in
       let end : run.end ≡ run.start = omega (arith, returned.is_run.end, ap length no_bytes) in
-      rw (no_bytes, append-nil after_call, end, written) goes-to_run_start
+      rw (no_bytes, append-nil after_call, end, written) reads_on-to_run_start
 
   pub goes-to-run : AreCharacters run.taken → new ≡ with_run mid from run
       → ReadsOn old new already_read (after_call ++ run_bytes run) bytes from run.end
-  goes-to-run utf8 recorded = goes-taken run.taken refl utf8 returned.is_run.whole recorded
+  goes-to-run utf8 recorded = reads_on-taken run.taken refl utf8 returned.is_run.whole recorded
 
   -- With room for what two bytes add, a call reads one, unless a record that stops was written.
   pub goes-further : AreEmptyBuffers old → from < length bytes → new ≡ with_run mid from run
@@ -282,7 +286,7 @@ module _ (old mid new : Buffers) (already_read bytes : List ℕ) (from : ℕ) (r
         let performed = rw (start, added-nothing default_limit already_read) at
         (returned.comes already_read before).performed in
         let goes_on =
-        free-at_first old (breaks_at already_read unread 0) are_empty (rw (same, performed) at no_stops) in
+        not_returning-at_first old (breaks_at already_read unread 0) are_empty (rw (same, performed) at no_stops) in
         absurd
         (false≢true
         (sym goes_on ∙ ap must_return (sym performed)

@@ -7,7 +7,7 @@ use Rattle.vte_core.specs.Stream.{added, default_limit}
 use Rattle.vte_core.specs.declared.parser.Parser.{Parser}
 use Rattle.vte_core.specs.declared.parser.saved.Saved.{Saved}
 use Rattle.vte_c.specs.private.Buffers.{Buffers, buffers_of}
-use Rattle.vte_c.specs.Record.{contains_kind, data_kind, Entry, entry_data, entry_events, events_in, kinds_in, records_from, reported, text_kind}
+use Rattle.vte_c.specs.Record.{contains_kind, data_kind, Entry, entry_data, entry_events, events_in, kinds_of, records_from, text_kind, wanted_events}
 use Rattle.vte_c.specs.Reported.{AreEncoded, AreReadable, AtMostOneFollowsStop, HasReported, is_stop, NoEventStops, NoKindStops}
 use Rattle.vte_c.specs.declared.event.VteEvent.{VteEvent}
 use Rattle.vte_c.specs.declared.events.EventWriter.{EventWriter}
@@ -30,10 +30,7 @@ pub record Continues (already_read next bytes : List ℕ) (n : ℕ) (given : Lis
 
 -- Whether a record is of the kinds.
 abbrev pub any_of_kinds : ℕ → List VteEvent → Bool
-any_of_kinds kinds records = list_any (λ event. contains_kind kinds event.kind) records
-
-abbrev pub kinds_of : List VteEvent → List ℕ
-kinds_of records = map (λ event. event.kind) records
+any_of_kinds kinds records = list_any (λ vte_event. contains_kind kinds vte_event.kind) records
 
 -- No record is of the kinds.
 abbrev pub NoRecordStops : ℕ → List VteEvent → Type 0
@@ -75,7 +72,7 @@ pub record ReadsOn (old new : Buffers) (already_read next bytes : List ℕ)
   pub given : List Event
   pub entries : List Entry
   pub continues : Continues already_read next (drop from bytes) n given
-  pub shows : flat_map (entry_events bytes) entries ≡ reported old.kinds given
+  pub shows : flat_map (entry_events bytes) entries ≡ wanted_events old.kinds given
   pub holds : HasEntries old new bytes entries
   pub before : NoRunStops old → (i : ℕ) → i < n →
       NoEventStopsIn old (added default_limit already_read (take i (drop from bytes)))
@@ -93,10 +90,10 @@ pub record HasFed (old new : EventWriter) (parser : Saved) (given : List Event)
     (stream bytes rest : List ℕ) (n : ℕ) : Type 0 where
   pub events_name : new.events.ghost_name ≡ old.events.ghost_name
   pub area_name : new.area.ghost_name ≡ old.area.ghost_name
-  pub progress : NoKindStops (buffers_of old).stops (kinds_in new.count new.events.now) →
+  pub reads_some : NoKindStops (buffers_of old).stops (kinds_of (take new.count new.events.now)) →
       0 < length bytes → 0 < n
   pub at_most_one_follows : AtMostOneFollowsStop (buffers_of old).stops
-      (kinds_in new.count new.events.now)
+      (kinds_of (take new.count new.events.now))
   pub encodes : (more : List ℕ) →
       AreEncoded (events_in new.count new.events.now (bytes ++ more) new.area.now)
       new.count new.used new.events.now (bytes ++ more) new.area.now

@@ -65,11 +65,11 @@ returns c =
         unwritten = search rules;
       };
       -- If there is a byte and no record stops, at least one byte is read.
-      progress = λ given stream rest has_reported most size no_stops not_empty.
+      reads_some = λ given stream rest has_reported most size no_stops not_empty.
           let same = of_writer given stream rest has_reported in
           let there : 0 < length (take minimum bytes) =
           omega (arith, c.min-end.ensures, length-take minimum bytes, not_empty) in
-          (feeds given stream rest has_reported).progress
+          (feeds given stream rest has_reported).reads_some
           (rw (stops, ← same.same_count, ← same.same_records) no_stops) there;
       at_most_one_follows = λ given stream rest has_reported.
           let same = of_writer given stream rest has_reported in

@@ -1,15 +1,16 @@
--- The parser is restored before and saved after, so what `read_all` ensures holds for what is saved (`call-fed`).
+-- The parser is restored before and saved after, so what `read_until_full` ensures holds for what is saved
+-- (`call-fed`).
 use Rattle.vte_c.proofs.lemmas.ReadBack.{call-fed}
 use Rattle.vte_c.proofs.feed.read_into.Goals as goal
 
 pub returns-clause-stops : goal.returns-clause-stops
 returns-clause-stops c =
     λ stream reads no_run_stops i earlier.
-    (c.read_all-read.ensures.reads_on stream (c.restore.ensures stream reads)).goes.before no_run_stops i earlier
+    (c.read_until_full-read.ensures.reads_on stream (c.restore.ensures stream reads)).goes.before no_run_stops i earlier
 
 pub returns-clause-feeds : goal.returns-clause-feeds
 returns-clause-feeds c = λ before stream rest has_reported.
     let reads = c.restore.ensures has_reported.already_read has_reported.reads in
     call-fed c.requires.are_empty has_reported
-    (c.read_all-read.ensures.reads_on has_reported.already_read reads) c.save.ensures
-    (c.read_all-read.ensures.progress has_reported.already_read reads)
+    (c.read_until_full-read.ensures.reads_on has_reported.already_read reads) c.save.ensures
+    (c.read_until_full-read.ensures.reads_some has_reported.already_read reads)

@@ -9,11 +9,11 @@ returns-clause-starts c =
     λ kinds parser zeros.
     given-nothing (c.empty_stream.ensures default_limit) (rw (c.new.ensures.zeros ∙ sym zeros) at c.new.ensures.reads)
 
-pub returns-clause-more : goal.returns-clause-more
-returns-clause-more c = λ kinds. given-before
+pub returns-clause-goes_on : goal.returns-clause-goes_on
+returns-clause-goes_on c = λ kinds. given-before
 
-pub returns-clause-all : goal.returns-clause-all
-returns-clause-all c = λ kinds parser given stream has_reported. given-all refl parser given stream has_reported
+pub returns-clause-ends : goal.returns-clause-ends
+returns-clause-ends c = λ kinds parser given stream has_reported. given-all refl parser given stream has_reported
 
-pub returns-clause-every : goal.returns-clause-every
-returns-clause-every c = events-reported
+pub returns-clause-all_wanted : goal.returns-clause-all_wanted
+returns-clause-all_wanted c = events-reported

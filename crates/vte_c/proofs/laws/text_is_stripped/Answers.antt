@@ -9,8 +9,8 @@ returns-clause-starts c =
     λ parser zeros.
     given-nothing (c.empty_stream.ensures default_limit) (rw (c.new.ensures.zeros ∙ sym zeros) at c.new.ensures.reads)
 
-pub returns-clause-more : goal.returns-clause-more
-returns-clause-more c = given-before
+pub returns-clause-goes_on : goal.returns-clause-goes_on
+returns-clause-goes_on c = given-before
 
-pub returns-clause-all : goal.returns-clause-all
-returns-clause-all c = λ parser text stream has_stripped. given-all refl parser text stream has_stripped
+pub returns-clause-ends : goal.returns-clause-ends
+returns-clause-ends c = λ parser text stream has_stripped. given-all refl parser text stream has_stripped

@@ -22,7 +22,7 @@ returns c =
     record {
       enough = λ size. sym count;
       within = omega (arith, count, read.ensures.within);
-      progress = search rules;
+      reads_some = search rules;
       fills = λ text stream rest has_stripped size less.
           let same = of_writer text stream rest has_stripped in
           omega (arith, read.ensures.fills less, ap length same.0, c.min.ensures, same.1);

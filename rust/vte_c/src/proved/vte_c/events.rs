@@ -40,15 +40,19 @@ pub(crate) struct EventWriter<'a> {
     area: &'a mut [u8],
     // how many data bytes there is room for, at offsets of 32 bits
     size: usize,
-    // how many events and data bytes were written
+    // how many events were written
     count: usize,
+    // how many data bytes were written
     used: usize,
-    // the kinds to write, those after which to stop, and whether one of these was written
+    // the kinds of events to write
     kinds: u32,
+    // the kinds of events after which to stop
     stops: u32,
+    // whether an event after which to stop was written
     has_stopped: bool,
-    // whether a command came about which the parser wasn't asked yet, and the index of its record
+    // whether a command came about which the parser wasn't asked yet
     paused: bool,
+    // the index of that command's record
     command_index: usize,
     // the number of events at which the buffers are full: 0 once an event that stops was written,
     // in a pause, and if the area has little room left
@@ -82,7 +86,7 @@ impl<'a> EventWriter<'a> {
 
     /// Returns whether events of a kind are written.
     #[inline(always)]
-    fn writes(&self, kind: u8) -> bool {
+    fn is_wanted(&self, kind: u8) -> bool {
         contains_kind(self.kinds, kind)
     }
 
@@ -103,7 +107,7 @@ impl<'a> EventWriter<'a> {
 
     /// Writes a record, if there is room for it.
     #[inline(always)]
-    fn add_record(&mut self, event: VteEvent) {
+    fn write_record(&mut self, event: VteEvent) {
         let count = self.count;
         if count < self.events.len() {
             self.events[count] = event;
@@ -117,9 +121,9 @@ impl<'a> EventWriter<'a> {
 
     /// Writes an event without data.
     #[inline(always)]
-    fn add_without_data(&mut self, event: VteEvent) {
-        if self.writes(event.kind) {
-            self.add_record(VteEvent {
+    fn write_without_data(&mut self, event: VteEvent) {
+        if self.is_wanted(event.kind) {
+            self.write_record(VteEvent {
                 start: self.used as u32,
                 ..event
             });
@@ -130,23 +134,23 @@ impl<'a> EventWriter<'a> {
     #[inline(always)]
     fn add(&mut self, event: VteEvent, bytes: &[u8]) {
         let end = self.write(self.used, bytes);
-        self.add_written(event, end);
+        self.finish_event(event, end);
     }
 
     /// Writes a run that is in the input. The parser returned it for the bytes from an offset on.
     /// Without a run it goes on after a pause, in which the parser returns none.
     #[inline(always)]
-    pub(crate) fn add_run(&mut self, from: usize, run: Run<'_>, lost_data: bool) {
+    pub(crate) fn write_run(&mut self, from: usize, run: Run<'_>, lost_data: bool) {
         let start = (from + run.start) as u32;
         match run.taken {
             Taken::Text(text) => {
-                if self.writes(event::TEXT) {
-                    self.add_record(VteEvent::run(event::TEXT, start, text.len() as u32));
+                if self.is_wanted(event::TEXT) {
+                    self.write_record(VteEvent::run(event::TEXT, start, text.len() as u32));
                 }
             }
             Taken::Data(data) => {
-                if self.writes(event::DATA) {
-                    self.add_record(VteEvent::run(event::DATA, start, data.len() as u32));
+                if self.is_wanted(event::DATA) {
+                    self.write_record(VteEvent::run(event::DATA, start, data.len() as u32));
                 }
             }
             Taken::Nothing => self.resume(lost_data),
@@ -155,8 +159,8 @@ impl<'a> EventWriter<'a> {
 
     /// Writes a character.
     #[inline(always)]
-    fn add_character(&mut self, c: char) {
-        if self.writes(event::TEXT) {
+    fn write_character(&mut self, c: char) {
+        if self.is_wanted(event::TEXT) {
             let mut bytes = [0; 4];
             let text = c.encode_utf8(&mut bytes).as_bytes();
             let event = VteEvent::new(event::TEXT, text.len() as u32).with_flag(true);
@@ -166,7 +170,7 @@ impl<'a> EventWriter<'a> {
 
     /// Writes a sequence with parameters. Most have one number.
     #[inline(always)]
-    fn add_sequence(
+    fn write_sequence(
         &mut self,
         kind: u8,
         params: &Params,
@@ -177,16 +181,16 @@ impl<'a> EventWriter<'a> {
         let mut groups = params.iter();
         match (groups.next(), groups.next(), intermediates) {
             (Some([number]), None, []) => {
-                self.add_sequence_with_one(kind, *number, ignore, action);
+                self.write_sequence_with_one(kind, *number, ignore, action);
             }
-            _ => self.add_any_sequence(kind, params, intermediates, ignore, action),
+            _ => self.write_any_sequence(kind, params, intermediates, ignore, action),
         }
     }
 
     /// Writes a sequence with one number.
     #[inline(always)]
-    fn add_sequence_with_one(&mut self, kind: u8, number: u16, ignore: bool, action: char) {
-        if self.writes(kind) {
+    fn write_sequence_with_one(&mut self, kind: u8, number: u16, ignore: bool, action: char) {
+        if self.is_wanted(kind) {
             let event = VteEvent::new(kind, action as u32)
                 .with_flag(ignore)
                 .with_count(1);
@@ -196,7 +200,7 @@ impl<'a> EventWriter<'a> {
 
     /// Writes any sequence with parameters.
     #[inline(never)]
-    fn add_any_sequence(
+    fn write_any_sequence(
         &mut self,
         kind: u8,
         params: &Params,
@@ -204,39 +208,39 @@ impl<'a> EventWriter<'a> {
         ignore: bool,
         action: char,
     ) {
-        if self.writes(kind) {
+        if self.is_wanted(kind) {
             let end = self.write_groups(params);
             let event = VteEvent::new(kind, action as u32)
                 .with_intermediates(intermediates)
                 .with_flag(ignore)
                 .with_count(params.iter().size_hint().0);
-            self.add_written(event, end);
+            self.finish_event(event, end);
         }
     }
 
     /// Writes an operating system command.
-    fn add_command(&mut self, pieces: &[&[u8]], bell_terminated: bool) {
-        if self.writes(event::OSC) {
+    fn write_command(&mut self, pieces: &[&[u8]], bell_terminated: bool) {
+        if self.is_wanted(event::OSC) {
             let (command_index, start) = (self.count, self.used);
             let end = self.write_pieces(pieces);
             let event = VteEvent::new(event::OSC, 0)
                 .with_flag(bell_terminated)
                 .with_count(pieces.len());
-            self.add_written(event, end);
+            self.finish_event(event, end);
             self.pause_if(is_at_limit(pieces.len(), end - start), command_index);
         }
     }
 
     /// Writes the record of an event whose data was written up to `end`, if that is in the area.
     #[inline(always)]
-    fn add_written(&mut self, event: VteEvent, end: usize) {
+    fn finish_event(&mut self, event: VteEvent, end: usize) {
         if end <= self.size && self.count < self.events.len() {
             let start = self.used as u32;
             self.used = end;
             if self.size - self.used < MAX_DATA_PER_BYTE {
                 self.full_at = 0;
             }
-            self.add_record(VteEvent { start, ..event });
+            self.write_record(VteEvent { start, ..event });
         }
     }
 }
@@ -246,47 +250,47 @@ impl Perform for EventWriter<'_> {
     fn print(&mut self, c: char) {
         // rustc knows the bytes of the one for malformed sequences.
         if c == char::REPLACEMENT_CHARACTER {
-            self.add_character(char::REPLACEMENT_CHARACTER);
+            self.write_character(char::REPLACEMENT_CHARACTER);
         } else {
-            self.add_character(c);
+            self.write_character(c);
         }
     }
 
     // inlined, it would slow down what comes before each sequence
     #[inline(never)]
     fn execute(&mut self, byte: u8) {
-        self.add_without_data(VteEvent::new(event::EXECUTE, u32::from(byte)));
+        self.write_without_data(VteEvent::new(event::EXECUTE, u32::from(byte)));
     }
 
     fn hook(&mut self, params: &Params, intermediates: &[u8], ignore: bool, action: char) {
-        self.add_sequence(event::HOOK, params, intermediates, ignore, action);
+        self.write_sequence(event::HOOK, params, intermediates, ignore, action);
     }
 
     /// Writes a byte of data that isn't in the input: `advance_to_run` performs none.
     fn put(&mut self, byte: u8) {
-        if self.writes(event::DATA) {
+        if self.is_wanted(event::DATA) {
             self.add(VteEvent::new(event::DATA, 1).with_flag(true), &[byte]);
         }
     }
 
     fn unhook(&mut self) {
-        self.add_without_data(VteEvent::new(event::UNHOOK, 0));
+        self.write_without_data(VteEvent::new(event::UNHOOK, 0));
     }
 
     fn osc_dispatch(&mut self, params: &[&[u8]], bell_terminated: bool) {
-        self.add_command(params, bell_terminated);
+        self.write_command(params, bell_terminated);
     }
 
     #[inline(always)]
     fn csi_dispatch(&mut self, params: &Params, intermediates: &[u8], ignore: bool, action: char) {
-        self.add_sequence(event::CSI, params, intermediates, ignore, action);
+        self.write_sequence(event::CSI, params, intermediates, ignore, action);
     }
 
     fn esc_dispatch(&mut self, intermediates: &[u8], ignore: bool, byte: u8) {
         let event = VteEvent::new(event::ESC, u32::from(byte))
             .with_intermediates(intermediates)
             .with_flag(ignore);
-        self.add_without_data(event);
+        self.write_without_data(event);
     }
 
     fn terminated(&self) -> bool {

@@ -59,13 +59,13 @@ pub(crate) fn feed(
 fn read_into(saved: &mut Saved, bytes: &[u8], writer: &mut EventWriter<'_>) -> usize {
     let mut parser = Parser::new();
     parser.restore(saved);
-    let read = read_all(&mut parser, bytes, writer);
+    let read = read_until_full(&mut parser, bytes, writer);
     parser.save(saved);
     read
 }
 
 /// Reads bytes until they end or the buffers are full.
-fn read_all(parser: &mut Parser<1024>, bytes: &[u8], writer: &mut EventWriter<'_>) -> usize {
+fn read_until_full(parser: &mut Parser<1024>, bytes: &[u8], writer: &mut EventWriter<'_>) -> usize {
     let mut position = 0;
     while position < bytes.len() && !writer.must_return() {
         let read = read_more(parser, bytes, position, writer);
@@ -85,6 +85,6 @@ fn read_more(
     writer: &mut EventWriter<'_>,
 ) -> usize {
     let run = parser.advance_to_run(writer, &bytes[from..]);
-    writer.add_run(from, run, parser.command_lost_data());
+    writer.write_run(from, run, parser.command_lost_data());
     run.end
 }

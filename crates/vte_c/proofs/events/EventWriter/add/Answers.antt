@@ -4,10 +4,10 @@ use Rattle.vte_c.proofs.Common.{ap, arith, Buffers}
 use Rattle.vte_c.proofs.lemmas.Buffers.{holds-nothing}
 use Rattle.vte_c.proofs.events.EventWriter.add.Goals as goal
 
-pub add_written-requires : goal.add_written-requires
-add_written-requires c =
+pub finish_event-requires : goal.finish_event-requires
+finish_event-requires c =
     let held = c.write-end.ensures.holds _ _ (holds-nothing c.args.self.now) in
     omega (arith, c.write-end.ensures.not_before_start, ap (λ (written : Buffers). written.used) held.same)
 
 pub returns : goal.returns
-returns c = c.add_written.ensures _ _ (c.write-end.ensures.holds _ _ (holds-nothing c.args.self.now))
+returns c = c.finish_event.ensures _ _ (c.write-end.ensures.holds _ _ (holds-nothing c.args.self.now))

@@ -22,13 +22,13 @@ impl EventWriter<'_> {
                 self.full_at = self.events.len().saturating_sub(1);
             }
             if lost_data {
-                self.add_loss();
+                self.write_loss();
             }
         }
     }
 
     /// Says in the record of the last command that it lost data, if it was written.
-    fn add_loss(&mut self) {
+    fn write_loss(&mut self) {
         let index = self.command_index;
         if index < self.count && index < self.events.len() && self.events[index].kind == event::OSC
         {

@@ -1,6 +1,6 @@
 -- The call has gone on to this position (`HasReadOn`). Each round reads a byte or more.
 use Rattle.vte_c.proofs.Common.{buffers_of, HasRead, HasReadOn, length, List, ℕ, ◌-◌, ◌≡◌, ◌≤◌}
-use Rattle.vte_c.proofs.feed.read_all.Given as goal
+use Rattle.vte_c.proofs.feed.read_until_full.Given as goal
 
 abbrev pub invariant-loop-position : goal.invariant-loop-position
 invariant-loop-position l = record {

@@ -2,19 +2,19 @@
 -- (`size-without_saturation`).
 use Rattle.vte_c.proofs.Common.{ap, arith, Buffers, flat_map, is_at_limit, length, length-map, map, min, nat_le, nat_tests, paused_if, piece_bytes, sym, ℕ, ◌+◌, ◌-◌, ◌<◌, ◌∙◌, ◌≡◌}
 use Rattle.std.specs.Prelude.{◌^◌}
-use Rattle.vte_c.proofs.events.EventWriter.add_command.Goals as goal
+use Rattle.vte_c.proofs.events.EventWriter.write_command.Goals as goal
 
 size-without_saturation : (used size : ℕ) → used < 2 ^ 32
     → nat_le 1024 (min (used + size) (2 ^ 64 - 1) - used) ≡ nat_le 1024 size
 size-without_saturation used size small = grind (arith, nat_tests)
 
-pub returns-then-writes : goal.returns-then-writes
-returns-then-writes c =
+pub returns-then-is_wanted : goal.returns-then-is_wanted
+returns-then-is_wanted c =
     let size : ℕ = length (flat_map piece_bytes (map (λ piece. piece.now) c.args.pieces.now)) in
     let holds = c.write_pieces-end.ensures in
     let at_limit =
     rw (holds.ends, size-without_saturation c.args.self.now.used size (omega arith)) at c.is_at_limit.ensures in
     let written =
-    rw (c.with_count-event.ensures, c.with_flag.ensures, c.new.ensures) at (c.add_written.ensures _ _ holds) in
-    rw (sym c.writes.ensures ∙ c.if-writes.true, c.pause_if.ensures, at_limit, length-map)
+    rw (c.with_count-event.ensures, c.with_flag.ensures, c.new.ensures) at (c.finish_event.ensures _ _ holds) in
+    rw (sym c.is_wanted.ensures ∙ c.if-is_wanted.true, c.pause_if.ensures, at_limit, length-map)
     (ap (λ (held : Buffers). paused_if (is_at_limit (length c.args.pieces.now) size) held) written)

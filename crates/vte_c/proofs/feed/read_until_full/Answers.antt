@@ -2,7 +2,7 @@
 -- first one does so only if a record that stops was written.
 use Rattle.vte_c.proofs.Common.{ap, arith, Buffers, buffers_of, cases_lt, inl, inr, refl, sym, ◌+◌, ◌<◌, ◌∙◌, ◌≡◌}
 use Rattle.vte_c.proofs.lemmas.CallSteps.{gone-nothing, gone-then}
-use Rattle.vte_c.proofs.feed.read_all.Goals as goal
+use Rattle.vte_c.proofs.feed.read_until_full.Goals as goal
 
 pub loop-position-init : goal.loop-position-init
 loop-position-init c =
@@ -30,8 +30,8 @@ returns-then-read-eq0-clause-reads_on c = λ already_read reads.
     rw position at (gone-then has_read_on (sym c.must_return.ensures ∙ c.if-not-must_return.true) round.within
     (round.reads_on has_read_on.next has_read_on.reads))
 
-pub returns-then-read-eq0-clause-progress : goal.returns-then-read-eq0-clause-progress
-returns-then-read-eq0-clause-progress c = λ already_read reads no_stops not_empty.
+pub returns-then-read-eq0-clause-reads_some : goal.returns-then-read-eq0-clause-reads_some
+returns-then-read-eq0-clause-reads_some c = λ already_read reads no_stops not_empty.
     let invariant = c.loop-position.invariant in
     let has_read_on = invariant.goes already_read reads in
     elim (cases_lt 0 c.loop-position.position) [
@@ -40,7 +40,7 @@ returns-then-read-eq0-clause-progress c = λ already_read reads no_stops not_emp
           let same : buffers_of c.loop-position.writer ≡ buffers_of c.args.writer.now =
           invariant.first (omega (arith, at_0)) in
           let further : 0 < c.read_more-read.result =
-          c.read_more-read.ensures.progress has_read_on.next has_read_on.reads (rw same c.requires.are_empty)
+          c.read_more-read.ensures.reads_some has_read_on.next has_read_on.reads (rw same c.requires.are_empty)
           (rw (← ap (λ (held : Buffers). held.stops) same) at no_stops) in
           absurd (omega (arith, further, c.if-read-eq0.true))
     ]

@@ -4,20 +4,20 @@
 pub(crate) mod array_string;
 pub(crate) mod array_vec;
 mod debug;
+#[cfg(feature = "std")]
+pub(crate) mod end_program;
 #[cfg(feature = "ansi")]
 pub(crate) mod handlers;
 #[cfg(feature = "ansi")]
 pub(crate) mod hyperlink;
+#[cfg(feature = "__own")]
+pub(crate) mod internal_items;
 #[cfg(feature = "ansi")]
 pub(crate) mod keyboard;
 #[cfg(any(feature = "std", feature = "ansi"))]
-mod long;
-#[cfg(feature = "std")]
-pub(crate) mod memory;
+mod long_parser;
 #[cfg(feature = "ansi")]
 pub(crate) mod no_memory;
-#[cfg(feature = "__own")]
-pub(crate) mod own;
 #[cfg(feature = "std")]
 pub(crate) mod parser;
 #[cfg(feature = "ansi")]

@@ -143,7 +143,7 @@ pub use proved::vte_core::{LongParser, Refused};
 #[cfg(feature = "__own")]
 #[doc(hidden)]
 pub use {
-    adapter::own::{skip_to_command, InternalCalls},
+    adapter::internal_items::{skip_to_command, InternalCalls},
     proved::vte_core::Saved,
 };
 

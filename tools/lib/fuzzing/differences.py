@@ -20,8 +20,8 @@ PARSER = [
     ("after an escape", "with stops after escapes", WHOLE + b"\x1bca"),
     ("closed with stops", "with stops after characters", WHOLE + b"\x1b["),
     ("with an early end", "an early end", WHOLE + b"\x1b[1m"),
-    ("to text", "of_parsers.rs", WHOLE + b"a"),
-    ("to data", "of_parsers.rs", WHOLE + b"\x1bPqab"),
+    ("to text", "parser_readings.rs", WHOLE + b"a"),
+    ("to data", "parser_readings.rs", WHOLE + b"\x1bPqab"),
     ("to nothing", "no run", WHOLE + b"\x1bc"), ("closed to a run", "to runs", WHOLE + b"\x1b["),
     # the longest stream that both read the same way
     ("closed", "both parsers", WHOLE + b"a" * 62 + b"\x1b["),

@@ -10,17 +10,17 @@ mod cutting;
 #[allow(dead_code)]
 #[path = "../../tests/vectors/event_lines.rs"]
 mod event_lines;
-#[path = "../of_parsers.rs"]
-mod of_parsers;
-#[path = "../of_processors.rs"]
-mod of_processors;
+#[path = "../parser_readings.rs"]
+mod parser_readings;
+#[path = "../processor_readings.rs"]
+mod processor_readings;
 
 use libfuzzer_sys::fuzz_target;
 
 fuzz_target!(|input: &[u8]| {
     if let [size, seed, stream @ ..] = input {
         let chunks = cutting::chunks(stream, *size, *seed);
-        of_parsers::compare(stream, &chunks);
-        of_processors::compare(stream, &chunks);
+        parser_readings::compare(stream, &chunks);
+        processor_readings::compare(stream, &chunks);
     }
 });

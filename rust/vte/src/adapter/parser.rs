@@ -1,6 +1,6 @@
 //! The parser of the feature `std`: one without a limit, that ends the program if memory is
 //! refused.
-use crate::adapter::memory::end_without;
+use crate::adapter::end_program::end_without;
 use crate::proved::vte_core::{LongParser, Open, Perform, PerformText, Refused, Run};
 
 /// A parser of the bytes that programs send to a terminal.

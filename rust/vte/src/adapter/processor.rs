@@ -4,7 +4,7 @@ use core::fmt;
 
 use crate::adapter::no_memory::NoMemory;
 #[cfg(feature = "std")]
-use crate::adapter::{memory::end_without, std_sync_handler::StdSyncHandler};
+use crate::adapter::{end_program::end_without, std_sync_handler::StdSyncHandler};
 use crate::proved::vte::ansi::{BoundedProcessor as Bounded, LongProcessor as Long};
 use crate::proved::vte_core::Refused;
 use crate::proved::vte_handler::{Handler, HandlerText, Timeout};

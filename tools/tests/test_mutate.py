@@ -27,9 +27,9 @@ def copy(tmp_path_factory):
         ("new: two", "new: 3\nold: 3\nnew: 4", None),
         ("new: two", "new: 3\nold: one\nnew: 4", "crates/c/src/lib.rt hasn't exactly one 'one'"),
         ("# A rule.\n", "", "it names no rule"))),
-    *((path, "# refused at abc1234 by goal\n", "", None) for path in (PATH, MUST_FAIL)),
-    (PATH, "# refused at abc1234 by goal", "# not refused at abc1234",
-     "it wasn't refused: run tools/mutate"),
+    (MUST_FAIL, "# refused at abc1234 by goal\n", "", None),
+    *((PATH, "# refused at abc1234 by goal\n", verdict, "it wasn't refused: run tools/mutate")
+      for verdict in ("", "# not refused at abc1234\n")),
     *((PATH, "by goal", f"by {verdict}", None)
       for verdict in ("returns-then-x of a::B+C::d", "a goal of src/a/b.rt:1")),
     *((PATH, "by goal", f"by x of {gone}", f"its verdict names {gone}, which is gone")
@@ -40,9 +40,7 @@ def copy(tmp_path_factory):
 def test_faults_of_mutants(copy, path, old, new, fault):
     write(path, MUTANT.replace(old, new))
     faults = [f"{PATH if 'twice' in fault else path}: {fault}"] if fault else []
-    untried = int(path == PATH and "refused at" in old and not new)
-    counts = f"1 mutants, {len(faults)} faults, {untried} not tried yet\n"
-    output = "\n".join([*faults, counts])
+    output = "\n".join([*faults, f"1 mutants, {len(faults)} faults\n"])
     assert Tool("mutate").run("--check") == (len(faults), output)
 
 

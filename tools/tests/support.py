@@ -53,9 +53,9 @@ def wait_until(condition, message=""):
         time.sleep(0.02)
 
 
-def run_here(tool, *words, **programs):
-    """The status and lines of a shell tool that stands here, and finds these programs first."""
-    write(f"tools/{tool}", (TOOLS / tool).read_text(), 0o755)
+def run_here(tool, *words, edit=str, **programs):
+    """The status and lines of an edited shell tool here, which finds these programs first."""
+    write(f"tools/{tool}", edit((TOOLS / tool).read_text()), 0o755)
     for name, text in programs.items():
         write_program(f"bin/{name}", text)
     done = subprocess.run([f"tools/{tool}", *words], stdout=subprocess.PIPE, text=True,

@@ -1,4 +1,5 @@
 """Tests of what tools/release checks, and of the contents that it writes."""
+import fcntl
 import json
 import os
 from pathlib import Path
@@ -69,6 +70,26 @@ def test_making_and_using_a_release(folder, monkeypatch, make, use, reported):
     is_missing = not use and reported[:1] != ["release: it was not made"]
     assert output.splitlines() == [*missing * is_missing, *reported, f"{len(reported)} faults"]
     assert status == (1 if reported else 0)
+
+
+@pytest.mark.parametrize("is_locked", [False, True])
+def test_what_a_killed_release_left(folder, is_locked):
+    """It is removed, but not while another release is being made."""
+    for name, text in RELEASE.items():
+        write(name, text + "\n")
+    left = folder / "naqshuve-1.2.3"
+    write(left / "left", "")
+    lock = os.open(folder, os.O_RDONLY)
+    if is_locked:
+        fcntl.flock(lock, fcntl.LOCK_EX)
+    # it ends where it would copy the commit
+    status, _ = run_here(
+        "release", "out/release", cargo="echo cargo 1.90.0",
+        git=f"case $1 in log) echo 0;; *) ls {left} >found; exit 1; esac",
+        edit=lambda text: text.replace("=/tmp/", f"={folder}/").replace("-w 1800", "-w 0"))
+    os.close(lock)
+    assert status > 0 and (left / "left").exists() == is_locked
+    assert is_locked or Path("found").read_text() == ""
 
 
 def test_contents_of_a_release(monkeypatch):

@@ -10,7 +10,9 @@ import shutil
 import subprocess
 from pathlib import Path
 
-TABLE = Path(__file__).resolve().parent / "instructions.txt"
+from lib.files import TOP
+
+TABLE = TOP / "bench/instructions.txt"
 COLUMNS = ["release", "best", "rattle"]
 # a count may be above that of the table by one percent
 MOST = 1.01

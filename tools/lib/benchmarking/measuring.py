@@ -4,12 +4,11 @@ Each kind yields rows: what was measured, and the nanoseconds per byte of each s
 import functools
 import random
 import subprocess
-import sys
 from concurrent.futures import ThreadPoolExecutor
 from pathlib import Path
 
-sys.path.insert(0, str(Path(__file__).resolve().parent.parent / "tools"))
 from lib.building import builder
+from lib.files import TOP
 from lib.generating import streams
 
 # The sides: ours as rt proves and builds it, the same text in the crates of rust/, and the crate,
@@ -71,7 +70,7 @@ class Programs:
     @functools.cached_property
     def c_program(self):
         """bench/calls.c with cargo's C library, and with libvterm if it is here."""
-        return builder.c_program(Path(__file__).resolve().parent / "calls.c", self.folder / "c")
+        return builder.c_program(TOP / "bench/calls.c", self.folder / "c")
 
     @functools.cached_property
     def proved_program(self):

@@ -113,7 +113,7 @@ def test_streams(library, request):
     chunks of 65,536 bytes, with stops after one kind of event."""
     option = request.config.option
     program, text, *chunk = ((library.events, "strip", "65536") if option.short else
-                             (builder.proved_program("vtlog"), "text"))
+                             (builder.build_proved_program("vtlog"), "text"))
 
     def check_stream(numbered):
         number, (name, stream) = numbered

@@ -31,7 +31,7 @@ def count(monkeypatch):
         tool = Tool("../bench/count", count_cells=lambda _, __, asked: {
             (row, column): {"parser": 4.0, "vte_feed": 1.0}[row[0]] for row, column in asked})
         monkeypatch.setattr(tool.parts["limits"], "TABLE", path)
-        monkeypatch.setattr(tool.parts["limits"], "conditions",
+        monkeypatch.setattr(tool.parts["limits"], "find_conditions",
                             lambda: {"release": "new", "best": "new", "rattle": kit})
         status, output = tool.run("limits", *words)
         return status, output.splitlines(), path.read_text()
@@ -71,19 +71,20 @@ STRIP = {"placements": 1, "cores": [], "kind": "strip", "bytes": 500_000, "round
     ("strip --placements 2", {"placements": 2}), ("strip --core 1", {"cores": [{1}]}),
     ("calls", {"kind": "calls", "streams": ["ascii", "ls_color", "coloured"] * 3})])
 def test_speed(monkeypatch, words, changes):
-    run, rows, sizes, found = Tool("../bench/run", conditions=lambda *_: []), [], [], {"cores": []}
+    run, rows, sizes = Tool("../bench/run", describe_run=lambda *_: []), [], []
+    found = {"cores": []}
     measuring, figures = run.parts["measuring"], run.parts["figures"]
 
     def programs(folder, placements):
         found["placements"] = placements
-        return SimpleNamespace(build=lambda _: None, commands=lambda _: {"ours": [["ours"]]},
-                               stream=lambda name, size: sizes.append(size))
+        return SimpleNamespace(build=lambda _: None, build_commands=lambda _: {"ours": [["ours"]]},
+                               write_stream=lambda name, size: sizes.append(size))
 
     monkeypatch.setattr(measuring, "Programs", programs)
     monkeypatch.setattr(measuring, "compare_checksums", lambda *_: None)
     monkeypatch.setattr(measuring, "make_passes", lambda *_: lambda: 1)
-    monkeypatch.setattr(figures, "line", rows.append)
-    monkeypatch.setattr(figures, "tables", lambda _: [])
+    monkeypatch.setattr(figures, "show_row", rows.append)
+    monkeypatch.setattr(figures, "tabulate", lambda _: [])
     monkeypatch.setattr(os, "sched_setaffinity", lambda _, cores: found["cores"].append(cores))
     run.run(*words.split())
     # before a stream is read by all sides, their checksums of a shorter one are compared
@@ -111,8 +112,8 @@ def test_counts(monkeypatch, words, kinds, changes):
     count = Tool("../bench/count", count_pass=lambda words, _, path: (path.size, "left"),
                  ThreadPoolExecutor=pool, copy_libc=lambda folder: None)
     monkeypatch.setattr(count.parts["measuring"], "Programs", lambda folder: SimpleNamespace(
-        folder=folder, peers=lambda side: [side], proved_program="proved", stream=stream,
-        commands=lambda _: {"vte_feed": [["in C"]]}))
+        folder=folder, build_peers=lambda side: [side], proved_program="proved",
+        write_stream=stream, build_commands=lambda _: {"vte_feed": [["in C"]]}))
     _, output = count.run(*words.split())
     wanted = {"streams": STRIP["streams"], "bytes": 200_000, "jobs": os.cpu_count(), **changes}
     streams = wanted["streams"] * len(kinds.split())
@@ -138,5 +139,5 @@ def test_a_proved_program_is_built_unless_it_is_newer(folder, monkeypatch, newes
     for part in (folder / "crates").rglob("*"):
         if part.is_dir():
             os.utime(part, (0, 1))
-    assert builder.proved_program("benchmark") == folder / "crates/benchmark/out/benchmark"
+    assert builder.build_proved_program("benchmark") == folder / "crates/benchmark/out/benchmark"
     assert built == [["rt", "run"]] * is_built

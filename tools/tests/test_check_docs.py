@@ -24,9 +24,9 @@ def failures(text, run=True, name="page.md"):
                       source_lines={"f();", "g(1);"}, sources={Path("a.rt"): "f();\n h"},
                       is_in_history=lambda commit: commit == "abc1234")
     if not name.endswith(".md"):
-        return [it for _, it in tool.parts["failures_of_comments"](text)]
+        return [it for _, it in tool.parts["check_comments"](text)]
     page = Page(write(name, text))
-    return [it for _, it in tool.parts["failures_of_page"](page, run)]
+    return [it for _, it in tool.parts["check_page"](page, run)]
 
 
 # a page, and what is wrong with it
@@ -80,7 +80,7 @@ def test_each_call_is_named_and_has_an_example():
     write(tool.parts["EXAMPLES"], "Bell")
     write(tool.parts["TRAIT"], "".join(f"    fn {it}(&mut self)\n" for it in (
         "bell", "newline", "put_tab")) + "pub trait HandlerText")
-    assert list(tool.parts["failures_of_calls"]("`bell`, put_tab, `put_tabs`")) == [
+    assert list(tool.parts["check_calls"]("`bell`, put_tab, `put_tabs`")) == [
         "this call has no name here: put_tab",
         "crates/vte/specs/CallExamples.antt doesn't have PutTab"]
 
@@ -97,7 +97,7 @@ def test_clauses_are_declared(text, wanted):
              "crates/C/proofs/P.antt": "pub seven : ℕ"}
     texts = {Path(path): text for path, text in files.items()}
     tool = check_docs(sources=texts, paths=list(texts))
-    found = list(tool.parts["failures_of_clauses"](text))
+    found = list(tool.parts["check_clauses"](text))
     assert found == [f"no module, definition, field or clause is named {it}"
                      for it in wanted.split()]
 
@@ -120,7 +120,7 @@ def test_modules_are_listed_after_those_that_they_import(page, wanted):
     tool = check_docs(paths=list(map(Path, files)))
     for path, text in files.items():
         write(path, text)
-    found = tool.parts["failures_of_modules"](page + "\n`One`, `Two`")
+    found = tool.parts["check_modules"](page + "\n`One`, `Two`")
     assert [it.partition(", which")[0] for it in found] == list(filter(None, wanted.split(", ")))
 
 
@@ -158,7 +158,7 @@ def test_which_pages_are_checked(words, faulty, status, reported):
     for path in "README.md", "docs/A.md", "tools/README.md", "out/README.md", "a.py":
         write(path, "")
     tool = check_docs()
-    tool.parts["failures_of_page"] = lambda page, run: [(5, run)] * (page.path.name in faulty)
+    tool.parts["check_page"] = lambda page, run: [(5, run)] * (page.path.name in faulty)
     assert tool.run(*words.split()) == (status, "".join(f"{line}\n" for line in reported))
 
 

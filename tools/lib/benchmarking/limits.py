@@ -18,8 +18,8 @@ COLUMNS = ["release", "best", "rattle"]
 MOST = 1.01
 
 
-def conditions():
-    """What each column is counted with now, or nothing if it can't be."""
+def find_conditions():
+    """Finds what each column is counted with now, or nothing if it can't be."""
     features = Path("/proc/cpuinfo")
     vectors = features.exists() and re.search(r"\bavx2\b", features.read_text())
     machine = f"{' '.join(platform.libc_ver())}; {platform.machine()}{' with AVX2' * bool(vectors)}"
@@ -29,7 +29,7 @@ def conditions():
 
 
 def ask_program(*words):
-    """The first line that a program says here, or nothing if it isn't installed or fails."""
+    """Returns the first line that a program says, or nothing if it isn't installed or fails."""
     done = shutil.which(words[0]) and subprocess.run(words, cwd=TABLE.parent, capture_output=True,
                                                      text=True)
     return done.stdout.partition("\n")[0] if done and done.returncode == 0 else ""
@@ -47,29 +47,29 @@ class Table:
             self.rows[kind, stream, int(chunk)] = dict(zip(COLUMNS, cells, strict=True))
 
     def find_counted(self, columns):
-        """The rows and columns that have a count, or are to have one."""
+        """Finds the rows and columns that have a count, or are to have one."""
         return [(row, column) for row, cells in self.rows.items() for column in columns
                 if cells[column] != "-"]
 
-    def lines_with_counts(self, counts, found):
-        """The text of the table with these counts, and the conditions that were found for them."""
+    def update_lines(self, counts, found):
+        """Yields the table's lines with these counts, and with the conditions found for them."""
         columns = {column for _, column in counts}
         yield "# Instructions per byte: bench/count limits --check refuses 1 percent more."
         for column in COLUMNS:
             yield f"{column}: {(found if column in columns else self.conditions)[column]}"
-        yield line("kind", "stream", "call", *COLUMNS)
+        yield format_line("kind", "stream", "call", *COLUMNS)
         for row, cells in self.rows.items():
             counted = {column: f"{counts[row, column]:.3f}" for column in COLUMNS
                        if (row, column) in counts}
-            yield line(*row, *{**cells, **counted}.values())
+            yield format_line(*row, *{**cells, **counted}.values())
 
 
-def line(kind, stream, chunk, *cells):
+def format_line(kind, stream, chunk, *cells):
     return f"{kind:<14}{stream:<13}{chunk:>5}{''.join(f'{cell:>8}' for cell in cells)}"
 
 
 def compare(table, counts):
-    """What is to be said of counts, and whether it is a fault."""
+    """Yields what is to be said of counts, and whether it is a fault."""
     for (row, column), count in counts.items():
         cell, (kind, stream, chunk) = table.rows[row][column], row
         where = f"{kind} `{stream}` in calls of {chunk:,} B, {column}: {count:.3f}"

@@ -61,31 +61,32 @@ class Programs:
         self.placements = placements
 
     @functools.cache
-    def peers(self, side):
-        """The program of a side of IN_RUST, once for each placement of its code. It has the default
-        features of the crate, and so of rust/vte: commands have no limit."""
-        return builder.placed_peers(side in OURS_IN_RUST, self.folder / side, IN_RUST[side],
-                                     self.placements)
+    def build_peers(self, side):
+        """Builds the program of a side of IN_RUST, once for each placement of its code. It has the
+        default features of the crate, and so of rust/vte: commands have no limit."""
+        return builder.build_peers(side in OURS_IN_RUST, self.folder / side, IN_RUST[side],
+                                   self.placements)
 
     @functools.cached_property
     def c_program(self):
         """bench/calls.c with cargo's C library, and with libvterm if it is here."""
-        return builder.c_program(TOP / "bench/calls.c", self.folder / "c")
+        return builder.build_c_program(TOP / "bench/calls.c", self.folder / "c")
 
     @functools.cached_property
     def proved_program(self):
-        return builder.proved_program("benchmark", ["parser", "1", "1"])
+        return builder.build_proved_program("benchmark", ["parser", "1", "1"])
 
-    def commands(self, kind):
-        """The commands of each side: one for each placement of its code. Rattle's build has one."""
+    def build_commands(self, kind):
+        """Builds the commands of each side: one for each placement of its code. Rattle's build has
+        one."""
         if kind == "calls":
             sides = [*IN_C, *[THEIRS_IN_C] * builder.has_libvterm()]
             return {side: [[self.c_program, side]] for side in sides}
         if kind == "strip":
-            return {side: [[program, name] for program in self.peers("rust")]
+            return {side: [[program, name] for program in self.build_peers("rust")]
                     for side, name in STRIPPERS.items()}
         sides = {"ours": [self.proved_program] * self.placements,
-                 **{side: self.peers(side) for side in IN_RUST}}
+                 **{side: self.build_peers(side) for side in IN_RUST}}
         return {side: [[program, kind] for program in of_side] for side, of_side in sides.items()}
 
     def build(self, kinds):
@@ -97,10 +98,10 @@ class Programs:
             sides = IN_RUST
             _ = self.proved_program
         with ThreadPoolExecutor() as pool:
-            list(pool.map(self.peers, sides))
+            list(pool.map(self.build_peers, sides))
 
-    def stream(self, name, size):
-        """A file with a prefix of a stream."""
+    def write_stream(self, name, size):
+        """Writes a prefix of a stream, and returns its file."""
         path = self.folder / f"{name}_{size}"
         if not path.exists():
             path.write_bytes(streams.generate(name, size))
@@ -108,7 +109,7 @@ class Programs:
 
 
 def run(words, path):
-    """The standard output and standard error of a program for the stream in a file."""
+    """Returns the standard output and standard error of a program for the stream in a file."""
     with open(path, "rb") as stream:
         done = subprocess.run(words, stdin=stream, capture_output=True, text=True)
     if done.returncode != 0:
@@ -117,7 +118,7 @@ def run(words, path):
 
 
 def run_in_rounds(rounds, sides):
-    """The seconds of each side, round by round: a list, with one number for each of its programs.
+    """Times each side, round by round: a list, with the seconds of each of its programs.
 
     A round runs the first program of each side, one right after the other, then the second of
     each, and so on, in an order of its own."""
@@ -131,12 +132,13 @@ def run_in_rounds(rounds, sides):
 
 
 def make_passes(words, path, chunk):
-    """A function that runs a program over a stream, and returns the seconds of its fastest pass."""
-    def seconds(passes):
+    """Makes a function that runs a program over a stream, and returns the seconds of its fastest
+    pass."""
+    def time_passes(passes):
         return int(run([*words, str(chunk), str(passes)], path)[1]) / 1e9
 
-    passes = max(1, round(SECONDS / seconds(1)))
-    return lambda: seconds(passes)
+    passes = max(1, round(SECONDS / time_passes(1)))
+    return lambda: time_passes(passes)
 
 
 def compare_checksums(name, sides, path):
@@ -149,17 +151,17 @@ def compare_checksums(name, sides, path):
         builder.stop(f"the checksums of {name} differ: {checksums}")
 
 
-def rows(kind, programs, options):
+def measure_streams(kind, programs, options):
     """Measures each side over each stream: nanoseconds per byte, a number for each round and
     placement."""
-    sides = programs.commands(kind)
+    sides = programs.build_commands(kind)
     asked = {4096: options.streams} if options.streams else STREAMS_OF[kind]
     for name, chunk in ((name, chunk) for chunk, names in asked.items() for name in names):
         commands = {side: of_side for side, of_side in sides.items()
                     if name not in LEFT_OUT.get(side, [])}
         if kind != "calls":
-            compare_checksums(name, commands, programs.stream(name, CHECKED))
-        path = programs.stream(name, options.bytes)
+            compare_checksums(name, commands, programs.write_stream(name, CHECKED))
+        path = programs.write_stream(name, options.bytes)
         passes = {side: [make_passes(words, path, chunk) for words in of_side]
                   for side, of_side in commands.items()}
         times = run_in_rounds(options.rounds, passes)

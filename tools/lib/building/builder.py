@@ -41,9 +41,9 @@ def stop(message):
     sys.exit(f"{Path(sys.argv[0]).name}: {message}")
 
 
-def proved_program(crate, words=()):
-    """A program of crates/, proved and built, which runs it with these words: now, unless it is
-    newer than all sources there, as after `rt ci`."""
+def build_proved_program(crate, words=()):
+    """Proves and builds a program of crates/, which runs it with these words, unless it is newer
+    than all sources there, as after `rt ci`. Returns its path."""
     crates = TOOLS.parent / "crates"
     program = crates / crate / "out" / crate
     sources = [TOOLS.parent / "crates.txt", *crates.glob("*/src/**/*"),
@@ -56,21 +56,21 @@ def proved_program(crate, words=()):
 
 
 @functools.cache
-def crates():
-    """The environment in which cargo finds crates."""
+def find_crates():
+    """Returns the environment in which cargo finds crates."""
     cache = Path(os.environ.get("XDG_CACHE_HOME") or Path.home() / ".cache") / "naqshuve"
     said = run([TOOLS / "next_release", cache], "crates of Debian's next release")
     home = re.search(r"CARGO_HOME=(\S+)", said.decode())
     return {"CARGO_HOME": home[1]} if home else {}
 
 
-def environment(folder, profile):
-    """The environment in which cargo builds into a folder."""
-    return {**os.environ, **crates(), "CARGO_TARGET_DIR": str(folder / "target"),
+def make_environment(folder, profile):
+    """Returns the environment in which cargo builds into a folder."""
+    return {**os.environ, **find_crates(), "CARGO_TARGET_DIR": str(folder / "target"),
             **{f"CARGO_PROFILE_RELEASE_{name}": value for name, value in PROFILES[profile].items()}}
 
 
-def placed_peers(is_ours, folder, profile, count):
+def build_peers(is_ours, folder, profile, count):
     """Builds bench/peer over the crate, or over ours, into a folder, without warnings: so many
     times, each with its code at another place."""
     folder, crate = Path(folder), KEPT / f"peer_{profile}{'_ours' * is_ours}"
@@ -87,12 +87,13 @@ def placed_peers(is_ours, folder, profile, count):
     for number in range(count):
         start = f"link-arg=-Wl,-Ttext={CODE_START + ALIGNMENT * number:#x}"
         words = ["rustc", "--release", "--manifest-path", crate / "Cargo.toml", "--", *flags]
-        made = run([CARGO_PRODUCT, *words, "-C", start], "bench/peer", environment(crate, profile))
+        made = run([CARGO_PRODUCT, *words, "-C", start], "bench/peer",
+                   make_environment(crate, profile))
         programs.append(shutil.copy(made.decode().rstrip("\n"), folder / f"peer_{number}"))
     return programs
 
 
-def c_program(source, folder):
+def build_c_program(source, folder):
     """Builds a program in C with cargo's C library, and with libvterm if it is here."""
     run([TOOLS / "build_c_library", "--cargo", folder], "the C library")
     words = ["cc", "-O2", "-std=c99", "-pedantic-errors", f"-I{TOOLS.parent / 'c/include'}", source,

@@ -30,7 +30,7 @@ def test_which_public_items_differ(folder):
     texts = [ITEMS, *(ITEMS.replace(old, new) for old, new, _ in EDITS)]
     write("lib.rs", "\n".join(f"pub mod m{at} {{ {text} }}" for at, text in enumerate(texts)))
     subprocess.run(["rustdoc", "lib.rs", "--crate-name", "vte", "-o", "doc"], check=True)
-    found = Tool("check_public_items").parts["items_of_pages"](folder / "doc/vte")
+    found = Tool("check_public_items").parts["read_pages"](folder / "doc/vte")
     sides = [{path.partition("::")[2]: text for path, text in found.items()
               if path.startswith(f"m{at}::")} for at in range(len(texts))]
     for (old, new, item), side in zip(EDITS, sides[1:]):

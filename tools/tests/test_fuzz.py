@@ -14,7 +14,7 @@ from tests.support import TOOLS, Tool, write_program
 def test_a_difference_is_found(does, is_found):
     program = write_program("program", f"{{ {does}; }} >&2")
     fuzz = Tool("fuzz", FOLDER=Path.cwd(), DIFFERENCES={"target": [("it", "shown", b"")]})
-    assert fuzz.parts["finds"]("target", program) == is_found
+    assert fuzz.parts["finds_differences"]("target", program) == is_found
 
 
 # words, the targets and the seconds for each, which functions fail, and the status
@@ -33,7 +33,7 @@ def test_what_is_fuzzed(words, targets, seconds, failing, status):
         return function
 
     fuzz = Tool("fuzz", find_missing=lambda: (), build=lambda *words: words,
-                build_different=str, fuzz=fake("fuzz"), finds=fake("finds"),
+                build_different=str, fuzz=fake("fuzz"), finds_differences=fake("finds"),
                 check_coverage=lambda: "coverage" not in failing)
     wanted = [line for target in targets.split()
               for line in (f"{target} {(target, seconds)} {seconds}", f"{target} {target}")]

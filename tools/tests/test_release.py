@@ -62,7 +62,7 @@ def test_making_and_using_a_release(folder, monkeypatch, make, use, reported):
     monkeypatch.setenv("FRESH_MACHINE", str(write_program("machine", use)) if use else "")
     monkeypatch.setattr(os, "geteuid", lambda: 0)
     monkeypatch.setenv("COMPILED_CRATES", "")
-    tool = Tool("lib/releasing/check", faults_of_versions=lambda *_: [])
+    tool = Tool("lib/releasing/check", check_versions=lambda *_: [])
     for path in tool.parts["PROGRAMS"]:
         write(path, "")
     status, output = tool.run("0.15.0+naqshuve.1.2.3", "7", str(folder))

@@ -21,28 +21,28 @@ python3 -c 'import ensurepip'
 python3 -m pip install --dry-run --no-deps --target "$SCRATCH/pip" ./python"""
 
 
-def bash(command):
+def wrap_in_bash(command):
     return ["bash", "-euo", "pipefail", "-c", command]
 
 
-def answer(command):
-    """What a command prints, if it succeeds."""
-    done = subprocess.run(bash(command), stdin=subprocess.DEVNULL, capture_output=True)
+def ask_bash(command):
+    """Returns what a command prints, if it succeeds."""
+    done = subprocess.run(wrap_in_bash(command), stdin=subprocess.DEVNULL, capture_output=True)
     return done.stdout if done.returncode == 0 else None
 
 
-def version(rustc):
-    return (answer(f"{rustc} --version") or b"").decode().partition(" ")[2].partition(" ")[0]
+def ask_version(rustc):
+    return (ask_bash(f"{rustc} --version") or b"").decode().partition(" ")[2].partition(" ")[0]
 
 
-def numbers(version):
+def numbers_of(version):
     return [int(number) for number in re.findall(r"\d+", version)]
 
 
 def has_modules(*names):
     """Whether Debian's Python has these modules."""
     has_all = "all(map(importlib.util.find_spec, sys.argv[1:]))"
-    return answer(f"/usr/bin/python3 -c 'import importlib.util, sys; sys.exit(not {has_all})' "
+    return ask_bash(f"/usr/bin/python3 -c 'import importlib.util, sys; sys.exit(not {has_all})' "
                   + " ".join(names)) is not None
 
 
@@ -56,7 +56,7 @@ NEEDS = {
     "old-rust": (lambda machine: machine.has_old_rust(),
                  "Debian 12's rustc 1.63 beside another", None),
     "rust=(.*)": (lambda machine, wanted: machine.rust.startswith(f"{wanted}."), r"rustc \1", None),
-    "rust-(.*)": (lambda machine, least: numbers(machine.rust) >= numbers(least),
+    "rust-(.*)": (lambda machine, least: numbers_of(machine.rust) >= numbers_of(least),
                   r"rustc \1 or later", "cargo-web")}
 
 
@@ -64,30 +64,30 @@ class Machine:
     """This machine: the version of its rustc, and whether cargo and pip find what they need."""
 
     def __init__(self):
-        self.rust = version("rustc")
+        self.rust = ask_version("rustc")
         self.has_crates = self.has_pip = False
 
     def find_crates(self):
         """Finds crates: where cargo looks by itself or, failing that, in packages of Debian's next
         release."""
-        self.has_crates = answer(HAS_CRATES) is not None
-        if not self.has_crates and (words := answer(NEXT_RELEASE)):
+        self.has_crates = ask_bash(HAS_CRATES) is not None
+        if not self.has_crates and (words := ask_bash(NEXT_RELEASE)):
             os.environ.update(word.split("=", 1) for word in words.decode().split("\0") if word)
             self.has_crates = True
         os.environ["HAS_CRATES"] = "yes" if self.has_crates else "no"
 
     def find_pip(self, is_needed):
         """Finds what pip gets from a network, if it is needed."""
-        self.has_pip = is_needed and self.has_crates and answer(HAS_PIP) is not None
+        self.has_pip = is_needed and self.has_crates and ask_bash(HAS_PIP) is not None
         os.environ["HAS_PIP"] = "yes" if self.has_pip else "no"
 
     def has_old_rust(self):
         """Whether Debian 12's rustc is there, and isn't the one that is used."""
         return (not self.rust.startswith("1.63.")
-                and version("/usr/bin/rustc").startswith("1.63."))
+                and ask_version("/usr/bin/rustc").startswith("1.63."))
 
-    def lack(self, need):
-        """What is missing for a need, and the packages that bring it; or None if nothing is."""
+    def find_missing(self, need):
+        """Finds what is missing for a need, and the packages that bring it; None if nothing is."""
         for pattern, (is_met, missing, packages) in NEEDS.items():
             if match := re.fullmatch(pattern, need):
                 if is_met(self, *match.groups()):
@@ -95,5 +95,5 @@ class Machine:
                 return match.expand(missing), packages and match.expand(packages)
         return None if shutil.which(need) else (need, PACKAGES.get(need, need))
 
-    def lacks(self, needs):
-        return [lack for need in needs.split() if (lack := self.lack(need))]
+    def list_missing(self, needs):
+        return [it for need in needs.split() if (it := self.find_missing(need))]

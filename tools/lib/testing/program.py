@@ -8,7 +8,7 @@ from dataclasses import dataclass
 
 from lib.testing.machine import Machine
 from lib.testing.report import Report
-from lib.testing.runner import Runner, cores
+from lib.testing.runner import Runner, count_cores
 
 
 @dataclass
@@ -35,7 +35,7 @@ def set_environment(scratch):
     os.environ.update(CARGO_INCREMENTAL="0", CARGO_PROFILE_DEV_DEBUG="0",
                       CARGO_PROFILE_DEV_OPT_LEVEL="1", CARGO_NET_RETRY="0",
                       CARGO_TERM_QUIET="true", NAQSHUVE_ALLOW_MISSING="1", SCRATCH=scratch)
-    os.environ.setdefault("RT_JOBS", str(cores()))
+    os.environ.setdefault("RT_JOBS", str(count_cores()))
     # otherwise pyo3 would be built again for each virtual environment
     os.environ.setdefault("PYO3_PYTHON", os.path.realpath(sys.executable))
 

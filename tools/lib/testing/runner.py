@@ -7,7 +7,7 @@ import time
 from concurrent.futures import ThreadPoolExecutor
 from pathlib import Path
 
-from lib.testing.machine import bash
+from lib.testing.machine import wrap_in_bash
 
 SAYING = threading.Lock()
 
@@ -18,7 +18,7 @@ def say(text):
         print(f"{text}\n", end="", flush=True)
 
 
-def cores():
+def count_cores():
     return len(os.sched_getaffinity(0))
 
 
@@ -39,7 +39,7 @@ class Runner:
 
     def can_run(self, part, has_failed):
         """Whether a part can be run. Reports what it lacks."""
-        needed, optional = self.machine.lacks(part.needs), self.machine.lacks(part.optional)
+        needed, optional = map(self.machine.list_missing, (part.needs, part.optional))
         missing = [name for name, _ in needed]
         packages = [names for _, names in needed] + [names for _, names in optional if names]
         if has_failed:
@@ -73,7 +73,7 @@ class Runner:
             command = f"{command} 2>&1 | tee '{log}'"
         with log.open("ab") as file, subprocess.Popen(
                 # timeout ends all processes of its group
-                ["timeout", "150m", "nice", "-n", str(niceness), *bash(command)],
+                ["timeout", "150m", "nice", "-n", str(niceness), *wrap_in_bash(command)],
                 stdin=subprocess.DEVNULL, stderr=subprocess.STDOUT,
                 stdout=None if is_shown else file) as process:
             self.running.add(process)
@@ -95,7 +95,7 @@ class Runner:
             if part.is_awaited:
                 self.run_all(last, niceness=19)
 
-        with ThreadPoolExecutor(cores() + 1) as pool:
+        with ThreadPoolExecutor(count_cores() + 1) as pool:
             list(pool.map(run_nicely, can_run))
         if not is_awaiting and last:
             self.run_all(last)

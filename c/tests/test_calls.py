@@ -6,7 +6,7 @@ from itertools import islice
 import pytest
 from lib.files import TOP
 from lib.generating.calls import TRAIT, calls_of
-from lib.generating.vectors import all_vectors, bytes_of, lines_of
+from lib.generating.vectors import bytes_of, lines_of, read_all_vectors
 from tests.missing import miss, need
 
 from calling import FUNCTIONS
@@ -118,7 +118,7 @@ def lines_for(line):
 
 def scripts():
     """The name of each, its steps with a new processor, and whether these set the timeout."""
-    for vector in all_vectors():
+    for vector in read_all_vectors():
         if vector["kind"] == "calls":
             chunks = [*map(bytes_of, vector["pieces"])]
             stream = b"".join(chunks)

@@ -68,7 +68,7 @@ def lines_without_clipboards(stream):
 def test_recorded(library):
     """Streams without such commands are passed on, each byte once it is known to be of none."""
     forward = program(library, "c/forward.c")
-    recorded = {name: b"".join(chunks) for name, chunks in streams.recorded()}
+    recorded = {name: b"".join(chunks) for name, chunks in streams.read_recorded()}
     for name in "vim", "tmux", "sixel", "malformed-text":
         assert output_of([forward], recorded[name]) == recorded[name]
     assert output_of([forward], b"a\x1b]52;c;" + b"YQ==" * 30000 + ST + b"b") == b"a\x1b\\b"

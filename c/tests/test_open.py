@@ -1,6 +1,6 @@
 """What is open, at each byte of vectors and of hostile streams."""
-from lib.generating.hostile_streams import hostile_stream
-from lib.generating.vectors import bytes_of, vectors
+from lib.generating.hostile_streams import make_hostile_stream
+from lib.generating.vectors import bytes_of, read_vectors
 from lib.judging.open_ends import open_at_end
 
 from calling import OSC, parsers
@@ -19,6 +19,7 @@ def test_prefixes(library):
                 assert slow.open() == fast.open() == open_at_end(stream[:end]), stream[:end]
                 slow.feed(stream[end:end + 1], kinds=0)
 
-    by_hand = [bytes_of(vector["pieces"]) for vector in vectors() if vector["kind"] == "events"]
-    hostile = [b"".join(hostile_stream(52, number)) for number in range(100)]
+    by_hand = [bytes_of(vector["pieces"]) for vector in read_vectors()
+               if vector["kind"] == "events"]
+    hostile = [b"".join(make_hostile_stream(52, number)) for number in range(100)]
     at_once(check_prefixes, [stream for stream in by_hand + hostile if len(stream) < 300])

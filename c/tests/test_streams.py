@@ -1,8 +1,8 @@
 """Vectors and streams, by the C programs: however a stream is cut, they write the same."""
 from lib.building import builder
-from lib.generating.hostile_streams import OF_TEXT, hostile_stream
-from lib.generating.streams import recorded
-from lib.generating.vectors import bytes_of, lines_of, vectors
+from lib.generating.hostile_streams import OF_TEXT, make_hostile_stream
+from lib.generating.streams import read_recorded
+from lib.generating.vectors import bytes_of, lines_of, read_vectors
 from lib.judging import definition, house
 
 from library import at_once, output_of
@@ -16,7 +16,7 @@ LONG_WAYS = [["long", *way[:2]] for way in WAYS]
 KINDS = {"32": ("osc",), "96": ("osc", "csi"), "86": ("execute", "hook", "unhook", "csi"),
          "1": ("print",), "28": ("hook", "put", "unhook")}
 LIMIT = 1024
-VECTORS = [(vector, bytes_of(vector["pieces"])) for vector in vectors()
+VECTORS = [(vector, bytes_of(vector["pieces"])) for vector in read_vectors()
            if vector["kind"] in ("events", "text") and vector["limit"] == LIMIT]
 # commands around their limits: the 17th piece isn't reported, but dropped if it has data
 SIXTEEN, MOST = b"a;" * 15 + b"b", b"a" * LIMIT
@@ -99,11 +99,11 @@ def all_streams(option):
     for name, is_long in ("vectors", False), ("long vectors", True):
         each = [stream for _, stream in VECTORS if (len(stream) > LIMIT) == is_long]
         yield name, b"\x18".join(each)
-    for name, chunks in recorded():
+    for name, chunks in read_recorded():
         yield name, b"".join(chunks)[:4_000 if option.short else None]
     count = option.streams or (400 if option.short else 20_000)
     for at in range(0, count, 200):
-        group = (b"".join(hostile_stream(option.seed, number, OF_TEXT))
+        group = (b"".join(make_hostile_stream(option.seed, number, OF_TEXT))
                  for number in range(at, min(at + 200, count)))
         yield f"random streams {at // 200}", b"\x18".join(group)
 

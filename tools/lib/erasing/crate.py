@@ -2,7 +2,7 @@
 from pathlib import PurePosixPath
 
 from lib.erasing import marks, passes
-from lib.erasing.imports import rename_paths, settle_imports, words_of_code
+from lib.erasing.imports import count_words, rename_paths, settle_imports
 from lib.erasing.rules import GENERAL, OLDER, apply
 from lib.erasing.source import Source
 from lib.erasing.tokens import Refused
@@ -32,10 +32,10 @@ def read_files(top, crate):
 def write_crate(plan, read_files):
     """The files of a crate, by path below its folder. `read_files` answers those of a Rattle crate,
     by their paths below its `src`."""
-    files, left, used = {"mod.rs": _root(plan)}, set(), set()
+    files, left, used = {"mod.rs": _write_root(plan)}, set(), set()
     for crate in plan.modules:
         # those that declare modules of tests, or without a form for cargo, come first
-        for path, text in sorted(read_files(crate).items(), key=_depth):
+        for path, text in sorted(read_files(crate).items(), key=_rank):
             name = f"{crate}/{PurePosixPath(path).with_suffix('')}"
             if left & {str(it) for it in PurePosixPath(name, "_").parents}:
                 continue
@@ -44,25 +44,25 @@ def write_crate(plan, read_files):
             except Refused as refused:
                 where = f"crates/{crate}/src/{path}:{refused.line or 1}"
                 raise Failure(f"{where}: {refused}") from None
-            files[target(name)] = MARK.format(origin=f"crates/{crate}/src/{path}") + erased
+            files[target_of(name)] = MARK.format(origin=f"crates/{crate}/src/{path}") + erased
             left |= its_left
             used |= its_used
-    if unused := {sought for sought, _ in plan.entries() - used}:
+    if unused := {sought for sought, _ in plan.list_entries() - used}:
         raise Failure(f"the plan has what no file needs: {', '.join(sorted(unused))}")
     return files
 
 
-def _depth(file):
+def _rank(file):
     return file[0] not in ("lib.rt", "main.rt"), file[0].count("/")
 
 
-def target(name):
+def target_of(name):
     """Where a file of crates/ is written."""
     crate, _, rest = name.partition("/")
     return f"{crate}/mod.rs" if rest in ("lib", "main") else f"{crate}/{rest}.rs"
 
 
-def _root(plan):
+def _write_root(plan):
     style = [STYLE.format(", ".join(plan.allowed_lints))] * bool(plan.allowed_lints)
     lines = [ROOT, *style, "\n"]
     for name in plan.modules:
@@ -79,7 +79,7 @@ def erase(text, crate, name, plan):
     replaced = marks.put_lines(source)
     passes.drop_ghosts(source)
     left = passes.sort_attributes(source)
-    before = words_of_code(source) + replaced
+    before = count_words(source) + replaced
     left |= marks.drop_lacking(source)
     marks.give_defaults(source)
     passes.derive_clones(source)

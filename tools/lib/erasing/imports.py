@@ -10,9 +10,9 @@ BY_HAND = ("adapter::", "prelude::")
 OF_CORE = {"cmp", "fmt", "iter", "marker", "mem", "ops", "str", "time"}
 
 
-def words_of_code(source):
+def count_words(source):
     """How often each word stands in a file outside its imports."""
-    imports = {index for at, end in source.items()
+    imports = {index for at, end in source.find_items()
                if source.is_word(source.skip_visibility(at), "use") for index in range(at, end)}
     return Counter(token.text for index, token in enumerate(source.tokens) if index not in imports)
 
@@ -35,12 +35,12 @@ def rename_root(source, at, path, crate, plan):
 
 def rename_paths(source, crate, plan):
     """Renames the roots of paths outside of imports. Links in docs stay."""
-    imports_str = any(path.endswith("std::str") for at, end in source.items()
+    imports_str = any(path.endswith("std::str") for at, end in source.find_items()
                       for _, path in find_imports(source, at, end))
     for at in reversed(range(len(source.tokens))):
         before = source.find_before(at)
         is_inner = source.is_sign(before, ":") and source.is_sign(before - 1, ":")
-        if source.kind(at) != WORD or source.words(at, 3)[1:] != [":", ":"] or is_inner \
+        if source.kind(at) != WORD or source.read_words(at, 3)[1:] != [":", ":"] or is_inner \
                 or source.is_word(before, "use"):
             continue
         if source.text(at) == "str" and not imports_str:
@@ -62,8 +62,8 @@ def find_imports(source, at, end):
 
 def settle_imports(source, crate, plan, before):
     """Imports of names that aren't used any more go; what is used now is imported from its home."""
-    used, known = words_of_code(source), set()
-    for at, end in source.items():
+    used, known = count_words(source), set()
+    for at, end in source.find_items():
         if not (names := find_imports(source, at, end)):
             continue
         paths = []
@@ -74,48 +74,48 @@ def settle_imports(source, crate, plan, before):
                 paths.append(plan.imports.get(path) or rename_root(source, at, path, crate, plan))
                 known.add(name)
         if paths:
-            source.replace(at, end, _lines(names[0][0], paths))
+            source.replace(at, end, _write_imports(names[0][0], paths))
         else:
             source.cut(source.find_attached(at), end)
-    needed = [it for it in plan.names() if it[0] not in known and _uses(source, it[0])]
+    needed = [it for it in plan.list_names() if it[0] not in known and _uses(source, it[0])]
     source.used.update(needed)
     homes = _join(source, [f"{home}::{name}" for name, home in needed])
     if homes:
-        *_, first = None, *(at for at, end in source.items() if find_imports(source, at, end))
+        *_, first = None, *(at for at, end in source.find_items() if find_imports(source, at, end))
         if first is None:
-            add_above(source, _lines("", homes))
+            add_above(source, _write_imports("", homes))
         else:
-            source.insert(source.find_attached(first), _lines("", homes) + "\n")
+            source.insert(source.find_attached(first), _write_imports("", homes) + "\n")
 
 
 def _join(source, homes):
     """Adds paths to the imports of their modules. Returns those whose modules have none."""
-    for at, end in source.items():
+    for at, end in source.find_items():
         names = find_imports(source, at, end)
         modules = {path.rpartition("::")[0] for visibility, path in names if not visibility}
         joined = [home for home in homes if home.rpartition("::")[0] in modules]
         # one with an attribute has a condition
         if joined and not source.is_sign(source.find_before(at), "]"):
-            source.replace(at, end, _lines("", [path for _, path in names] + joined))
+            source.replace(at, end, _write_imports("", [path for _, path in names] + joined))
             homes = [home for home in homes if home not in joined]
     return homes
 
 
 def _uses(source, name):
     """Whether a file uses a type or calls a function of another module."""
-    indices = source.indices(name)
+    indices = source.find_all(name)
     declaring = "fn", "struct", "trait", "enum"
     if any(source.is_word(source.find_before(at), *declaring) for at in indices):
         return False
     for at in indices:
         before, following = source.text(source.find_before(at)), source.text(source.find_after(at))
-        is_generic = following == ":" and source.words(at, 4)[3] == "<"
+        is_generic = following == ":" and source.read_words(at, 4)[3] == "<"
         if before != "." and (name[0].isupper() or following in ("(", "!") or is_generic):
             return True
     return False
 
 
-def _lines(visibility, paths):
+def _write_imports(visibility, paths):
     """The imports of these paths: one for each module."""
     groups = {}
     for path in paths:

@@ -18,7 +18,7 @@ LIKE_MARK = re.compile(r"//[/!]? *(?:[Pp]roof|[Cc]argo(?: \w+)?):")
 ITEMS = {"const", "enum", "fn", "impl", "mod", "static", "struct", "trait", "type", "use"}
 
 
-def _mark(source, at):
+def _read_mark(source, at):
     """The kind and the text of the mark at an index, or twice None."""
     text = source.text(at).rstrip()
     if source.kind(at) != COMMENT or not LIKE_MARK.match(text):
@@ -31,13 +31,13 @@ def _mark(source, at):
 def put_lines(source):
     """Takes out comments about proofs, and puts in the lines of marks. Returns how often each word
     stood in the lines that these replace."""
-    marks = {at: _mark(source, at) for at in range(len(source.tokens))}
+    marks = {at: _read_mark(source, at) for at in range(len(source.tokens))}
     replaced = Counter()
     for at, (kind, text) in reversed(marks.items()):
         if kind == "proof":
-            source.cut(at, _comment_end(source, at))
+            source.cut(at, _find_comment_end(source, at))
         if kind == "instead" and marks[at + 2][0] != "instead":
-            end = _line_end(source, at + 2)
+            end = _find_line_end(source, at + 2)
             replaced.update(token.text for token in source.tokens[at + 2:end + 1])
             del source.tokens[at + 1:end + 1]
         if kind == "adds" and text.endswith("! {"):
@@ -57,49 +57,49 @@ def _indent(source, first, last):
             source.tokens[at] = source.tokens[at]._replace(text=f"{source.text(at)}    ")
 
 
-def _line_end(source, at):
+def _find_line_end(source, at):
     end = at
     while source.kind(end + 1) and "\n" not in source.text(end + 1):
         end += 1
     return end
 
 
-def _comment_end(source, at):
+def _find_comment_end(source, at):
     while source.text(at + 1).count("\n") == 1 and source.text(at + 2).startswith("// ") \
-            and not _mark(source, at + 2)[0]:
+            and not _read_mark(source, at + 2)[0]:
         at += 2
     return at
 
 
-def item_below(source, at):
+def find_item_below(source, at):
     """The index of what follows a mark, after attributes."""
     at = source.find_after(at)
     while source.is_sign(at, "#"):
-        at = source.find_after(source.attribute_end(at))
+        at = source.find_after(source.find_attribute_end(at))
     return at
 
 
 def drop_lacking(source):
     """Takes out what cargo's form hasn't, which are laws too, and the exports of modules that it
     hasn't. Returns these modules."""
-    indices = [item_below(source, at) for at in range(len(source.tokens))
-              if _mark(source, at)[0] == "lacks"]
+    indices = [find_item_below(source, at) for at in range(len(source.tokens))
+              if _read_mark(source, at)[0] == "lacks"]
     modules = set()
-    for at in sorted(indices + source.indices("mod laws"), reverse=True):
+    for at in sorted(indices + source.find_all("mod laws"), reverse=True):
         word = source.skip_visibility(at)
         if source.is_word(word, "mod"):
             modules.add(source.text(source.find_after(word)))
-        source.cut(source.find_attached(source.find_visibility(at)), _end(source, word))
-    for at in (at for module in modules for at in source.indices(f"use {module}")):
+        source.cut(source.find_attached(source.find_visibility(at)), _find_end(source, word))
+    for at in (at for module in modules for at in source.find_all(f"use {module}")):
         start = source.find_visibility(at)
-        source.cut(source.find_attached(start), source.item_end(start))
+        source.cut(source.find_attached(start), source.find_item_end(start))
     return modules
 
 
-def _end(source, at):
+def _find_end(source, at):
     """The end of an item, a member or a statement."""
     if source.text(at) in ITEMS:
-        return source.item_end(at)
+        return source.find_item_end(at)
     while not source.is_sign(at, ",;"):
         at = source.match(at) + 1
     return at
@@ -108,11 +108,12 @@ def _end(source, at):
 def give_defaults(source):
     """Gives bodies to methods that needn't be implemented."""
     for at in reversed(range(len(source.tokens))):
-        if _mark(source, at)[0] != "defaults":
+        if _read_mark(source, at)[0] != "defaults":
             continue
-        start = item_below(source, at)
-        for index in range(source.item_end(start), start - 1, -1):
-            if source.is_word(index, "fn") and source.is_sign(end := source.item_end(index), ";"):
+        start = find_item_below(source, at)
+        for index in range(source.find_item_end(start), start - 1, -1):
+            if source.is_word(index, "fn") \
+                    and source.is_sign(end := source.find_item_end(index), ";"):
                 says_no = source.is_word(source.find_before(end), "bool")
                 source.replace(end, end, " {\nfalse\n}" if says_no else " {}")
         source.cut(at, at)

@@ -28,13 +28,13 @@ def sort_attributes(source):
     Returns the names of the modules of tests.
     """
     tests = set()
-    for at in source.indices("#[cfg(test)]"):
-        item = source.skip_visibility(source.find_after(source.attribute_end(at)))
+    for at in source.find_all("#[cfg(test)]"):
+        item = source.skip_visibility(source.find_after(source.find_attribute_end(at)))
         if source.is_word(item, "mod"):
             tests.add(source.text(source.find_after(item)))
-        source.cut(at, source.item_end(item))
-    for at in source.indices("#"):
-        if (end := source.attribute_end(at)) is None:
+        source.cut(at, source.find_item_end(item))
+    for at in source.find_all("#"):
+        if (end := source.find_attribute_end(at)) is None:
             continue
         name, *rest = [source.text(index) for index in range(at, end) if source.kind(index) == WORD]
         if name == "tactic" or "no_mangle" in rest:
@@ -63,31 +63,31 @@ def _derive(source, at, end, names):
 def derive_clones(source):
     """Clones can be refused memory in Rattle. Here they are derived: rustc copies the same fields,
     and those that are vectors have as much memory."""
-    for at in source.indices("Clone for"):
-        first, end = next((first, end) for first, end in source.items() if first < at < end)
+    for at in source.find_all("Clone for"):
+        first, end = next((first, end) for first, end in source.find_items() if first < at < end)
         name = source.text(source.find_after(source.find_after(at)))
         source.cut(source.find_attached(first), end)
-        for struct in source.indices(f"struct {name}"):
+        for struct in source.find_all(f"struct {name}"):
             source.insert(source.find_visibility(struct), "#[derive(Clone)]\n")
 
 
 def join_derives(source):
     """The derives of an item stand in one attribute."""
-    for at in source.indices("#[derive"):
+    for at in source.find_all("#[derive"):
         above = next((index for index in range(at - 1, source.find_attached(at) - 1, -1)
-                      if source.words(index, 3) == ["#", "[", "derive"]), None)
+                      if source.read_words(index, 3) == ["#", "[", "derive"]), None)
         if above is not None:
-            end = source.attribute_end(at)
+            end = source.find_attribute_end(at)
             names = source.text_between(at + 4, source.find_before(source.find_before(end)))
             source.cut(at, end)
-            source.insert(source.find_before(source.attribute_end(above)), f", {names}")
+            source.insert(source.find_before(source.find_attribute_end(above)), f", {names}")
 
 
 def inline(source):
     """The functions of an impl whose only parameter is the allocator, which goes, may still be
     inlined into other crates."""
-    for at in source.indices("impl<A: Allocator>"):
-        for index in range(source.item_end(at), at, -1):
+    for at in source.find_all("impl<A: Allocator>"):
+        for index in range(source.find_item_end(at), at, -1):
             before = source.find_before(index)
             start = source.find_visibility(before if source.is_word(before, "const") else index)
             is_generic = source.is_sign(source.find_after(source.find_after(index)), "<")
@@ -114,6 +114,6 @@ def complete_examples(source):
 
 def add_above(source, lines):
     """Puts lines above the first item."""
-    at = [*source.items()][-1][0]
+    at = [*source.find_items()][-1][0]
     is_apart = not source.is_word(source.skip_visibility(at), "use", "mod")
     source.insert(source.find_attached(at), lines + "\n" * (1 + is_apart))

@@ -11,7 +11,7 @@ from lib.erasing.tokens import COMMENT, split
 
 
 @lru_cache(maxsize=None)
-def _parts(pattern):
+def _split(pattern):
     """The parts of a pattern: pairs of a number of `$`, and a name or a text."""
     parts, count = [], 0
     for token in split(pattern):
@@ -26,7 +26,7 @@ def _parts(pattern):
 def find(source, at, pattern):
     """The last index of a pattern that begins at an index, and the texts of its names; None if it
     doesn't fit, or a comment would be lost."""
-    found = None if source.tokens[at].is_blank else _fit(source, at, _parts(pattern), {})
+    found = None if source.tokens[at].is_blank else _fit(source, at, _split(pattern), {})
     if found is None:
         return None
     end, indices = found
@@ -45,7 +45,7 @@ def _fit(source, at, parts, indices):
                 return None
             end, at = at, source.find_after(at)
         elif count == 1:
-            if (end := _element_end(source, at)) is None:
+            if (end := _find_element_end(source, at)) is None:
                 return None
             indices, at = {**indices, name: (at, end)}, source.find_after(end)
         else:
@@ -62,13 +62,13 @@ def _fit_run(source, at, parts, indices):
     while True:
         if found := _fit(source, at, rest, {**indices, name: (first, last)}):
             return found
-        end = _element_end(source, at)
+        end = _find_element_end(source, at)
         if end is None or count == 2 and source.is_sign(at, ";"):
             return None
         last, at = end, source.find_after(end)
 
 
-def _element_end(source, at):
+def _find_element_end(source, at):
     """The last index of one token, or of a bracket; None at the end of what is around it."""
     if source.kind(at) is None or source.is_sign(at, CLOSING):
         return None
@@ -81,7 +81,7 @@ def rewrite(source, pattern, by, holds=lambda names: True):
 
     An empty text takes out the comments above, too.
     """
-    count, ((is_name, first), *_) = 0, _parts(pattern)
+    count, ((is_name, first), *_) = 0, _split(pattern)
     indices = [at for at, token in enumerate(source.tokens) if is_name or token.text == first]
     for at in indices[::-1]:
         if (found := find(source, at, pattern)) and holds(found[1]):

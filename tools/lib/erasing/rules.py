@@ -33,19 +33,19 @@ OLDER = [
     ("$v$range.first_chunk::<$n>()", "first_chunk::<$n>(&$v$range)",
      lambda names: names["range"][0] == "["),
     ("$v.first_chunk::<$n>()", "first_chunk::<$n>($v)", lambda names: names["v"].isidentifier()),
-    ("let $v($$p) = $$e else { $$$body };", lambda names: _match(**names)),
-    ("$a..$b =>", lambda names: f"{names['a']}..={_before(names['b'])} =>",
+    ("let $v($$p) = $$e else { $$$body };", lambda names: _write_match(**names)),
+    ("$a..$b =>", lambda names: f"{names['a']}..={_decrement(names['b'])} =>",
      lambda names: names["b"][0].isdigit()),
 ]
 
 
-def _match(v, p, e, body):
+def _write_match(v, p, e, body):
     is_short = re.match(r"(return|break)\b", body)
     arm = f"{body.rstrip(' ;')}," if is_short else f"{{ {body} }}"
     return f"let {p} = match {e} {{\n{v}({p}) => {p},\n_ => {arm}\n}};"
 
 
-def _before(number):
+def _decrement(number):
     return hex(int(number, 0) - 1) if number.startswith("0x") else str(int(number, 0) - 1)
 
 

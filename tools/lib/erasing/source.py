@@ -12,7 +12,7 @@ class Source:
 
     def __init__(self, text):
         self.tokens = split(text)
-        self.used = set()  # the entries of the plan (Plan.entries) that were of use here
+        self.used = set()  # the entries of the plan (Plan.list_entries) that were of use here
 
     def text(self, at):
         return self.tokens[at].text if 0 <= at < len(self.tokens) else ""
@@ -48,7 +48,7 @@ class Source:
     def find_before(self, at):
         return self.find_solid(at - 1, -1)
 
-    def words(self, at, count):
+    def read_words(self, at, count):
         """The texts of the next `count` solid tokens."""
         texts = []
         for _ in range(count):
@@ -65,7 +65,7 @@ class Source:
                 return index
         return self.refuse("unclosed bracket", at)
 
-    def item_end(self, at):
+    def find_item_end(self, at):
         """The end of the item at an index: its `;`, or the brace that closes its block."""
         start, word = at, self.skip_visibility(at)
         has_block = self.text(self.find_after(word)) == "fn" or not self.is_word(
@@ -91,28 +91,28 @@ class Source:
             return self.find_before(self.match(before))
         return before if self.text(before) == "pub" else at
 
-    def attribute_end(self, at):
+    def find_attribute_end(self, at):
         """The `]` of the attribute at an index, or None if an item begins there."""
         bracket = self.find_after(at)
         if self.is_sign(bracket, "!"):
             bracket = self.find_after(bracket)
         return self.match(bracket) if self.is_sign(bracket, "[") else None
 
-    def items(self):
+    def find_items(self):
         """The first and last indices of the items at the top of the file, the last one first."""
         found, at = [], self.find_solid(0)
         while at < len(self.tokens):
-            if (end := self.attribute_end(at)) is None:
-                end = self.item_end(at)
+            if (end := self.find_attribute_end(at)) is None:
+                end = self.find_item_end(at)
                 found.append((at, end))
             at = self.find_after(end)
         return reversed(found)
 
-    def indices(self, front):
+    def find_all(self, front):
         """The indices of what begins with these words, the last one first."""
         wanted = [token.text for token in split(front) if not token.is_blank]
         found = [at for at, token in enumerate(self.tokens) if token.text == wanted[0]
-                 and self.words(at, len(wanted)) == wanted]
+                 and self.read_words(at, len(wanted)) == wanted]
         return found[::-1]
 
     def find_attached(self, at):

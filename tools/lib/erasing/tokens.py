@@ -52,7 +52,7 @@ def split(text):
     tokens, at, line = [], 0, 1
     while at < len(text):
         try:
-            kind, end = _token_at(text, at)
+            kind, end = _read_token(text, at)
         except Refused as refused:
             raise Refused(str(refused), line) from None
         tokens.append(Token(kind, text[at:end], line))
@@ -61,7 +61,7 @@ def split(text):
     return tokens
 
 
-def _token_at(text, at):
+def _read_token(text, at):
     """The kind and the end of the token at an index."""
     if text.startswith("/*", at):
         raise Refused("a comment of several lines")
@@ -71,13 +71,13 @@ def _token_at(text, at):
         raise Refused(f"unclosed quote: {found[0]}")
     if kind == WORD and found[0] == "ghost":
         value = GHOST_VALUE.match(text, at)
-        return (CLAUSE, value.end()) if value else (GHOST, _ghost_end(text, found.end(), ";,"))
+        return (CLAUSE, value.end()) if value else (GHOST, _find_ghost_end(text, found.end(), ";,"))
     if kind == WORD and found[0] in ("requires", "ensures"):
-        return CLAUSE, _ghost_end(text, found.end(), "}")
+        return CLAUSE, _find_ghost_end(text, found.end(), "}")
     return kind, found.end()
 
 
-def _ghost_end(text, at, stops):
+def _find_ghost_end(text, at, stops):
     """Where ghost text ends: after one of `stops` outside braces. It isn't Rust, so only its
     braces, strings and comments are looked at."""
     depth = 0

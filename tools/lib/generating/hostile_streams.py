@@ -171,7 +171,7 @@ OF_TEXT = {TEXT: 6, CONTROL: 2, CANCELS: 1, CHARACTER: 6, BROKEN: 10, FAULT: 4, 
 
 # ---- streams and their chunks
 
-def hostile_stream(seed, index, weights=PARTS):
+def make_hostile_stream(seed, index, weights=PARTS):
     """The chunks of the stream of this number, whose kinds of parts have these weights."""
     chance = random.Random(f"hostile {seed}/{index}")
     size = chance.random()
@@ -183,7 +183,7 @@ def hostile_stream(seed, index, weights=PARTS):
     stream = b"".join(make_part(chance, part) for part in parts)
     if chance.random() < 0.15:
         stream = damage(chance, stream)
-    return cut_at(stream, places_of_cuts(chance, stream))
+    return cut_at(stream, choose_cuts(chance, stream))
 
 
 def damage(chance, stream):
@@ -196,7 +196,7 @@ def damage(chance, stream):
     return stream
 
 
-def places_of_cuts(chance, stream):
+def choose_cuts(chance, stream):
     every = range(len(stream) + 1)
     likely = [at + 1 for at, byte in enumerate(stream) if byte in b"\x1b[]P?;:" or byte >= 0x80]
     choices = [places for places in (every, likely, likely) if places]

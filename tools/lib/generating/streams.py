@@ -19,19 +19,19 @@ WORDS = ("the of terminal stream parser escape sequence cursor colour screen buf
 DIGITS = b"ABCDEFGHIJKLMNOPQRSTUVWXYZabcdefghijklmnopqrstuvwxyz0123456789+/"
 
 
-def characters(*ranges):
+def list_characters(*ranges):
     return [chr(code) for codes in ranges for code in codes]
 
 
-CJK = characters(range(0x4E00, 0x9FA0, 7))
-CYRILLIC = characters(range(0x410, 0x450))
-EMOJI = characters(range(0x1F300, 0x1F650), range(0x1F680, 0x1F6D0), range(0x1F900, 0x1FA00))
+CJK = list_characters(range(0x4E00, 0x9FA0, 7))
+CYRILLIC = list_characters(range(0x410, 0x450))
+EMOJI = list_characters(range(0x1F300, 0x1F650), range(0x1F680, 0x1F6D0), range(0x1F900, 0x1FA00))
 LATIN = list("abcdefghijklmnopqrstuvwxyz      " * 3 + "äöüßéèàñ")
 
 
 # ---- helpers: each makes one part
 
-def words(chance, shortest, longest):
+def pick_words(chance, shortest, longest):
     length = chance.randint(shortest, longest)
     return " ".join(chance.choice(WORDS) for _ in range(length // 5 + 1))[:length].encode()
 
@@ -40,28 +40,28 @@ def pick(chance, choices, count):
     return "".join(chance.choice(choices) for _ in range(count))
 
 
-def base64(chance, count):
+def pick_base64(chance, count):
     return bytes(chance.choices(DIGITS, k=count))
 
 
 # ---- text
 
-def script(choices, end):
-    def line(chance):
+def make_script(choices, end):
+    def make_line(chance):
         text = pick(chance, choices, chance.randint(10, 40)) + end
         return (text + "\r\n" if chance.random() < 0.3 else text).encode()
-    return line
+    return make_line
 
 
 def make_western(letters, encoding):
-    def line(chance):
+    def make_line(chance):
         return (pick(chance, letters, chance.randint(30, 100)) + "\r\n").encode(encoding)
-    return line
+    return make_line
 
 
 # ---- colours and the cursor
 
-def ls_color(chance):
+def make_ls_color(chance):
     """As `ls -lR --color` writes."""
     kinds = [("01;34", ""), ("01;32", ""), ("01;36", " -> \x1b[0m\x1b[01;34mtarget\x1b[0m"),
              ("01;31", ".gz"), ("01;35", ".png"), (None, ".txt"), (None, ".c")]
@@ -78,7 +78,7 @@ def ls_color(chance):
     return "".join(lines).encode()
 
 
-def coloured_line(chance):
+def make_coloured_line(chance):
     """Text with a colour or an attribute at each second word."""
     attributes = [0, 1, 3, 4, 7, 22, 24, 27, 31, 32, 33, 34, 35, 36, 39, 42, 49, 91, 97]
     line = [b"\x1b[%dm" % chance.choice(attributes) * (chance.random() < 0.5)
@@ -86,7 +86,7 @@ def coloured_line(chance):
     return b"".join(line) + b"\r\n"
 
 
-def dense_cells():
+def make_dense_cells():
     """Cells, each with two colours of 256, bold, italic and underlined."""
     for shift in itertools.count():
         for letter in range(0x41, 0x5B):
@@ -97,7 +97,7 @@ def dense_cells():
                 for colour in colours)
 
 
-def cursor(chance):
+def make_cursor(chance):
     """Motions and erasures of all kinds, as full-screen programs write."""
     others = [b"\x1b7", b"\x1b8", b"\x1bM", b"\x1b(0", b"\x1b(B", b"\x0e", b"\x0f", b"\x08", b"\t",
               b"\r\n", b"\x1b[?25l", b"\x1b[?25h", b"\x1b[?7l", b"\x1b[?1049h"]
@@ -106,20 +106,21 @@ def cursor(chance):
         numbers = [b"", b"%d" % chance.randint(0, 99),
                    b"%d;%d" % (chance.randint(1, 50), chance.randint(1, 132))]
         return b"\x1b[%s%c" % (chance.choice(numbers), chance.choice(b"ABCDEFGdGHfJKLMPSTX@`ae"))
-    return chance.choice(others) if kind < 0.7 else words(chance, 1, 20)
+    return chance.choice(others) if kind < 0.7 else pick_words(chance, 1, 20)
 
 
 # ---- strings
 
-def osc_title(chance):
+def make_osc_title(chance):
     """Window titles, ended by BEL or ST, and a little text between them."""
     end = chance.choice([b"\x07", b"\x1b\\"])
-    return b"\x1b]%d;%s%s" % (chance.randrange(3), words(chance, 5, 60), end) + words(chance, 1, 30)
+    title = b"\x1b]%d;%s%s" % (chance.randrange(3), pick_words(chance, 5, 60), end)
+    return title + pick_words(chance, 1, 30)
 
 
-def sixel(chance):
+def make_sixel(chance):
     """Sixel images of some 30 kB."""
-    def band():
+    def make_band():
         runs = [b"!%d%c" % (chance.randint(2, 90), chance.randrange(63, 127))
                 if chance.random() < 0.5
                 else bytes(chance.choices(range(63, 127), k=chance.randint(1, 20)))
@@ -128,7 +129,7 @@ def sixel(chance):
 
     colours = [b"#%d;2;%d;%d;%d" % (index, *chance.choices(range(101), k=3))
                for index in range(16)]
-    lines = [b"".join(band() for _ in range(6)) + b"-\n" for _ in range(40)]
+    lines = [b"".join(make_band() for _ in range(6)) + b"-\n" for _ in range(40)]
     return b'\x1bP0;1;8q"1;1;400;240' + b"".join([*colours, *lines]) + b"\x1b\\\r\n"
 
 
@@ -136,21 +137,22 @@ def sixel(chance):
 
 # what makes a part, over and over
 PARTS = {
-    "ascii": lambda chance: words(chance, 20, 120) + b"\r\n",
+    "ascii": lambda chance: pick_words(chance, 20, 120) + b"\r\n",
     # one letter in thirteen is above ASCII, with typographic quotes and dashes
     "prose": make_western([*LATIN, "\u2019", "\u2013"], "utf-8"),
     # one byte in thirteen is malformed UTF-8
     "latin1": make_western(LATIN, "latin-1"),
-    "cjk": script(CJK, ""), "cyrillic": script(CYRILLIC, " "), "emoji": script(EMOJI, ""),
-    "ls_color": ls_color, "coloured": coloured_line, "cursor": cursor,
+    "cjk": make_script(CJK, ""), "cyrillic": make_script(CYRILLIC, " "),
+    "emoji": make_script(EMOJI, ""),
+    "ls_color": make_ls_color, "coloured": make_coloured_line, "cursor": make_cursor,
     "updates": lambda chance: b"\x1b[?2026h\x1b[H%b\x1b[?2026l" % b"".join(
-        coloured_line(chance) for _ in range(ROWS)),
-    "osc_title": osc_title,
+        make_coloured_line(chance) for _ in range(ROWS)),
+    "osc_title": make_osc_title,
     # more than a parser with a limit keeps
-    "osc_clipboard": lambda chance: b"\x1b]52;c;%b\x07text\r\n" % base64(chance, 65536),
-    "sixel": sixel,
+    "osc_clipboard": lambda chance: b"\x1b]52;c;%b\x07text\r\n" % pick_base64(chance, 65536),
+    "sixel": make_sixel,
     # strings that mean nothing, as Kitty's images
-    "ignored": lambda chance: b"\x1b_Gm=1;%b\x1b\\" % base64(chance, 4096),
+    "ignored": lambda chance: b"\x1b_Gm=1;%b\x1b\\" % pick_base64(chance, 4096),
     "random": lambda chance: chance.randbytes(4096),
 }
 # a beginning, and what follows over and over
@@ -170,7 +172,7 @@ def parts_of(name):
     if name in PARTS:
         return iter(partial(PARTS[name], random.Random(name)), None)
     if name == "dense_cells":
-        return dense_cells()
+        return make_dense_cells()
     start, unit = REPEATED[name]
     return itertools.chain([start], itertools.repeat(unit * (8192 // len(unit) + 1)))
 
@@ -182,7 +184,7 @@ def generate(name, size):
     return bytes(made[:PERIOD] * (size // PERIOD + 1))[:size]
 
 
-def recorded():
+def read_recorded():
     """Streams that real programs wrote: each with its name and the chunks that it came in. The
     archive has a file for each, and their lengths in pieces.json."""
     with tarfile.open(Path(__file__).with_name("recorded.tar.xz")) as archive:

@@ -7,15 +7,15 @@ from pathlib import Path
 from lib.files import TOP
 
 
-def vectors():
+def read_vectors():
     for name in ("events", "calls"):
         file = json.loads((TOP / "vectors" / f"{name}.json").read_text())
         yield from file["vectors"] + file["long"]
 
 
-def all_vectors():
+def read_all_vectors():
     private = Path(__file__).with_name("private_vectors.json")
-    return [*vectors(), *json.loads(private.read_text())]
+    return [*read_vectors(), *json.loads(private.read_text())]
 
 
 def chunks_of(vector):
@@ -25,17 +25,17 @@ def chunks_of(vector):
     return [bytes_of(chunk) for chunk in chunks if chunk] or [b""]
 
 
-def parts(value):
+def parts_of(value):
     """The (text, times) parts of bytes in hex, of a line, or of lists of these."""
     if isinstance(value, str):
         return [(value, 1)]
     if isinstance(value, dict):
-        return parts(value["line"]) if "line" in value else [(value["repeat"], value["times"])]
-    return [part for item in value for part in parts(item)]
+        return parts_of(value["line"]) if "line" in value else [(value["repeat"], value["times"])]
+    return [part for item in value for part in parts_of(item)]
 
 
 def bytes_of(value):
-    return b"".join(bytes.fromhex(text) * times for text, times in parts(value))
+    return b"".join(bytes.fromhex(text) * times for text, times in parts_of(value))
 
 
 def lines_of(values):
@@ -45,7 +45,7 @@ def lines_of(values):
         if isinstance(value, dict) and "repeat" in value:
             lines += [value["repeat"]] * value["times"]
         else:
-            lines.append("".join(text * times for text, times in parts(value)))
+            lines.append("".join(text * times for text, times in parts_of(value)))
     return lines
 
 

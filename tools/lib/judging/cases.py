@@ -3,10 +3,10 @@
 import random
 from typing import NamedTuple
 
-from lib.generating.hostile_streams import OF_TEXT, hostile_stream
+from lib.generating.hostile_streams import OF_TEXT, make_hostile_stream
 from lib.generating.random_text import cut_at_random
-from lib.generating.vectors import chunks_of, vectors
-from lib.generating.streams import recorded
+from lib.generating.vectors import chunks_of, read_vectors
+from lib.generating.streams import read_recorded
 
 SOURCES = ("vectors", "random", "recorded")
 
@@ -20,14 +20,14 @@ class Case(NamedTuple):
 
 def from_vectors():
     """The streams of all vectors but those of texts, which are no streams."""
-    for vector in vectors():
+    for vector in read_vectors():
         if "text" not in vector or "pieces" in vector:
             yield Case(f"vector {vector['id']}", chunks_of(vector))
 
 
 def from_recordings(seed):
     """Recorded streams: as they came, and in random chunks."""
-    for name, chunks in recorded():
+    for name, chunks in read_recorded():
         yield Case(f"recorded stream {name}", chunks)
         chance = random.Random(f"recorded/{seed}/{name}")
         share = chance.choice([0.003, 0.03, 0.3])
@@ -41,9 +41,9 @@ def from_generators(seed, count):
     for number in range(count):
         if number % 2:
             yield Case(f"stream {number} of seed {seed}, mostly text",
-                       hostile_stream(f"text/{seed}", number, OF_TEXT))
+                       make_hostile_stream(f"text/{seed}", number, OF_TEXT))
         else:
-            yield Case(f"stream {number} of seed {seed}", hostile_stream(seed, number))
+            yield Case(f"stream {number} of seed {seed}", make_hostile_stream(seed, number))
 
 
 def all_cases(sources, seed, count):

@@ -1,7 +1,7 @@
 """What is open, at each byte of vectors and of hostile streams."""
 from lib.generating.hostile_streams import make_hostile_stream
 from lib.generating.vectors import bytes_of, read_vectors
-from lib.judging.open_ends import open_at_end
+from lib.judging.open_ends import find_open_end
 
 from calling import OSC, parsers
 from library import at_once
@@ -16,7 +16,7 @@ def test_prefixes(library):
                 rest = stream[:end]
                 while rest:
                     rest = rest[fast.feed(rest, kinds=1 << OSC)[0]:]
-                assert slow.open() == fast.open() == open_at_end(stream[:end]), stream[:end]
+                assert slow.open() == fast.open() == find_open_end(stream[:end]), stream[:end]
                 slow.feed(stream[end:end + 1], kinds=0)
 
     by_hand = [bytes_of(vector["pieces"]) for vector in read_vectors()

@@ -37,7 +37,7 @@ class Time:
             self.is_over, self.candidate.deadline = True, self.end + GRACE
             return None
 
-    def batches(self, cases):
+    def make_batches(self, cases):
         """The cases in batches: of few at first, and then of more as long as they take little
         time. Raises OutOfTime if the time is over and cases are left."""
         cases, size = iter(cases), 2

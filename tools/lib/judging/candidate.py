@@ -101,7 +101,7 @@ class Program:
         self.guard.stdin.close()
         self.guard.wait()
 
-    def answers(self, cases):
+    def answer_all(self, cases):
         """The lines for each case, a list of chunks. New processes get them: one each, or all if
         they are framed."""
         if not self.takes_chunks:
@@ -109,13 +109,13 @@ class Program:
         answers = []
         while len(answers) < len(cases):
             batch = cases[len(answers):len(answers) + self.for_one_process]
-            answers += self.answers_of_process(batch)
+            answers += self.answer_in_process(batch)
         return answers
 
     def answer_aloud(self, chunks):
         """Gives a stream to a process whose standard error is shown."""
         self.how["stderr"] = None
-        self.answers([chunks])
+        self.answer_all([chunks])
 
     def answer(self, chunks):
         """What a process prints until it ends."""
@@ -129,7 +129,7 @@ class Program:
                 mark = str(broken)
         return answer_of(output, mark)
 
-    def answers_of_process(self, cases):
+    def answer_in_process(self, cases):
         """The answers up to the one at which a process ends or stops, if it does."""
         # it begins with the line feed before the next answer
         answers, output = [], bytearray(b"\n")
@@ -137,7 +137,7 @@ class Program:
             try:
                 while len(answers) < len(cases):
                     until = time.monotonic() + self.timeout
-                    answers.append(self.next_answer(process, output, until))
+                    answers.append(self.read_answer(process, output, until))
             except Broken as broken:
                 mark = str(broken)
                 if mark == EXIT and output == b"\n" and answers:
@@ -150,7 +150,7 @@ class Program:
                 answers[-1].append("(protocol: it prints more than it was asked for)")
         return answers
 
-    def next_answer(self, process, output, until):
+    def read_answer(self, process, output, until):
         searched = 0
         while True:
             position = output.find(b"\nend\n", searched)
@@ -205,7 +205,7 @@ class Program:
                 raise OutOfTime
             if now >= until:
                 raise Broken(HANG)
-            if used_memory(process) > self.memory << 20:
+            if measure_memory(process) > self.memory << 20:
                 raise Broken(f"(memory: more than {self.memory} MiB)")
             if len(output) > MAX_OUTPUT:
                 raise Broken(f"(output: more than {MAX_OUTPUT >> 20} MiB)")
@@ -228,7 +228,7 @@ class Program:
                          else f"(crash: status {status})")
 
 
-def used_memory(process):
+def measure_memory(process):
     """The bytes of memory that a process uses, where the system shows them in /proc."""
     try:
         with open(f"/proc/{process.pid}/statm", "rb") as file:

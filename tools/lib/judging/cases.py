@@ -18,14 +18,14 @@ class Case(NamedTuple):
     chunks: list
 
 
-def from_vectors():
+def read_vector_cases():
     """The streams of all vectors but those of texts, which are no streams."""
     for vector in read_vectors():
         if "text" not in vector or "pieces" in vector:
             yield Case(f"vector {vector['id']}", chunks_of(vector))
 
 
-def from_recordings(seed):
+def read_recorded_cases(seed):
     """Recorded streams: as they came, and in random chunks."""
     for name, chunks in read_recorded():
         yield Case(f"recorded stream {name}", chunks)
@@ -35,7 +35,7 @@ def from_recordings(seed):
         yield Case(f"recorded stream {name} in random chunks", cut)
 
 
-def from_generators(seed, count):
+def make_random_cases(seed, count):
     """Hostile streams, of all and mostly of text, in turn. One depends on the seed and its number.
     """
     for number in range(count):
@@ -46,11 +46,11 @@ def from_generators(seed, count):
             yield Case(f"stream {number} of seed {seed}", make_hostile_stream(seed, number))
 
 
-def all_cases(sources, seed, count):
+def make_cases(sources, seed, count):
     """The cases of these sources, the short ones first."""
     if "vectors" in sources:
-        yield from from_vectors()
+        yield from read_vector_cases()
     if "random" in sources:
-        yield from from_generators(seed, count)
+        yield from make_random_cases(seed, count)
     if "recorded" in sources:
-        yield from from_recordings(seed)
+        yield from read_recorded_cases(seed)

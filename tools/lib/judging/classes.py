@@ -74,7 +74,7 @@ def find_needed_rule(chunks, depends_on_cut, same, kind, house, but=()):
 
 def find_cut_rule(steps, cuts, kind):
     """The name of the rule about what cuts divide."""
-    divided = {name for index in steps_at_cuts(steps, cuts).values() if index is not None
+    divided = {name for index in find_steps_at_cuts(steps, cuts).values() if index is not None
                for name in steps[index].rules if name in ORDER and is_about(name, kind)}
     return CUT_PREFIX + find_most_special(divided) if divided else BETWEEN
 
@@ -94,7 +94,7 @@ def is_about(rule, kind):
     return kind not in DATA or rule not in ENDS
 
 
-def steps_at_cuts(steps, cuts):
+def find_steps_at_cuts(steps, cuts):
     """For each cut the index of the step that it divides. What is malformed or unfinished is found
     to be so after its end."""
     found = dict.fromkeys(cuts)
@@ -109,7 +109,7 @@ def find_nearest(chunks, same, rules, house):
     """Of the rules that occur in a case, the one that comes last before a position in its lines,
     the most special one of several; and all rules of that step."""
     steps = steps_of(b"".join(chunks), house)
-    divided = set(steps_at_cuts(steps, cuts_of(chunks)).values())
+    divided = set(find_steps_at_cuts(steps, cuts_of(chunks)).values())
     line, best, of_step = 0, (-1, -1, min(rules)), rules
     for index, step in enumerate(steps):
         names = {name.replace(NEAR, "") for name in step.rules}
@@ -142,7 +142,7 @@ def free_case(chunks, rules, house):
 def find_unwanted_cuts(steps, cuts, rules):
     """The cuts that divide what these rules are about, if they are about cuts."""
     divided = {name[len(CUT_PREFIX):] for name in rules if name.startswith(CUT_PREFIX)}
-    return {cut for cut, index in steps_at_cuts(steps, cuts if divided else []).items()
+    return {cut for cut, index in find_steps_at_cuts(steps, cuts if divided else []).items()
             if (BETWEEN in rules if index is None else divided.intersection(steps[index].rules))}
 
 

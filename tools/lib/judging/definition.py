@@ -47,10 +47,10 @@ def segment_at(text, position, house):
     if first < "\x80" or house.encoding == "bytes":
         return first, True
     segment = SEGMENT.match(text, position)[0]
-    return segment, len(segment) == length_by(first)
+    return segment, len(segment) == expect_length(first)
 
 
-def length_by(first):
+def expect_length(first):
     """The length of a character as far as its first byte gives it alone."""
     return 2 + (first >= "\xe0") + (first >= "\xf0")
 
@@ -132,7 +132,7 @@ class Reader:
         end = start + len(segment)
         begun = "\xc2" <= segment[0] <= "\xf4"
         # whether its bytes are those of a character but for their values
-        length = length_by(segment)
+        length = expect_length(segment)
         is_formed = "\xc0" <= segment[0] < "\xf8" and re.fullmatch(
             f"[\x80-\xbf]{{{length - 1}}}", self.text[start + 1:start + length])
         is_cut_short = begun and self.character_at(end) in ("", ESC, *ENDS)
@@ -210,7 +210,7 @@ class Reader:
                  "numbers": too_many or len(numbers) > 32, "many-intermediates": len(collected) > 2,
                  NEAR + "largest": max(map(len, numbers)) > 2, NEAR + "numbers": len(numbers) > 2}
         ignore = str(len(collected) > 2 or too_many).lower()
-        line = (f"{method} [{shown_groups(parameters, house)}] {hex_of(collected[:2])} {ignore} "
+        line = (f"{method} [{show_groups(parameters, house)}] {hex_of(collected[:2])} {ignore} "
                 f"{hex_of(self.text[final])}")
         return [rule, *filter(rules.get, rules)], [line]
 
@@ -258,15 +258,15 @@ class Reader:
         self.is_open = last == ESC
 
     def read_system_command(self, escape, key):
-        stop = self.find_first(command_ends(self.house), key + 1)
+        stop = self.find_first(ends_of_command(self.house), key + 1)
         self.drop_command_controls(key + 1, stop)
         items, last = re.sub("[\0-\x1f]", "", self.text[key + 1:stop]), self.character_at(stop)
         of_bytes = {"byte-9c": ST in items + last, "command-bytes": re.search("[\x7f-\xff]", items)}
         if not last:
             return self.add(["command", *filter(of_bytes.get, of_bytes)], escape, stop)
         is_cut_short = self.character_at(stop + 1) != "\\" if last == ESC else last in ENDS
-        kept, pieces = command_pieces(items, self.house)
-        rules = {**size_rules(items, kept, pieces, self.house), **of_bytes,
+        kept, pieces = split_command(items, self.house)
+        rules = {**find_size_rules(items, kept, pieces, self.house), **of_bytes,
                  "command-bell": last == BEL, "empty-command": not items,
                  "command-cut-short": is_cut_short}
         lines, end = [], stop if last == ESC else stop + 1
@@ -290,7 +290,7 @@ def number_of(digits, largest):
     return digits if is_kept else most
 
 
-def shown_groups(parameters, house):
+def show_groups(parameters, house):
     """The groups of a parameter text, as a line shows them."""
     text = parameters if house.colon == "joins" else parameters.replace(":", ";")
     parts = re.split("([:;])", text)
@@ -299,7 +299,7 @@ def shown_groups(parameters, house):
                    for index, part in enumerate(parts[:kept]))
 
 
-def command_pieces(items, house):
+def split_command(items, house):
     """How many of the items of a command are kept, and their pieces."""
     counts = accumulate((item != ";" for item in items), initial=0)
     kept = "".join(item for item, count in zip(items, counts)
@@ -307,12 +307,12 @@ def command_pieces(items, house):
     return len(kept), kept.split(";")
 
 
-def command_ends(house):
+def ends_of_command(house):
     """What ends a command, besides ESC, CAN and SUB."""
     return (BEL if house.bell == "ends" else "") + (ST if house.command_9c == "ends" else "")
 
 
-def size_rules(items, kept, pieces, house):
+def find_size_rules(items, kept, pieces, house):
     """The rules about how long a command is, and whether each is at work."""
     data = len(items) - items.count(";")
     most = 16 if house.pieces is None else min(house.pieces, 16)

@@ -4,16 +4,16 @@ from xml.etree import ElementTree
 
 from lib.judging.candidate import escape_controls, mark_of
 from lib.judging.classes import BETWEEN, level_of, rule_of
-from lib.judging.report import shown_case, shown_finding
+from lib.judging.report import show_case, show_finding
 from lib.judging.rules import ALONE, CUT, RULES
 
 TESTS = {**RULES, **ALONE, BETWEEN: CUT}
 
 
-def finding_object(finding, again):
+def object_of(finding, again):
     rule = rule_of(finding.name)[-1]
     chunks, reference, candidate, before = finding.difference
-    case = shown_case(finding.difference)
+    case = show_case(finding.difference)
     first = "first" if finding.name == "not-deterministic" else "reference"
     return {"class": finding.name, "rule": finding.rule,
             "kind": mark_of(candidate) or finding.name.partition("/")[2],
@@ -25,20 +25,20 @@ def finding_object(finding, again):
             "smallest": finding.is_smallest, "streams": finding.streams, "new": finding.is_new}
 
 
-def as_json(result, seed, again):
-    findings = [finding_object(finding, again) for finding in result.findings.values()]
+def format_json(result, seed, again):
+    findings = [object_of(finding, again) for finding in result.findings.values()]
     return json.dumps({"version": 2, "seed": seed, "streams": result.streams,
                        "different": result.different, "unassigned": result.unexplained_count,
                        "ended_early": result.ended_early or None, "new": len(result.find_new()),
                        "findings": findings}, indent=1)
 
 
-def tests(result, again):
+def list_tests(result, again):
     """The name of each test, whether it is new that it fails, and what is reported if it does."""
     for name, rule in TESTS.items():
         found = [it for it in result.findings.values() if rule_of(it.name)[-1] is rule]
         found.sort(key=lambda finding: not finding.is_new)
-        report = "\n\n".join(shown_finding(finding, again) for finding in found)
+        report = "\n\n".join(show_finding(finding, again) for finding in found)
         yield name, bool(found and found[0].is_new), report
     left = result.unexplained_count
     yield "each difference has a class", left > 0, f"{left} streams have none" * (left > 0)
@@ -46,9 +46,9 @@ def tests(result, again):
     yield "all streams are judged", is_partial, f"{result.streams} were" * is_partial
 
 
-def as_junit(result, seed, again):
+def format_junit(result, seed, again):
     suite = ElementTree.Element("testsuite", name=f"judge, seed {escape_controls(seed)}")
-    for name, is_new, report in tests(result, again):
+    for name, is_new, report in list_tests(result, again):
         case = ElementTree.SubElement(suite, "testcase", classname="judge", name=name)
         if report:
             message = report.splitlines()[0] if is_new else "known"
@@ -62,4 +62,4 @@ def as_junit(result, seed, again):
     return f'<?xml version="1.0" encoding="UTF-8"?>\n{text}'
 
 
-FORMATS = {"json": as_json, "junit": as_junit}
+FORMATS = {"json": format_json, "junit": format_junit}

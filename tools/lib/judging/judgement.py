@@ -54,8 +54,8 @@ class Judgement:
         """The number of streams that differ and have no class."""
         return self.different - sum(finding.streams for finding in self.findings.values())
 
-    def rules(self):
-        """The rules of the classes found so far."""
+    def list_rules(self):
+        """Lists the rules of the classes found so far."""
         rules = {finding.rule for finding in self.findings.values()} - ALONE.keys()
         return rules | {NEAR + name for name in rules}
 
@@ -93,7 +93,7 @@ class Judge:
         """Judges cases until there are none left or the time is over."""
         try:
             if self.probe(Case("the first stream", [b"a"])):
-                for batch in self.time.batches(cases):
+                for batch in self.time.make_batches(cases):
                     self.judge_batch(batch)
         except OutOfTime:
             self.result.ended_early = OUT_OF_TIME
@@ -102,7 +102,7 @@ class Judge:
 
     def probe(self, case):
         """Whether the program answers at all."""
-        reference, answer = self.sides.answers([case.chunks])[0]
+        reference, answer = self.sides.answer_all([case.chunks])[0]
         kind = mark_of(answer)
         if kind:
             self.candidate.answer_aloud(case.chunks)
@@ -115,19 +115,19 @@ class Judge:
     def judge_case(self, streams):
         """Judges the last of some streams, which one process reads, and returns both answers."""
         *before, chunks = [free_case(chunks, self.left_out, self.house) for chunks in streams]
-        reference, answer = self.sides.last_answers([*before, chunks])
+        reference, answer = self.sides.answer_last([*before, chunks])
         self.result.streams, self.result.different = 1, int(reference != answer)
         if reference != answer:
             case, difference = Case("--case", chunks), Difference(chunks, reference, answer, before)
             if repeated := self.confirm(case, difference, MORE_TRIES):
-                self.add(self.class_of(repeated), repeated, case)
+                self.add(self.find_class(repeated), repeated, case)
         return reference, answer
 
     def judge_batch(self, batch):
         """Judges cases at once, and examines what differs."""
         streams = [free_case(case.chunks, self.left_out, self.house) for case in batch]
         differing = []
-        for index, (reference, answer) in enumerate(self.sides.answers(streams)):
+        for index, (reference, answer) in enumerate(self.sides.answer_all(streams)):
             if reference != answer:
                 before = streams[:index] if self.candidate.takes_chunks else []
                 difference = Difference(streams[index], reference, answer, before)
@@ -148,15 +148,15 @@ class Judge:
     # ---- what is found so far
 
     def list_excluded(self, but=frozenset()):
-        return (self.result.rules() - but) | self.left_out
+        return (self.result.list_rules() - but) | self.left_out
 
     def find_explained(self, differing):
         """Whether each case no longer differs without the rules of the classes found so far."""
-        rules = self.result.rules()
+        rules = self.result.list_rules()
         if not rules:
             return [False] * len(differing)
         rests = [free_case(difference.chunks, rules, self.house) for difference in differing]
-        return [one == other for one, other in self.sides.answers(rests)]
+        return [one == other for one, other in self.sides.answer_all(rests)]
 
     def add(self, name, difference, case, is_smallest=True):
         is_new = name not in self.known and name.partition("/")[0] not in self.known
@@ -172,10 +172,10 @@ class Judge:
         if mark_of(difference.candidate) == PROTOCOL and self.result.count(PROTOCOL):
             return
         before, excluded = self.result.unexplained_count, self.list_excluded()
-        rest = not is_explained and self.sides.rest_without(difference, excluded)
+        rest = not is_explained and self.sides.find_rest_without(difference, excluded)
         if rest and self.patience.is_left():
             self.report_shrunk(case, rest, excluded)
-        rules = self.result.rules()
+        rules = self.result.list_rules()
         positions = differences_of(*difference[1:3]) if rules else []
         signatures = [(*find_nearest(difference.chunks, position, rules, self.house), kind)
                       for position, kind in positions]
@@ -187,7 +187,7 @@ class Judge:
             if is_known or not self.patience.is_left_for(rule, kind):
                 continue
             excluded = self.list_excluded(of_step)
-            if rest := self.sides.rest_without(difference, excluded, kind):
+            if rest := self.sides.find_rest_without(difference, excluded, kind):
                 self.patience.tries[rule, kind] += 1
                 self.report_shrunk(case, rest, excluded, kind)
         if signatures and self.result.unexplained_count == before:
@@ -203,7 +203,7 @@ class Judge:
         tries = Tries(self.time, most)
 
         def ask(streams):
-            return tries.ask(self.sides.difference_without, excluded, kind, *streams)
+            return tries.ask(self.sides.find_difference_without, excluded, kind, *streams)
 
         difference = shrink([rest.chunks], ask, self.candidate.at_once)
         # a kind that doesn't show alone comes from several differences in a row
@@ -215,7 +215,7 @@ class Judge:
         if not difference or is_mixed or not self.confirm(
                 case, difference, 1 if self.time.is_over else MORE_TRIES):
             return
-        name = self.class_of(difference)
+        name = self.find_class(difference)
         name = self.find_same(name, difference) or name
         if self.result.count(name):
             self.patience.again += 1
@@ -235,18 +235,19 @@ class Judge:
             if not self.result.count(name):
                 self.add(name, difference, case, is_smallest=False)
 
-    def class_of(self, difference):
-        """The class of a difference that is shrunk."""
+    def find_class(self, difference):
+        """Finds the class of a difference that is shrunk."""
         chunks, reference, candidate, _ = difference
         same, kind = differences_of(reference, candidate)[0]
         if kind == PROTOCOL:
             return PROTOCOL
         stream, needless = b"".join(chunks), []
         is_cut = (self.candidate.takes_chunks and len(chunks) > 1
-                  and not self.sides.difference([stream]))
+                  and not self.sides.find_difference([stream]))
         while True:
             rule = find_needed_rule(chunks, is_cut, same, kind, self.house, needless)
-            if rule not in INSTEAD or not self.sides.difference([re.sub(*INSTEAD[rule], stream)]):
+            if rule not in INSTEAD or not self.sides.find_difference(
+                    [re.sub(*INSTEAD[rule], stream)]):
                 return f"{rule}/{kind}"
             needless.append(rule)
 
@@ -268,7 +269,7 @@ class Judge:
         reported why."""
         # a program that doesn't end takes its time again
         for _ in range(min(tries, 2) if mark_of(difference.candidate) in LIMITS else tries):
-            again = self.sides.difference(difference.chunks)
+            again = self.sides.find_difference(difference.chunks)
             if again and is_alike(again, difference):
                 continue
             if mark_of(difference.candidate) == "hang":  # it was only slow
@@ -294,8 +295,8 @@ class Judge:
 
         def find_change(streams):
             *before, chunks = streams
-            after = before and self.sides.difference(chunks, before)
-            alone = after and self.sides.difference(chunks)
+            after = before and self.sides.find_difference(chunks, before)
+            alone = after and self.sides.find_difference(chunks)
             is_alone = alone and is_alike(alone, after)
             return after._replace(before=before) if after and not is_alone else None
 

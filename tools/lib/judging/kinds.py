@@ -24,7 +24,7 @@ MAX_LINES = 600
 REPLACEMENT = "print fffd"
 
 
-def first_difference(reference, candidate):
+def find_first_difference(reference, candidate):
     """The number of lines, or of characters, with which both begin."""
     return len(os.path.commonprefix([reference, candidate]))
 
@@ -35,8 +35,8 @@ def differences_of(reference, candidate):
     mark = mark_of(candidate)
     if mark:
         return [(min(len(candidate) - 1, len(reference)), mark)]
-    start = first_difference(reference, candidate)
-    same = first_difference(reference[start:][::-1], candidate[start:][::-1])
+    start = find_first_difference(reference, candidate)
+    same = find_first_difference(reference[start:][::-1], candidate[start:][::-1])
     one, other = reference[start:len(reference) - same], candidate[start:len(candidate) - same]
     if max(len(one), len(other)) > MAX_LINES:
         return [(start, kind_of(one[:1], other[:1]))]
@@ -57,11 +57,11 @@ def kind_of(reference, candidate):
         return "leaked" if is_leak else "extra"
     for one, other in zip(reference, candidate):
         if one.partition(" ")[0] == other.partition(" ")[0]:
-            return field_kind(one, other)
+            return kind_of_field(one, other)
     return "leaked" if is_leak else "other"
 
 
-def field_kind(one, other):
+def kind_of_field(one, other):
     """Which field of two lines of a method differs first."""
     method, *fields = one.split(" ")
     others = other.split(" ")[1:]

@@ -26,13 +26,13 @@ TRUNCATED = re.compile(
     rb"|\xf4([\x80-\x8f][\x80-\xbf]?)?)\Z")
 
 
-def open_in_text(text):
+def find_open_in_text(text):
     return CHARACTER if TRUNCATED.search(text) else NOTHING
 
 
-def open_at_end(stream):
+def find_open_end(stream):
     text, escape, body = stream.rpartition(b"\x1b")
     if not escape:
-        return open_in_text(body)
+        return find_open_in_text(body)
     kind, found = next((kind, found) for kind, pattern in BODIES if (found := pattern.match(body)))
-    return kind if found.end() == len(body) else open_in_text(body[found.end() + 1:])
+    return kind if found.end() == len(body) else find_open_in_text(body[found.end() + 1:])

@@ -48,7 +48,7 @@ class Reference:
                               f"this repository: {stream[:100].hex()}")
         return lines_of(stream, self.house)
 
-    def answers(self, streams):
+    def answer_all(self, streams):
         return list(self.threads.map(self.answer, streams))
 
 

@@ -3,12 +3,12 @@ from itertools import groupby
 
 from lib.judging.candidate import mark_of
 from lib.judging.classes import level_of, rule_of
-from lib.judging.kinds import KINDS, first_difference
+from lib.judging.kinds import KINDS, find_first_difference
 
 MAX_LINES, LONGEST = 6, 120
 
 
-def shown_bytes(chunks):
+def show_bytes(chunks):
     """The chunks in hex, with `|` at each cut and `*` after a byte that is repeated, as --case
     reads."""
     runs = [[(byte, len(list(run))) for byte, run in groupby(chunk)] for chunk in chunks]
@@ -17,69 +17,69 @@ def shown_bytes(chunks):
 
 
 def read_bytes(text):
-    """The chunks that shown_bytes shows. Raises ValueError."""
+    """The chunks that show_bytes shows. Raises ValueError."""
     words = [[word.partition("*") for word in chunk.split()] for chunk in text.split("|")]
     return [b"".join(bytes.fromhex(byte) * int(times or 1) for byte, _, times in chunk)
             for chunk in words]
 
 
-def shown_case(difference):
+def show_case(difference):
     """The streams that a program is to get, with `/` between two."""
-    return " / ".join(map(shown_bytes, [*difference.before, difference.chunks]))
+    return " / ".join(map(show_bytes, [*difference.before, difference.chunks]))
 
 
 def read_case(text):
-    """The streams that shown_case shows. Raises ValueError."""
+    """The streams that show_case shows. Raises ValueError."""
     return list(map(read_bytes, text.split("/")))
 
 
-def shown_text(chunks):
+def show_text(chunks):
     """The front of the chunks, as Python shows bytes."""
     text = " | ".join(repr(chunk)[2:-1] for chunk in chunks)
     return text if len(text) <= 200 else f"{text[:150]} .."
 
 
-def shown_lines(lines, at=0):
+def show_lines(lines, at=0):
     """Some lines in a row, the first of them around a position, or that there are none."""
     more = [f".. ({len(lines)} lines)", *lines[-1:] * bool(mark_of(lines))]
-    shown = [shown_line(line, 0 if index else at) for index, line in enumerate(lines[:MAX_LINES])]
+    shown = [show_line(line, 0 if index else at) for index, line in enumerate(lines[:MAX_LINES])]
     return " / ".join(shown + more * (len(lines) > MAX_LINES)) or "(no event)"
 
 
-def shown_line(line, at=0):
+def show_line(line, at=0):
     """A line, or the part of a long one about a position."""
     start = max(0, min(at - LONGEST // 2, len(line) - LONGEST))
     end = start + LONGEST
     return ".. " * (start > 0) + line[start:end] + " .." * (end < len(line))
 
 
-def shown_answers(one, other):
+def show_answers(one, other):
     """Both answers as they are shown: from their first difference on if they or its lines are long.
     """
-    same = first_difference(one, other)
+    same = find_first_difference(one, other)
     longest = max([len(line) for line in one[same:same + 1] + other[same:same + 1]], default=0)
     if max(len(one), len(other)) > MAX_LINES or longest > LONGEST:
         one, other = one[same:], other[same:]
-    at = first_difference(one[0], other[0]) if one and other else 0
-    shown = shown_lines(one, at), shown_lines(other, at)
+    at = find_first_difference(one[0], other[0]) if one and other else 0
+    shown = show_lines(one, at), show_lines(other, at)
     # long lines of which one begins as the other look the same
     is_front = longest > LONGEST and one and other and at in (len(one[0]), len(other[0]))
     return (f"{len(one[0])} characters: {shown[0]}",
             f"{len(other[0])} characters: {shown[1]}") if is_front else shown
 
 
-def shown_finding(finding, again):
+def show_finding(finding, again):
     """A finding in lines. `again` gives the command that judges a case alone."""
     kind = finding.name.partition("/")[2]
     size, found_size = (sum(map(len, it.chunks)) for it in (finding.difference, finding.found_in))
     title = "NEW  " if finding.is_new else "KNOWN"
     shrunk = "shrunk from" if finding.is_smallest else "not shrunk to the end, from"
     names = ("yours", "then") if finding.name == "not-deterministic" else ("reference", "yours")
-    answers = zip(names, shown_answers(*finding.difference[1:3]))
+    answers = zip(names, show_answers(*finding.difference[1:3]))
     before = f"{len(finding.difference.before)} others, then " * bool(finding.difference.before)
     lines = [f"{title} {finding.name}: {size} bytes, {shrunk} {found_size} of "
              f"{finding.found_in.name}",
-             f"  input      {before}{shown_text(finding.difference.chunks)}",
+             f"  input      {before}{show_text(finding.difference.chunks)}",
              *(f"  {name:10} {answer}" for name, answer in answers)]
     lines += [f"  kind       {KINDS[kind]}"] if kind else []
     for rule in rule_of(finding.name):
@@ -87,10 +87,10 @@ def shown_finding(finding, again):
                   f"  source     {rule.source}"]
     return "\n".join([*lines, f"  level      {level_of(finding.name)}",
                       f"  known      {'no' if finding.is_new else 'yes'}",
-                      f"  again      {again(shown_case(finding.difference))}"])
+                      f"  again      {again(show_case(finding.difference))}"])
 
 
-def shown_sum(result, seed):
+def show_sum(result, seed):
     """The table of classes, and the line about all of them."""
     lines = []
     if result.findings:

@@ -14,32 +14,33 @@ class Sides:
         self.reference, self.candidate, self.view, self.house = reference, candidate, view, house
         self.time = time
 
-    def answers(self, streams, before=()):
+    def answer_all(self, streams, before=()):
         """Both answers to streams, which new processes get after others."""
         self.time.check()
-        references = self.reference.answers([b"".join(chunks) for chunks in streams])
-        answers = self.candidate.answers([*before, *streams])[len(before):]
+        references = self.reference.answer_all([b"".join(chunks) for chunks in streams])
+        answers = self.candidate.answer_all([*before, *streams])[len(before):]
         return [tuple(map(self.view.filter, pair)) for pair in zip(references, answers)]
 
-    def last_answers(self, streams):
-        return self.answers(streams[-1:], streams[:-1])[0]
+    def answer_last(self, streams):
+        return self.answer_all(streams[-1:], streams[:-1])[0]
 
-    def difference(self, chunks, before=()):
+    def find_difference(self, chunks, before=()):
         """The difference at a stream, which new processes get after others, or None."""
-        reference, answer = self.last_answers([*before, chunks])
+        reference, answer = self.answer_last([*before, chunks])
         return None if reference == answer else Difference(chunks, reference, answer)
 
-    def difference_without(self, rules, kind, chunks):
+    def find_difference_without(self, rules, kind, chunks):
         """The difference at a stream that has none of some rules, of a kind if one is given, or
         None."""
         is_free = free_case(chunks, rules, self.house) == chunks
-        difference = self.difference(chunks) if is_free else None
+        difference = self.find_difference(chunks) if is_free else None
         is_of_kind = difference and (kind is None or kind in kinds_of(difference))
         return difference if is_of_kind else None
 
-    def rest_without(self, difference, rules, kind=None):
+    def find_rest_without(self, difference, rules, kind=None):
         """What is left of a difference without some rules."""
-        return self.difference_without(rules, kind, free_case(difference.chunks, rules, self.house))
+        chunks = free_case(difference.chunks, rules, self.house)
+        return self.find_difference_without(rules, kind, chunks)
 
 
 def kinds_of(difference):

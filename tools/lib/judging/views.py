@@ -34,9 +34,9 @@ class View:
 
     def filter(self, lines):
         """The lines with what both sides report."""
-        return [self.line(line) for line in lines if line.partition(" ")[0] not in self.hidden]
+        return [self.view_line(line) for line in lines if line.partition(" ")[0] not in self.hidden]
 
-    def line(self, line):
+    def view_line(self, line):
         for pattern, change in self.changes:
             line = re.sub(pattern, change, line)
         return line

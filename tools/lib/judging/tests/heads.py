@@ -34,7 +34,7 @@ def head_of(vector, rules):
                     key=LEVELS.index) or [MUST]
     head = {"level": levels[-1], "rules": used}
     if vector["kind"] == "events":
-        house = [*house_rules(vector), *["limit"] * ("limit" in used)]
+        house = [*find_house_rules(vector), *["limit"] * ("limit" in used)]
         head |= {"house": house, "strongest": levels[0]}
     return head
 
@@ -73,7 +73,7 @@ def text_of(shown):
     return bytes.fromhex(shown.replace("-", "")).decode("ascii", "replace")
 
 
-def house_rules(vector):
+def find_house_rules(vector):
     """The house rules on which the events of a vector depend."""
     stream = bytes_of(shorten(vector["pieces"]))
     house = House(limit=vector["limit"])

@@ -22,7 +22,7 @@ def run(*words, **how):
     return done.returncode, done.stdout
 
 
-def right_lines(chunks, _=()):
+def answer_rightly(chunks, _=()):
     return definition.lines_of(b"".join(chunks))
 
 
@@ -34,15 +34,15 @@ class Side:
     def __init__(self, answer):
         self.answer = answer
 
-    def answers(self, streams):
+    def answer_all(self, streams):
         return [self.answer(chunks, streams[:index]) for index, chunks in enumerate(streams)]
 
     def answer_aloud(self, chunks):
-        self.answers([chunks])
+        self.answer_all([chunks])
 
 
 def judge_of(answer, **options):
     """A judge of a function, or of a side. The definition is the reference."""
-    defined = SimpleNamespace(answers=lambda streams: [*map(definition.lines_of, streams)])
+    defined = SimpleNamespace(answer_all=lambda streams: [*map(definition.lines_of, streams)])
     side = answer if isinstance(answer, Side) else Side(answer)
     return Judge(defined, side, views.View(), house.DEFAULT, **options)

@@ -7,12 +7,12 @@ from lib.judging import (candidate, cases, classes, definition, house, judgement
 from lib.judging.classes import Difference
 from lib.judging.rules import CUT, LEVELS, RULES
 from lib.judging.sides import is_alike
-from support import FILES, judge_of, right_lines
+from support import FILES, answer_rightly, judge_of
 
 
 # there are enough to find several differences in a row, which are no class of their own; in the
 # last two a difference has another kind than elsewhere, as a limit hides the rest
-CASES = [case for case in cases.all_cases(("vectors", "random"), "1", 240)
+CASES = [case for case in cases.make_cases(("vectors", "random"), "1", 240)
          if sum(map(len, case.chunks)) < 3000] + [
     cases.Case("", [b"\x1b]" + front + b"\x9c\xa0\x1b"]) for front in (b";" * 16, b"a" * 1024)]
 
@@ -23,12 +23,12 @@ def judge_function(answer, tried=CASES, **options):
     for finding in result.findings.values():
         if finding.name != "not-deterministic":
             again = judge_of(answer, **options)
-            again.judge_case(report.read_case(report.shown_case(finding.difference)))
+            again.judge_case(report.read_case(report.show_case(finding.difference)))
             assert [*again.result.findings] == [finding.name], (finding, again.result)
     return result
 
 
-def names(result):
+def names_of(result):
     return {name.partition("/")[0] for name in result.findings}
 
 
@@ -51,7 +51,7 @@ def break_rules(*rules):
         "numbers=16", "numbers=33", "largest=9999", "largest=none"))])
 def test_a_breach_of_a_house_rule_has_its_rule(breach, rules):
     result = judge_function(break_rules(breach))
-    assert names(result) == set(rules.split())
+    assert names_of(result) == set(rules.split())
     assert len(result.findings) == len(rules.split()), "a rule has one class"
     assert (result.unexplained_count, result.status()) == (0, 1)
 
@@ -80,7 +80,7 @@ def test_what_is_counted(faults, streams, found):
 
     def answer_wrongly(chunks, _):
         asked.append(chunks)
-        text = "".join(f"{line}\n" for line in right_lines(chunks))
+        text = "".join(f"{line}\n" for line in answer_rightly(chunks))
         for pattern, other in faults.items():
             text = re.sub(pattern, other, text)
         return text.splitlines()
@@ -149,9 +149,9 @@ def test_what_binds_has_a_sentence():
     (b"a\x1b]b\x1b\\", "5c", "5d", "terminator/final")])
 def test_which_rule_is_named(stream, pattern, other, name):
     def answer(chunks, _=None):
-        return re.sub(pattern, other, "\n".join(right_lines(chunks))).splitlines()
+        return re.sub(pattern, other, "\n".join(answer_rightly(chunks))).splitlines()
     judge = judge_of(answer)
-    assert judge.class_of(judge.sides.difference([stream])) == name
+    assert judge.find_class(judge.sides.find_difference([stream])) == name
 
 
 @pytest.mark.parametrize("case", CASES[::3], ids=lambda case: case.name)
@@ -190,7 +190,7 @@ def test_what_is_freed(chunks, rule, left):
     (b"a\xc3b", [1, 2], [None, 1]), (b"\x1b[\n1m", [1, 2, 3, 4], [1, 1, 1, 1]),
     (b"\xc3\x1b7", [1], [0]), (b"\x1b]a\x07\xff\x1b", [3, 4, 5], [0, None, 1])])
 def test_what_a_cut_divides(stream, cuts, found):
-    assert [*classes.steps_at_cuts(definition.steps_of(stream), cuts).values()] == found
+    assert [*classes.find_steps_at_cuts(definition.steps_of(stream), cuts).values()] == found
 
 
 @pytest.mark.parametrize("one, other, wanted", [
@@ -206,11 +206,11 @@ def test_which_answers_are_alike(one, other, wanted):
 def test_what_depends_on_a_cut():
     result = judge_function(lambda chunks, _: [
         line for chunk in chunks for line in definition.lines_of(chunk)], CASES[:120])
-    assert names(result) and all(name.startswith("cut:") for name in names(result))
+    assert names_of(result) and all(name.startswith("cut:") for name in names_of(result))
 
     def answer_cuts(chunks, _):
         steps = definition.steps_of(b"".join(chunks))
-        cuts = classes.steps_at_cuts(steps, shrinking.cuts_of(chunks))
+        cuts = classes.find_steps_at_cuts(steps, shrinking.cuts_of(chunks))
         return [line for step in steps for line in step.lines] + ["unhook"] * (
             None in cuts.values())
     result = judge_function(answer_cuts)
@@ -224,13 +224,13 @@ def test_what_depends_on_a_cut():
                                   "execute 0f", ["control/missing", "kept-state"])])
 def test_what_depends_on_other_streams(some, lost, names):
     def answer_shifted(chunks, history):
-        lines = right_lines(chunks)
+        lines = answer_rightly(chunks)
         was_shifted = any(b"\x0e" in b"".join(before) for before in history)
         return [line for line in lines if line != lost and not (
             was_shifted and line.startswith("print"))]
     found = judge_function(answer_shifted, some).findings
     assert sorted(found) == names
-    assert report.shown_case(found["kept-state"].difference) == "0e / 61"
+    assert report.show_case(found["kept-state"].difference) == "0e / 61"
 
 
 # answers to a stream one after another, the last of them again and again
@@ -242,7 +242,7 @@ def test_two_answers_are_not_deterministic(answers):
                      else next(turns, answers[-1]))
     judge.judge_case([[b"a"], [b"b"]])
     [finding] = judge.result.findings.values()
-    assert finding.name == "not-deterministic" and "  then  " in report.shown_finding(finding, str)
+    assert finding.name == "not-deterministic" and "  then  " in report.show_finding(finding, str)
 
 
 def test_a_hang_that_was_only_slow_is_none():
@@ -256,11 +256,11 @@ def test_what_is_left_out():
     dropped = break_rules("delete=drop")
     assert judge_function(dropped, left_out=["delete"]).different == 0
     assert judge_function(dropped).findings["delete/missing"].streams == sum(
-        dropped(case.chunks, []) != right_lines(case.chunks) for case in CASES)
+        dropped(case.chunks, []) != answer_rightly(case.chunks) for case in CASES)
     # what is left out doesn't come back in what is shrunk
     result = judge_function(break_rules("c1-characters=print", "malformed=drop"),
                             left_out=["malformed", "unfinished"])
-    assert names(result) == {"c1-character"}
+    assert names_of(result) == {"c1-character"}
 
 
 @pytest.mark.parametrize("known, status", [
@@ -292,7 +292,7 @@ def test_what_is_known(known, status):
     (["put 61", "unhook"] * 999, ["put 62", "print 0061"] * 999, "character"),
     (["unhook"] * 2, ["unhook", "(crash: status 1)"], "crash")])
 def test_kinds(one, other, kind):
-    same = kinds.first_difference(one, other)
+    same = kinds.find_first_difference(one, other)
     assert kinds.differences_of(one, other) == [(same, kind)] and kind in kinds.KINDS
 
 
@@ -308,7 +308,7 @@ def test_each_difference_has_its_place():
     ("vectors", "vector ", [False, False]), ("random", "stream ", [True, True]),
     ("recorded", "recorded stream ", [False, True])])
 def test_which_streams_are_judged(kind, name, varies):
-    some, others, more = ([*cases.all_cases([kind], seed, count)]
+    some, others, more = ([*cases.make_cases([kind], seed, count)]
                           for seed, count in (("1", 40), ("2", 40), ("1", 400)))
     assert some and some == more[:len(some)] and all(it.name.startswith(name) for it in some)
     assert [any(one.chunks != other.chunks for one, other in zip(some[at::2], others[at::2]))
@@ -322,7 +322,7 @@ def test_which_streams_are_judged(kind, name, varies):
 
 
 def test_all_vectors_are_judged():
-    found = {case.name: b"".join(case.chunks) for case in cases.all_cases(["vectors"], "1", 0)}
+    found = {case.name: b"".join(case.chunks) for case in cases.make_cases(["vectors"], "1", 0)}
     wanted = [f"vector {vector['id']}" for file in FILES
               for vector in file["vectors"] + file["long"]
               if vector["kind"] not in ("colour", "number")]

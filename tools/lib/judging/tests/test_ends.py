@@ -5,14 +5,14 @@ from types import SimpleNamespace
 import pytest
 import toy
 from lib.judging import budget, candidate, cases, classes, definition, formats, house, report
-from support import Side, judge_of, right_lines
+from support import Side, answer_rightly, judge_of
 
 
 # ---- long streams
 
 # of 100,000 bytes in one chunk 20,000 will do
 LONG_CASES = [case._replace(chunks=[case.chunks[0][:10_000] + case.chunks[0][-10_000:]])
-              for case in cases.all_cases(["vectors"], "1", 0) if len(case.chunks[0]) > 50_000]
+              for case in cases.make_cases(["vectors"], "1", 0) if len(case.chunks[0]) > 50_000]
 
 
 def limit_readings(monkeypatch, most):
@@ -63,7 +63,7 @@ class SlowSide(Side):
         self.asked = []
         monkeypatch.setattr(budget, "time", SimpleNamespace(monotonic=lambda: self.now))
 
-    def answers(self, streams):
+    def answer_all(self, streams):
         self.asked.append(len(streams))
         return [self.slow_answer(chunks) for chunks in streams]
 
@@ -80,7 +80,7 @@ class SlowSide(Side):
     (0, [2, 4, 8, 16, 32, 50, 50, 50, 50, 50, 50, 38], None, 0), (3, [2] + [1] * 9, None, 0),
     (0.4, [2, 4, 8, 4, 8, 4, 8, 4, 8, 4], None, 0), (3, [2, 1], 13, 0), (3, [2, 1], 13, 9)])
 def test_long_batches_are_followed_by_smaller_ones(monkeypatch, seconds, sizes, deadline, left):
-    side = SlowSide(monkeypatch, right_lines, seconds, deadline)
+    side = SlowSide(monkeypatch, answer_rightly, seconds, deadline)
     result = judge_of(side).run([cases.Case("", [b"a"])] * (sum(sizes) + left))
     assert side.asked == [1, *sizes, *[1] * bool(left)]
     assert (result.streams, result.status()) == (sum(sizes), 3 if left else 0)
@@ -94,12 +94,12 @@ def test_long_batches_are_followed_by_smaller_ones(monkeypatch, seconds, sizes, 
     (b"a" * 30, 0.3, 40, "text/missing"), (b"b" * 30, 0.05, 1, "text/missing")])
 def test_a_slow_program_has_an_example(monkeypatch, stream, seconds, count, name):
     end = 60 if count > 1 else 30
-    side = SlowSide(monkeypatch, lambda *it: right_lines(*it)[:27], seconds, deadline=end)
+    side = SlowSide(monkeypatch, lambda *it: answer_rightly(*it)[:27], seconds, deadline=end)
     result = judge_of(side).run([cases.Case("", [stream])] * count)
     assert [*result.findings] == [name] and bool(result.ended_early) == (count > 1)
     assert end <= side.now <= end + budget.GRACE + side.timeout
-    assert "not shrunk to the end" in report.shown_finding(result.findings[name], str)
-    junit = formats.as_junit(result, "1", str)
+    assert "not shrunk to the end" in report.show_finding(result.findings[name], str)
+    junit = formats.format_junit(result, "1", str)
     reported = f'name="all streams are judged"><failure message="{result.streams} were"'
     assert (reported in junit) == (count > 1)
 
@@ -122,11 +122,11 @@ class Clock:
 @pytest.mark.parametrize("takes_chunks, streams, end", [(False, 1, 8), (True, 3, 24)])
 def test_a_hang_ends_at_its_time(monkeypatch, takes_chunks, streams, end):
     side, clock = candidate.Program(["sleep", "3600"], takes_chunks, 8), Clock(monkeypatch)
-    assert side.answers([[b"a"]] * streams) == [[candidate.HANG]] * streams
+    assert side.answer_all([[b"a"]] * streams) == [[candidate.HANG]] * streams
     assert end <= clock.now < end + streams * 0.2
     side.deadline = end + 5
     with pytest.raises(candidate.OutOfTime):
-        side.answers([[b"a"]])
+        side.answer_all([[b"a"]])
     assert end + 5 <= clock.now < end + 5.4
     side.close()
 

@@ -113,19 +113,19 @@ def test_a_byte_is_replaced_by_plainer_ones(last, first, plain):
     ([b"\x1b]'\x80", b"", b"\""], '\\x1b]\'\\x80 |  | "'), ([b"a" * 200], "a" * 200),
     ([b"a" * 201], "a" * 150 + " ..")])
 def test_streams_are_shown_as_text(chunks, shown):
-    assert report.shown_text(chunks) == shown
+    assert report.show_text(chunks) == shown
 
 
 def test_the_example_of_the_page():
     answers = ["csi [65535] - false 61"], ["csi [91111] - false 61"]
     difference = Difference([b"\x1b[91111a"], *answers)
     case = Case("vector number-far-past-the-limit", [b"a" * 20, b"bc"])
-    shown = report.shown_finding(Finding("largest/numbers", difference, case),
+    shown = report.show_finding(Finding("largest/numbers", difference, case),
                                  "tools/judge --case '{}' python3 /tmp/my_parser.py".format)
     page = (TOOLS.parent / "docs/JUDGE.md").read_text()
     assert "".join(f"    {line}\n" for line in shown.splitlines()) in page
     rest = Finding("cut:c1-byte/crash", difference._replace(before=[[b"x"]]), case, False, 1, False)
-    lines = report.shown_finding(rest, str).splitlines()
+    lines = report.show_finding(rest, str).splitlines()
     assert lines[0] == ("KNOWN cut:c1-byte/crash: 8 bytes, not shrunk to the end, from 22 of "
                         "vector number-far-past-the-limit")
     assert lines[1].startswith("  input      1 others, then ")
@@ -136,9 +136,9 @@ def test_the_example_of_the_page():
 
 def test_the_reference_and_the_definition_must_agree(tmp_path):
     program = write_program(tmp_path / "program", "echo print 0062")
-    assert reference.Reference(program).answers([b"a"]) == [["print 0062"]]
+    assert reference.Reference(program).answer_all([b"a"]) == [["print 0062"]]
     with pytest.raises(reference.NoReference, match="differ"):
-        reference.Reference(program, house.house_of(["delete=drop"])).answers([b"a"])
+        reference.Reference(program, house.house_of(["delete=drop"])).answer_all([b"a"])
 
 
 # what --vtlog and $VTLOG name, and why it is none
@@ -232,8 +232,8 @@ DIGITS = "".join(f"{number:04}" for number in range(75))
     (["6" * 400], ["6" * 300], ["400 characters: .. " + "6" * 120 + " ..",
                                 "300 characters: .. " + "6" * 120])])
 def test_long_answers_are_shown_where_they_differ(one, other, shown):
-    assert [*report.shown_answers(one, other)] == shown
-    assert [*report.shown_answers(other, one)] == shown[::-1]
+    assert [*report.show_answers(one, other)] == shown
+    assert [*report.show_answers(other, one)] == shown[::-1]
 
 
 def test_answers_come_in_parts(monkeypatch):
@@ -246,16 +246,16 @@ def test_answers_come_in_parts(monkeypatch):
             output += read
             return bool(read)
         monkeypatch.setattr(side, "read_some", read_some)
-        answers = [side.next_answer(None, output, 0) for _ in range(3)]
+        answers = [side.read_answer(None, output, 0) for _ in range(3)]
         assert (answers, output) == ([["print 0061"], [], ["unhook"]], b"\n")
     side.close()
 
 
 def test_what_is_reserved_is_not_used():
     process = SimpleNamespace(pid=os.getpid())
-    before = candidate.used_memory(process)
+    before = candidate.measure_memory(process)
     with mmap.mmap(-1, 1 << 29, mmap.MAP_PRIVATE | mmap.MAP_ANONYMOUS):
-        assert candidate.used_memory(process) - before < 1 << 28
+        assert candidate.measure_memory(process) - before < 1 << 28
 
 
 @pytest.mark.parametrize("output", [
@@ -278,15 +278,15 @@ def test_lines_that_are_none(wrong):
 
 # ---- results
 
-def result(is_new=True, **fields):
+def make_result(is_new=True, **fields):
     found = Finding("text/missing", Difference([b"a"], [], []), Case("", [b""]), is_new, 3)
     return Judgement(**{"streams": 9, "different": 3, "findings": {found.name: found}, **fields})
 
 
 @pytest.mark.parametrize("status, judgement", [
-    (0, Judgement(streams=1)), (1, Judgement()), (1, result()), (0, result(False)),
-    (1, Judgement(9, 1)), (1, result(False, different=4)), (1, Judgement(ended_early="x")),
-    (3, result(False, ended_early="x")), (1, result(ended_early="x"))])
+    (0, Judgement(streams=1)), (1, Judgement()), (1, make_result()), (0, make_result(False)),
+    (1, Judgement(9, 1)), (1, make_result(False, different=4)), (1, Judgement(ended_early="x")),
+    (3, make_result(False, ended_early="x")), (1, make_result(ended_early="x"))])
 def test_statuses(status, judgement):
     assert judgement.status() == status
 
@@ -294,13 +294,13 @@ def test_statuses(status, judgement):
 def test_what_is_summed_up():
     found = {name: Finding(name, Difference([b"ab", b"c"], [], []), Case("", []), is_new, streams)
              for name, is_new, streams in (("text/extra", False, 2), ("delete/missing", True, 15))}
-    assert report.shown_sum(Judgement(99, 20, found, "the time was over"), "x").splitlines() == [
+    assert report.show_sum(Judgement(99, 20, found, "the time was over"), "x").splitlines() == [
         "class           level    streams  smallest  known",
         "delete/missing  differs       15         3  no",
         "text/extra      must           2         3  yes",
         "3 of the streams that differ weren't assigned to a class",
         "ended early: the time was over", "99 streams, 20 differ; 2 classes, 1 of them new; seed x"]
-    assert report.shown_sum(Judgement(9), "1").startswith("9 streams, 0 differ; 0 classes, 0 of ")
+    assert report.show_sum(Judgement(9), "1").startswith("9 streams, 0 differ; 0 classes, 0 of ")
 
 
 def format_findings(kind, **fields):

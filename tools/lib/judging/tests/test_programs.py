@@ -8,12 +8,12 @@ import sys
 
 import pytest
 from lib.judging import candidate
-from lib.judging.cases import from_recordings
+from lib.judging.cases import read_recorded_cases
 from support import TOOLS, TOY, run
 from tests.support import wait_until, write_program
 
 
-def toy(fault=None, chunks=True, once=False):
+def make_toy_words(fault=None, chunks=True, once=False):
     """The arguments for the toy parser: those of the judge, and its command."""
     framed = ["--chunks"] * chunks
     command = [sys.executable, TOY, *framed, *["--once"] * once, *[fault] * bool(fault)]
@@ -25,11 +25,11 @@ def judge_toy(judge):
     """Runs tools/judge on the toy parser, and on forty streams if no other words say so."""
     def run_judge(wanted, *words, **how):
         few = ["--timeout", 120, "--streams", "random", "--count", 40]
-        return judge(wanted, *few, *words, *toy(**how))
+        return judge(wanted, *few, *words, *make_toy_words(**how))
     return run_judge
 
 
-def processes(word):
+def find_processes(word):
     """The processes that have a word among their arguments, without tools/judge."""
     _, shown = run("ps", "-ww", "-eo", "args")
     return [line for line in shown.splitlines() if line.endswith(word)
@@ -61,7 +61,7 @@ def test_a_finding_can_be_shown_again(judge, judge_toy, words, fault):
     (0, "--format json --case 61", {}, '"different": 0'),
     (0, "--format junit", {}, '<testsuite name="judge, seed 1"'), (0, "--seed 7", {}, "; seed 7"),
     (1, "--seed 7", {"fault": "largest=9"}, "of seed 7"),
-    (0, "--streams recorded", {}, f"{len([*from_recordings('1')])} streams, 0 differ"),
+    (0, "--streams recorded", {}, f"{len([*read_recorded_cases('1')])} streams, 0 differ"),
     (0, "--timeout 99.5", {}, "0 differ"), (1, "--timeout 0 --case 61", {}, "/hang:"),
     (1, "--memory 0 --case 61", {}, "(memory: more than 0 MiB)"),
     (0, "--case 61", {"fault": "stateful"}, "no difference")])
@@ -90,7 +90,7 @@ def test_nothing_but_json_is_printed(judge_toy):
       for line in ("yes end", "echo end; echo execute 07"))])
 def test_a_program_that_fails_has_a_mark(line, takes_chunks, limits, mark):
     side = candidate.Program(["sh", "-c", line], takes_chunks, **{"timeout": 600, **limits})
-    [answer] = side.answers([[b"a" * 100000]])  # of a long one the front is kept
+    [answer] = side.answer_all([[b"a" * 100000]])  # of a long one the front is kept
     side.close()
     assert answer[-1] == mark and len(answer) < 10000
 
@@ -119,31 +119,31 @@ def test_nothing_survives_the_judge(vtlog):
     running = subprocess.Popen([sys.executable, TOOLS / "judge", *words],
                                stdout=subprocess.DEVNULL, env={**os.environ, "MARK": mark})
     try:
-        wait_until(lambda: processes(mark) and running.poll() is None)
+        wait_until(lambda: find_processes(mark) and running.poll() is None)
     finally:
         running.kill()
         running.wait()
-    wait_until(lambda: not processes(mark), "the program has outlived the judge")
+    wait_until(lambda: not find_processes(mark), "the program has outlived the judge")
 
 
 @pytest.mark.parametrize("takes_chunks", [True, False])
 def test_the_children_of_a_program_are_ended(takes_chunks):
     mark = f"sleep 7531.{os.getpid()}"
     side = candidate.Program(["sh", "-c", f"{mark} & echo end; read line"], takes_chunks, 600)
-    side.answers([[b"a"]])
-    wait_until(lambda: not processes(mark))
+    side.answer_all([[b"a"]])
+    wait_until(lambda: not find_processes(mark))
     side.close()
 
 
 def test_the_time_is_over_for_a_reference_too(judge, tmp_path):
     """The reference wakes up long after the end, also if the machine is busy."""
     vtlog = write_program(tmp_path / "vtlog", f"sleep 100; touch {tmp_path}/awake; sleep 3600")
-    said = judge(1, "--vtlog", vtlog, "--seconds", 1, *toy())
+    said = judge(1, "--vtlog", vtlog, "--seconds", 1, *make_toy_words())
     assert "ended early: the time was over" in said and not (tmp_path / "awake").exists()
 
 
 def test_closed_standard_output(vtlog):
-    words = ["--vtlog", vtlog, "--count", 4, "--streams", "random", *toy(chunks=False)]
+    words = ["--vtlog", vtlog, "--count", 4, "--streams", "random", *make_toy_words(chunks=False)]
     reading, writing = os.pipe()
     os.close(reading)
     done = subprocess.run([sys.executable, TOOLS / "judge", *map(str, words)], stdout=writing,

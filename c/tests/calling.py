@@ -51,12 +51,12 @@ class Parser:
                                 c_size_t(room), byref(written))
         return read, text[:written.value] if room else b"?" * written.value
 
-    def open(self):
+    def find_open(self):
         is_open = self.c.vte_long_is_open if self.is_long else self.c.vte_is_open
         return is_open(self.pointer) & 0xff
 
 
-def parsers(library):
+def make_parsers(library):
     """New parsers of all kinds that the library has."""
     return [Parser(library, is_long) for is_long in (False, True)[:1 + library.is_complete]]
 

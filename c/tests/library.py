@@ -24,13 +24,13 @@ def output_of(words, stream=b"", **environment):
     return done.stdout
 
 
-def at_once(test, cases):
+def run_at_once(test, cases):
     """Runs a test for all cases, side by side."""
     with ThreadPoolExecutor(os.cpu_count()) as pool:
         list(pool.map(test, cases))
 
 
-def compiles(words, **environment):
+def try_compiler(words, **environment):
     """Whether this compiler command succeeds, and what it says."""
     done = subprocess.run(words, env={**os.environ, **environment}, text=True,
                           stdout=subprocess.PIPE, stderr=subprocess.STDOUT)
@@ -42,18 +42,18 @@ class Library:
 
     def __init__(self, build, folder, is_short):
         self.build, self.folder, self.is_short = build, folder, is_short
-        is_built, output = compiles([TOOLS / "build_c_library", f"--{build}", folder])
+        is_built, output = try_compiler([TOOLS / "build_c_library", f"--{build}", folder])
         assert is_built, output
         self.archive, self.shared = folder / "libvte_c.a", folder / "libvte_c.so"
         # whether it has what allocates memory
         self.is_complete = build == "cargo"
         self.of_events = ["-DWITH_LONG"] if self.is_complete else []
 
-    def program(self, source, *words, compiler="cc", name=None, optional=False):
+    def compile(self, source, *words, compiler="cc", name=None, optional=False):
         """Compiles a program. Returns its path, or None if it is optional and doesn't compile."""
         program = self.folder / (name or Path(source).name.replace(".", "_"))
         command = [compiler, *WARNINGS, *words, source, self.archive, "-o", program]
-        is_built, output = compiles(command)
+        is_built, output = try_compiler(command)
         assert is_built or optional, output
         return program if is_built else None
 
@@ -68,14 +68,14 @@ class Library:
 
     @cached_property
     def events(self):
-        return self.program(PROGRAMS / "events.c", *self.of_events)
+        return self.compile(PROGRAMS / "events.c", *self.of_events)
 
     @cached_property
     def sanitized(self):
         """The same program with sanitizers, or None if cc has none."""
-        def linked(*words):
-            return self.program(PROGRAMS / "events.c", *self.of_events, *SANITIZERS, *words,
+        def link(*words):
+            return self.compile(PROGRAMS / "events.c", *self.of_events, *SANITIZERS, *words,
                                 name="events_sanitized", optional=True)
 
         # it begins sooner without shared libraries, which clang's never are
-        return linked("-static-libasan", "-static-libubsan") or linked()
+        return link("-static-libasan", "-static-libubsan") or link()

@@ -6,7 +6,7 @@ from ctypes import c_char
 import pytest
 
 from calling import (ALL_KINDS, CSI, DATA, ESC, EXECUTE, FUNCTIONS, HOOK, NO_ROOM, OSC,
-                               ROOMS, TEXT, UNHOOK, Parser, Processor, parsers)
+                               ROOMS, TEXT, UNHOOK, Parser, Processor, make_parsers)
 
 OK, BELL, TRUNCATED = 0, 1, 2
 STREAM = b"a\x1b[1mb"
@@ -28,7 +28,7 @@ EACH_KIND = b"a\r\x1bP1q+\x1b\\\x1b]t\x07\x1b[1mb\x1b(B\x1bPq-\x18\x1bPqxyz"
     (DATA_STRINGS, ALL_KINDS, 1 << DATA, ROOMS, (8, 3, 3))])
 def test_rooms_and_stops(library, sent, kinds, stops, rooms, wanted):
     # a parser without a limit has its own room for data
-    for parser in parsers(library)[:1 if rooms[1] < 2112 else 2]:
+    for parser in make_parsers(library)[:1 if rooms[1] < 2112 else 2]:
         # data of earlier calls are gone
         for _ in range(2):
             read, events, data = parser.feed(sent, kinds, stops, rooms)
@@ -50,17 +50,17 @@ def test_room_for_text(library, sent, room, wanted):
 @pytest.mark.parametrize("kind", range(8))
 def test_kinds_and_stops(library, kind):
     """Each kind stops after its first event, if it is reported."""
-    for parser in parsers(library):
-        def fed(kinds, stops):
+    for parser in make_parsers(library):
+        def feed_each(kinds, stops):
             parser.feed(b"\x18")
             read, events, _ = parser.feed(EACH_KIND, kinds, stops)
             return read == len(EACH_KIND), [event.kind for event in events]
 
-        is_all, found = fed(ALL_KINDS, 1 << kind)
+        is_all, found = feed_each(ALL_KINDS, 1 << kind)
         assert not is_all and found.index(kind) + 2 >= len(found)
-        is_all, found = fed(1 << kind, 0)
+        is_all, found = feed_each(1 << kind, 0)
         assert is_all and {*found} == {kind}
-        assert fed(ALL_KINDS & ~(1 << kind), 1 << kind)[0]
+        assert feed_each(ALL_KINDS & ~(1 << kind), 1 << kind)[0]
 
 
 @pytest.mark.parametrize("kind, sent, wanted", [
@@ -70,7 +70,7 @@ def test_kinds_and_stops(library, kind):
     (DATA, DATA_STRINGS, [b"xyz\n", b"b", b"cde", b"f"])])
 def test_runs_are_in_the_bytes(library, kind, sent, wanted):
     """Texts and data are in the bytes of the call, one event each that these have whole."""
-    for parser in parsers(library):
+    for parser in make_parsers(library):
         for step, chunks in (len(sent), wanted), (1, [b"%c" % byte for byte in b"".join(wanted)]):
             found = []
             for chunk in (sent[at:at + step] for at in range(0, len(sent), step)):

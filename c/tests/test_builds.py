@@ -3,7 +3,7 @@ import re
 
 from tests.missing import miss, need
 
-from library import INCLUDE, PROGRAMS, SANITIZERS, TOOLS, compiles, output_of
+from library import INCLUDE, PROGRAMS, SANITIZERS, TOOLS, output_of, try_compiler
 
 # the only functions that the library of each build may need
 NEEDED = {"rt": {"memcpy", "memmove", "memset"},
@@ -16,7 +16,7 @@ OF_INDICES = re.compile(r"panicking\d+panic_(bounds_check|fmt|nounwind_fmt)|slic
                         r"len_mismatch_fail|rust_begin_unwind")
 
 
-def declared(library):
+def list_declared(library):
     """The functions that the library's headers declare and don't define."""
     headers = INCLUDE.glob("*.h" if library.is_complete else "vte.h")
     text = "".join(header.read_text() for header in headers)
@@ -24,7 +24,7 @@ def declared(library):
     return set(re.findall(function, text, re.M | re.S))
 
 
-def symbols(library, *options):
+def list_symbols(library, *options):
     """The names that nm lists with their letters."""
     listed = output_of(["nm", *options, library]).decode().splitlines()
     return [(words[-2], words[-1]) for words in map(str.split, listed) if len(words) > 1]
@@ -34,11 +34,11 @@ def test_symbols(library):
     """It has the functions of its headers and needs few of C. rt's has no panic, and cargo's none
     but those of an index and of memory."""
     need("nm", "the library's symbols were not checked")
-    wanted = declared(library)
-    assert {name for _, name in symbols(library.archive, "-g", "--defined-only")} == wanted
-    assert {name for _, name in symbols(library.shared, "-D", "--defined-only")} == wanted
+    wanted = list_declared(library)
+    assert {name for _, name in list_symbols(library.archive, "-g", "--defined-only")} == wanted
+    assert {name for _, name in list_symbols(library.shared, "-D", "--defined-only")} == wanted
     assert b"soname: [libvte_c.so.6]" in output_of(["readelf", "-d", library.shared])
-    all_names = symbols(library.archive)
+    all_names = list_symbols(library.archive)
     assert {name for letter, name in all_names if letter == "U"} <= NEEDED[library.build]
     panics = [name for _, name in all_names if OF_PANICS.search(name)]
     assert [name for name in panics if library.build == "rt" or not OF_INDICES.search(name)] == []
@@ -47,12 +47,12 @@ def test_symbols(library):
 def test_random_bytes_as_a_parser(library):
     if library.sanitized is None:
         miss("the address and undefined-behaviour sanitizers of cc")
-    assert output_of([library.program(PROGRAMS / "any_parser.c", *SANITIZERS)]) == b""
+    assert output_of([library.compile(PROGRAMS / "any_parser.c", *SANITIZERS)]) == b""
 
 
 def test_refused_memory(cargo_build):
     words = [f"-Wl,--wrap={name}" for name in ("malloc", "realloc", "free")]
-    program = cargo_build.program(PROGRAMS / "refused.c", *words)
+    program = cargo_build.compile(PROGRAMS / "refused.c", *words)
     # pieces without a byte take eight each
     empty, groups = b"\x1b]" + b";" * 15 + b"\a", b"\x1b[" + b"1;" * 31 + b"1m"
     stream = empty + groups + empty * 5000 + b"text\x1b]52;c;" + b"Q" * 100_000 + b"\x1b\\more"
@@ -65,7 +65,7 @@ def test_refused_memory(cargo_build):
 
 def test_threads(cargo_build):
     """Also with the library and the program under the thread sanitizer."""
-    assert output_of([cargo_build.program(PROGRAMS / "threads.c", "-pthread")]) == b"busy\n"
+    assert output_of([cargo_build.compile(PROGRAMS / "threads.c", "-pthread")]) == b"busy\n"
     folder = cargo_build.folder / "for_threads"
     environment = {"RUSTC_BOOTSTRAP": "1",
                    "CARGO_TARGET_DIR": f"{TOOLS.parent}/rust/target/for_threads",
@@ -73,6 +73,6 @@ def test_threads(cargo_build):
     build = [TOOLS / "build_c_library", "--cargo", folder]
     words = ["cc", "-O1", "-g", "-fsanitize=thread", "-pthread", f"-I{INCLUDE}",
              PROGRAMS / "threads.c", folder / "libvte_c.a", "-o", folder / "threads"]
-    if not compiles(build, **environment)[0] or not compiles(words)[0]:
+    if not try_compiler(build, **environment)[0] or not try_compiler(words)[0]:
         miss("the thread sanitizer of rustc and cc, so threads were tested without it")
     assert output_of([folder / "threads"]) == b"busy\n"

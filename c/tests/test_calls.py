@@ -11,7 +11,7 @@ from tests.missing import miss, need
 
 from calling import FUNCTIONS
 from library import PROGRAMS, SANITIZERS, output_of
-from test_numbers import of_rust
+from test_numbers import read_enums
 
 # a timeout that is set, which calls.c writes, and one that is cleared
 SET = "set_timeout 150"
@@ -35,16 +35,16 @@ def value_of(word):
 
 
 @cache
-def names(kind):
+def names_of(kind):
     """The names of one of Rust's enums by their numbers."""
-    return {number: name for name, number in of_rust()[kind].items()}
+    return {number: name for name, number in read_enums()[kind].items()}
 
 
-def optional(shown):
+def show_optional(shown):
     return "None" if shown is None else f"Some({shown})"
 
 
-def quoted(text, mark='"'):
+def quote(text, mark='"'):
     """A text in quotes, or None."""
     if text is None:
         return None
@@ -53,55 +53,56 @@ def quoted(text, mark='"'):
     return f"{mark}{''.join(shown)}{mark}"
 
 
-def rgb(color):
+def show_rgb(color):
     return "Rgb {{ r: {1}, g: {2}, b: {3} }}".format(*color)
 
 
-def attribute(number, color):
-    name, (kind, *_, index) = names("Attr")[number], color
-    shown = [None, f"Named({names('NamedColor').get(index)})", f"Spec({rgb(color)})",
+def show_attribute(number, color):
+    name, (kind, *_, index) = names_of("Attr")[number], color
+    shown = [None, f"Named({names_of('NamedColor').get(index)})", f"Spec({show_rgb(color)})",
              f"Indexed({index})"][kind]
     if name == "UnderlineColor":
-        return f"{name}({optional(shown)})"
+        return f"{name}({show_optional(shown)})"
     return name if shown is None else f"{name}({shown})"
 
 
-def style(shape, blinks):
-    shown = f"shape: {names('CursorShape').get(shape)}, blinking: {['false', 'true'][blinks]}"
-    return optional(None if shape == -1 else f"CursorStyle {{ {shown} }}")
+def show_style(shape, blinks):
+    shown = f"shape: {names_of('CursorShape').get(shape)}, blinking: {['false', 'true'][blinks]}"
+    return show_optional(None if shape == -1 else f"CursorStyle {{ {shown} }}")
 
 
-def link(name, uri):
-    shown = f"Hyperlink {{ id: {optional(quoted(name))}, uri: {quoted(uri)} }}"
-    return optional(None if uri is None else shown)
+def show_link(name, uri):
+    shown = f"Hyperlink {{ id: {show_optional(quote(name))}, uri: {quote(uri)} }}"
+    return show_optional(None if uri is None else shown)
 
 
-def mode(kind):
-    return lambda number: (f"Named({names(kind)[number]})" if number in names(kind) else
+def make_show_mode(kind):
+    return lambda number: (f"Named({names_of(kind)[number]})" if number in names_of(kind) else
                            f"Unknown({number})")
 
 
 # how an argument is written in the vectors, by its type in Rust; the first three have two values
-SHOWN = {"Attr": attribute, "Option<CursorStyle>": style, "Option<Hyperlink<'_>>": link, "Rgb": rgb,
-         "u8": "{:02x}".format, "&str": quoted, "&[u8]": lambda data: data.hex() or "-",
-         "Option<char>": lambda code: optional(quoted(b"%c" % code, "'") if code else None),
-         "Option<&str>": lambda title: optional(quoted(title)),
-         "Option<usize>": lambda number: optional(number or None),
+SHOWN = {"Attr": show_attribute, "Option<CursorStyle>": show_style,
+         "Option<Hyperlink<'_>>": show_link, "Rgb": show_rgb,
+         "u8": "{:02x}".format, "&str": quote, "&[u8]": lambda data: data.hex() or "-",
+         "Option<char>": lambda code: show_optional(quote(b"%c" % code, "'") if code else None),
+         "Option<&str>": lambda title: show_optional(quote(title)),
+         "Option<usize>": lambda number: show_optional(number or None),
          "CursorIcon": lambda keyword: keyword.decode().title().replace("-", ""),
-         "CharsetIndex": "G{}".format, "Mode": mode("NamedMode"),
-         "PrivateMode": mode("NamedPrivateMode")}
+         "CharsetIndex": "G{}".format, "Mode": make_show_mode("NamedMode"),
+         "PrivateMode": make_show_mode("NamedPrivateMode")}
 OF_TWO = [*SHOWN][:3]
 CALLS = calls_of((TOP / TRAIT).read_text())
 
 
-def shown(kind, *values):
+def show(kind, *values):
     if kind in SHOWN:
         return SHOWN[kind](*values)
-    return names(kind)[values[0]] if kind in of_rust() else str(values[0])
+    return names_of(kind)[values[0]] if kind in read_enums() else str(values[0])
 
 
 @cache
-def lines_for(line):
+def lines_of_call(line):
     """The lines of the vectors for a line that calls.c wrote."""
     name, *words = line.split()
     if line == SET:
@@ -111,12 +112,12 @@ def lines_for(line):
         return [f"input {ord(c):04x}" for c in next(values).decode()]
     name = name.replace("go_to", "goto")
     kinds = CALLS[name].arguments.values()
-    line = [name, *(shown(kind, *islice(values, 1 + (kind in OF_TWO))) for kind in kinds)]
+    line = [name, *(show(kind, *islice(values, 1 + (kind in OF_TWO))) for kind in kinds)]
     assert [*values] == []
     return [" ".join(line)]
 
 
-def scripts():
+def make_scripts():
     """The name of each, its steps with a new processor, and whether these set the timeout."""
     for vector in read_all_vectors():
         if vector["kind"] == "calls":
@@ -142,10 +143,10 @@ def step_of(step):
     return [act], lines_of(step["calls"]), (step.get("held"), is_pending, sets)
 
 
-SCRIPTS = list(scripts())
+SCRIPTS = list(make_scripts())
 
 
-def functions():
+def write_functions():
     """The functions of calls.c, in its macros: each writes what it was passed."""
     written = []
     for name, text in FUNCTIONS:
@@ -159,12 +160,12 @@ def functions():
     return f"{''.join(written)}#define CALLS(EACH){listed}\n"
 
 
-def outputs_of(library, suffix, *words):
+def run_scripts(library, suffix, *words):
     """What the program in C or C++ writes for each script."""
     compiler = {"c": "cc", "cpp": "c++"}[suffix]
     need(compiler, f"calls.{suffix} was not built")
-    (library.folder / "calls.inc").write_text(functions())
-    made = library.program(PROGRAMS / f"calls.{suffix}", "-Wl,--wrap=clock_gettime",
+    (library.folder / "calls.inc").write_text(write_functions())
+    made = library.compile(PROGRAMS / f"calls.{suffix}", "-Wl,--wrap=clock_gettime",
                            f"-I{library.folder}", *words, compiler=compiler, optional=words)
     if made is None:
         miss(f"the sanitizers of {compiler}, so calls.{suffix} was not run under them")
@@ -178,7 +179,7 @@ def outputs_of(library, suffix, *words):
 
 @pytest.fixture(scope="module")
 def outputs(cargo_build):
-    return outputs_of(cargo_build, "c")
+    return run_scripts(cargo_build, "c")
 
 
 def test_calls(outputs):
@@ -189,7 +190,7 @@ def test_calls(outputs):
         for acts, calls, known in steps:
             of_step, after = after[:len(acts)], after[len(acts):]
             found = [call for lines, *_ in of_step for line in lines.splitlines()
-                     for call in lines_for(line)]
+                     for call in lines_of_call(line)]
             left = *map(int, of_step[-1][1:]), found.count(SET)
             assert all(want in (None, it) for it, want in zip(left, known)), (name, acts, left)
             made += [call for call in found if is_order or call != SET]
@@ -200,7 +201,7 @@ def test_calls(outputs):
 
 @pytest.mark.parametrize("suffix", ["c", "cpp"])
 def test_with_sanitizers(cargo_build, outputs, suffix):
-    others = outputs_of(cargo_build, suffix, *SANITIZERS)
+    others = run_scripts(cargo_build, suffix, *SANITIZERS)
     for (name, *_), output, wanted in zip(SCRIPTS, others, outputs):
         assert output == wanted, name
 

@@ -23,13 +23,13 @@ SLOWLY = [(title, title, output) for title, output in (
 LINES = [(b"\x1b[1mone\x1b[m\n", b"one\n", b""), (b"two\n", b"two\n", b"")]
 
 
-def program(library, example, *words):
+def compile_example(library, example, *words):
     """An example, in the language of its file."""
     source = EXAMPLES / example
     compiler = {".c": "cc", ".cpp": "c++", ".go": "go"}[source.suffix]
     need(compiler, f"{example} was not built")
     if compiler != "go":
-        return library.program(source, OF_PTY, *words, compiler=compiler)
+        return library.compile(source, OF_PTY, *words, compiler=compiler)
     made = library.folder / f"{source.parent.name}_go"
     environment = {"CGO_ENABLED": "1", "CGO_CFLAGS": f"-I{INCLUDE}",
                    "CGO_LDFLAGS": f"{library.archive} {OF_PTY}",
@@ -71,7 +71,7 @@ def read_soon(stream, count):
 
 
 def test_stripper(library):
-    stripper = program(library, "c/stripper.c")
+    stripper = compile_example(library, "c/stripper.c")
     assert output_of([stripper], STREAM) == TEXT
     # more text than there is room for
     assert output_of([stripper], b"\xff" * 9000) == "\ufffd".encode() * 9000
@@ -81,7 +81,7 @@ def test_stripper(library):
 
 @pytest.mark.parametrize("example", ["c/title_watcher.c", "go/title_watcher/main.go"])
 def test_title_watcher(library, example):
-    watcher = program(library, example)
+    watcher = compile_example(library, example)
     # more events than there is room for
     many = b"\r" * 2500 + b"\x1b]0;t\x07" * 2
     for stream, output in (STREAM, b"title: a;b\n"), (many, b"title: t\ntitle: t\n"):
@@ -94,7 +94,7 @@ def test_title_watcher(library, example):
 @pytest.mark.parametrize(
     "example", ["c/pty_events.c", "cpp/pty_events.cpp", "go/pty_events/main.go"])
 def test_pty_events(library, example, tmp_path):
-    printer, mark = program(library, example), tmp_path / "goes_on"
+    printer, mark = compile_example(library, example), tmp_path / "goes_on"
     assert output_of([printer, "sh", "-c", PRINTS]) == EVENTS
     # a program goes on once there is a file: what came before has been printed by then
     slow = f"printf one; until [ -e {mark} ]; do sleep 0.02; done; printf two"
@@ -109,7 +109,7 @@ def test_clipboards(cargo_build, tmp_path):
     texts = [b"Q" * 1_000_000, b"", b"YWJj"] + [b"YQ=="] * 20
     stream = b"a\x1b]52;c;?\x07\x1b]2;c;title\x07\x1b]52;c\x07" + b"".join(
         b"b\x1b]52;c;%b\x1b\\" % text for text in texts)
-    clipboards = program(cargo_build, "c/clipboards.c")
+    clipboards = compile_example(cargo_build, "c/clipboards.c")
     few_files = ["sh", "-c", 'ulimit -n 12; exec "$0" "$1"']
     assert output_of([*few_files, clipboards, tmp_path], stream) == b"23\n"
     assert [(tmp_path / str(at)).read_bytes() for at in range(23)] == texts
@@ -118,7 +118,7 @@ def test_clipboards(cargo_build, tmp_path):
 
 
 def test_outline(cargo_build):
-    outline = program(cargo_build, "cpp/outline.cpp", "-std=c++17")
+    outline = compile_example(cargo_build, "cpp/outline.cpp", "-std=c++17")
     output = output_of([outline], STREAM + b"\x1b[3;5H\x1b[?2026hend").decode()
     assert output == "aü[bold][title a;b]\ufffd[go to 2, 4]end"
     assert_slow([outline], [(b"a\x1b[1m", b"a[bold]"), (b"b", b"b")])

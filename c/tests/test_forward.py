@@ -6,7 +6,7 @@ from lib.generating import streams
 from lib.judging import definition, house
 
 from library import EXAMPLES, PROGRAMS, SANITIZERS, output_of
-from test_examples import assert_ends_by_errors, assert_slow, program
+from test_examples import assert_ends_by_errors, assert_slow, compile_example
 
 ST = b"\x1b\\"
 # streams, and what is passed on of them, worked out by hand
@@ -40,7 +40,7 @@ def is_clipboard(number):
     return number.isdigit() and int(number) == 52
 
 
-def forwarded(stream):
+def drop_clipboards(stream):
     """What is passed on of a whole stream, each body of which is looked at up to its end."""
     passed, *bodies = stream.split(b"\x1b")
     for left, body in enumerate(bodies, 1 - len(bodies)):
@@ -55,7 +55,7 @@ def forwarded(stream):
     return passed
 
 
-def lines_without_clipboards(stream):
+def list_lines_without_clipboards(stream):
     """The events of a stream: of a command for a clipboard BEL leaves a lone ST."""
     for line in definition.lines_of(stream, house.House(limit=None)):
         word, *rest = line.split()
@@ -67,7 +67,7 @@ def lines_without_clipboards(stream):
 
 def test_recorded(library):
     """Streams without such commands are passed on, each byte once it is known to be of none."""
-    forward = program(library, "c/forward.c")
+    forward = compile_example(library, "c/forward.c")
     recorded = {name: b"".join(chunks) for name, chunks in streams.read_recorded()}
     for name in "vim", "tmux", "sixel", "malformed-text":
         assert output_of([forward], recorded[name]) == recorded[name]
@@ -81,11 +81,11 @@ def test_cuts(library):
     """Wherever a stream is cut, as much is passed on as of the whole, and by this definition."""
     by_hand, chance = {**BY_HAND, **dict(zip(PASSED, PASSED))}, random.Random(52)
     hostile = [b"".join(chance.choices(PARTS, k=chance.randint(1, 16))) for _ in range(300)]
-    wanted = {**{stream: forwarded(stream) for stream in hostile}, **by_hand}
+    wanted = {**{stream: drop_clipboards(stream) for stream in hostile}, **by_hand}
     for stream in wanted:
-        lines = definition.lines_of(forwarded(stream + b"\x18"), house.House(limit=None))
-        assert lines == [*lines_without_clipboards(stream + b"\x18")], stream
+        lines = definition.lines_of(drop_clipboards(stream + b"\x18"), house.House(limit=None))
+        assert lines == [*list_lines_without_clipboards(stream + b"\x18")], stream
     for words in [[], SANITIZERS][:1 + bool(library.sanitized)]:
-        by_cuts = library.program(PROGRAMS / "forward_cuts.c", f"-I{EXAMPLES / 'c'}", *words)
+        by_cuts = library.compile(PROGRAMS / "forward_cuts.c", f"-I{EXAMPLES / 'c'}", *words)
         *passed, rest = output_of([by_cuts], b"".join(it + b"\0" for it in wanted)).split(b"\0")
         assert (dict(zip(wanted, passed)), rest) == (wanted, b"")

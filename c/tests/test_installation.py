@@ -45,13 +45,13 @@ class Site:
         assert not any((self.folder / "temporary").iterdir())
         return done.stdout
 
-    def installed(self, folder):
+    def list_installed(self, folder):
         top = self.folder / folder
         return {str(file.relative_to(top)) for file in top.rglob("*") if not file.is_dir()}
 
     def uninstall(self, folder, **variables):
         """Removes what is below a folder, which all could use, and leaves what is another's."""
-        top, files = self.folder / folder, self.installed(folder)
+        top, files = self.folder / folder, self.list_installed(folder)
         for file in files:
             mode = 0o755 if "bin/" in file or ".so" in file else 0o644
             assert (top / file).stat().st_mode & 0o777 == mode, file
@@ -60,7 +60,7 @@ class Site:
         for file in others:
             (top / file).touch()
         output = self.run("uninstall", **variables)
-        assert self.installed(folder) == others
+        assert self.list_installed(folder) == others
         assert set(output.splitlines()) == {f"{top}/{file}" for file in files}
         assert not [file for file in top.rglob("vte*") if file.is_dir()]
         for file in others:
@@ -83,7 +83,7 @@ def prefix(site):
     # cargo has built the library by now
     archive = {"VTE_ARCHIVE": ""} if site.library.is_complete else {}
     output = site.run("install", f"--{site.library.build}", "--library", **archive)
-    assert site.installed("prefix") == site.wanted
+    assert site.list_installed("prefix") == site.wanted
     assert set(output.split()) == {f"{site.folder}/prefix/{name}" for name in site.wanted}
     yield site
     site.uninstall("prefix")
@@ -102,7 +102,7 @@ def test_arguments(site, tool, words):
 
 def test_build_in_a_folder_with_a_blank(site):
     output = site.run("build_c_library", f"--{site.library.build}", "a folder")
-    assert site.installed("a folder") == {"libvte_c.a", "libvte_c.so"}
+    assert site.list_installed("a folder") == {"libvte_c.a", "libvte_c.so"}
     assert re.fullmatch(rf"built .* {site.library.build}: .*\n", output)
 
 
@@ -128,7 +128,7 @@ def test_pkg_config(prefix):
             prefix.run(*outline, "-std=c++14", status=1, says="vte.hpp needs C++17")
 
 
-def cmake(site, *words, **how):
+def run_cmake(site, *words, **how):
     need("cmake", "the installed library was not looked for by it")
     source = f"-DSOURCE={EXAMPLES / 'c/stripper.c'}"
     site.run("cmake", source, *words, "-S", PROGRAMS, "-B", "built", **how)
@@ -136,7 +136,7 @@ def cmake(site, *words, **how):
 
 def test_cmake(prefix):
     for version, status in (5, 1), (7, 1), (6, 0), ("", 0):
-        cmake(prefix, f"-DCMAKE_PREFIX_PATH={prefix.folder / 'prefix'}", f"-DVERSION={version}",
+        run_cmake(prefix, f"-DCMAKE_PREFIX_PATH={prefix.folder / 'prefix'}", f"-DVERSION={version}",
               status=status)
     prefix.run("cmake", "--build", "built")
     prefix.assert_strips("built/vte_c")
@@ -151,7 +151,7 @@ def test_package(site):
     package = {"PREFIX": "/usr", "LIBDIR": f"/{machine}", "DESTDIR": str(staged)}
     for build in "--rt", "--cargo":
         site.run("install", build, says="library is given", **package)
-    assert site.installed(staged) == {f"usr/{name}".replace("usr/lib", machine)
+    assert site.list_installed(staged) == {f"usr/{name}".replace("usr/lib", machine)
                                        for name in site.wanted | OF_VTLOG}
     assert os.readlink(staged / machine / "libvte_c.so") == "libvte_c.so.6"
     described = (staged / machine / "pkgconfig/libvte_c.pc").read_text().splitlines()
@@ -160,7 +160,7 @@ def test_package(site):
         page = site.run("man", staged / "usr/share/man/man3/vte.3", MANWIDTH="160")
         assert re.search(r"vte_feed\(vte_parser.*vte_long_feed.*vte_processor_new", page, re.S)
     assert (staged / "usr/bin/vtlog").read_bytes() == Path("/bin/true").read_bytes()
-    cmake(site, f"-DCMAKE_PREFIX_PATH={staged / 'usr'}",
+    run_cmake(site, f"-DCMAKE_PREFIX_PATH={staged / 'usr'}",
           "-DCMAKE_LIBRARY_ARCHITECTURE=x86_64-linux-gnu", "-DVERSION=6")
     site.run("cmake", "--build", "built")
     site.uninstall("staged here", **package)
@@ -177,7 +177,7 @@ def test_without_tools(site):
     variables = {"PATH": str(tools), "DESTDIR": str(site.folder / "without_cc"), "PREFIX": ""}
     site.run("install", "--cargo", says="there is no cc: the ", **variables)
     wanted = {f"usr/local/{file}" for file in site.wanted | OF_VTLOG if ".so" not in file}
-    assert site.installed("without_cc") == wanted
+    assert site.list_installed("without_cc") == wanted
     site.uninstall("without_cc", **variables)
     build = "build_c_library", "--cargo", site.folder / "none"
     site.run(*build, status=70, says="cargo isn't installed", **variables)
@@ -187,14 +187,14 @@ def test_without_tools(site):
     site.run("install", "--cargo", **{**variables, "VTLOG": ""}, says=(
         "it is too old\ninstall: cargo could not build vtlog, as above: the program was left out\n"
         "install: the library is given as "))
-    assert not {name for name in site.installed("without_cc") if "vtlog" in name}
+    assert not {name for name in site.list_installed("without_cc") if "vtlog" in name}
     # cargo builds for the machine that is named to it, in another folder
     other = site.folder / "other.a"
     site.run("objcopy", "--redefine-sym", "vte_version=vte_other", site.library.archive, other)
     write_program(tools / "cargo", f"made={other}; case $* in *vtlog*) made=/bin/true; esac\n"
                   """echo '{"reason":"compiler-artifact","filenames":["'"$made"'"]}'""")
     site.run("install", "--cargo", **{**variables, "VTLOG": "", "VTE_ARCHIVE": ""})
-    assert site.installed("without_cc") == wanted
+    assert site.list_installed("without_cc") == wanted
     installed = site.folder / "without_cc/usr/local"
     assert (installed / "bin/vtlog").read_bytes() == Path("/bin/true").read_bytes()
     assert " T vte_other" in site.run("nm", installed / "lib/libvte_c.a")

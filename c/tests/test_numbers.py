@@ -32,7 +32,7 @@ LIST = r"\benum{} {{([^}}]*)}}"
 NAME = re.compile(r"^\s*(\w+)(?:\([^)]*\))?(?: = (-?\d+))?,?\s*$", re.M)
 
 
-def numbered(text):
+def number_names(text):
     """The names of an enum, with their numbers."""
     numbers, next_number = {}, 0
     for name, number in NAME.findall(re.sub(r"//.*|#\[.*?\]", "", text)):
@@ -42,21 +42,22 @@ def numbered(text):
 
 
 @cache
-def of_rust():
+def read_enums():
     text = "".join(file.read_text() for file in sorted(TYPES.glob("*.rs")))
-    return {name: numbered(re.search(LIST.format(f" {name}"), text)[1]) for name in ENUMS}
+    return {name: number_names(re.search(LIST.format(f" {name}"), text)[1]) for name in ENUMS}
 
 
 def test_constants_of_headers():
     wanted = {"VTE_SHAPE_OWN": -1, "VTE_BELL": 1, "VTE_TRUNCATED": 2}
     wanted |= {f"VTE_{name}": at for names in OF_C for at, name in enumerate(names.split())}
     for kind, names in ENUMS.items():
-        for one, number in of_rust()[kind].items():
+        for one, number in read_enums()[kind].items():
             snake = re.sub("(?<!^)(?=[A-Z])", "_", one).upper()
             wanted[names + snake if isinstance(names, str) else names.get(one)] = number
     headers = INCLUDE / "vte.h", INCLUDE / "vte_handler.h"
     text = re.sub(r"/\*.*?\*/", "", "".join(it.read_text() for it in headers), flags=re.S)
-    found = [numbered(listed.replace(",", "\n")) for listed in re.findall(LIST.format(""), text)]
+    found = [number_names(listed.replace(",", "\n"))
+             for listed in re.findall(LIST.format(""), text)]
     assert {name: number for one in found for name, number in one.items()} == {
         name: number for name, number in wanted.items() if name}
 
@@ -64,4 +65,4 @@ def test_constants_of_headers():
 def test_handler_of_cpp(cargo_build):
     need("c++", "vte.hpp was not tested")
     words = ["-std=c++17", "-Wl,--wrap=malloc", "-Wl,--wrap=realloc"]
-    assert output_of([cargo_build.program(PROGRAMS / "handler.cpp", *words, compiler="c++")]) == b""
+    assert output_of([cargo_build.compile(PROGRAMS / "handler.cpp", *words, compiler="c++")]) == b""

@@ -5,7 +5,7 @@ from lib.generating.streams import read_recorded
 from lib.generating.vectors import bytes_of, lines_of, read_vectors
 from lib.judging import definition, house
 
-from library import at_once, output_of
+from library import output_of, run_at_once
 
 # arguments of the C program: chunks of one byte, of 4,096, and of random sizes in random room
 WAYS = [["1"], ["4096"], ["0"], ["7", "4", "2112"]]
@@ -53,20 +53,20 @@ def compare_losses(library, name, stream):
     # a command is in what one ESC begins
     bodies = b"\x1b".join(body if b"]" in body else b"" for body in stream.split(b"\x1b"))
 
-    def sizes(**limits):
+    def measure_commands(**limits):
         return [sum(len(piece) // 2 for piece in line.split()[3:])
                 for line in definition.lines_of(bodies, house.House(**limits))
                 if line.startswith("osc ")]
 
-    all_data = sizes(limit=None, pieces=None)
+    all_data = measure_commands(limit=None, pieces=None)
     for parser, limit in ([], LIMIT), (["long"], None):
         wanted = b"".join(b"kept\n" if has == size else b"lost\n"
-                          for has, size in zip(sizes(limit=limit), all_data))
+                          for has, size in zip(measure_commands(limit=limit), all_data))
         ways = [[*parser, "losses", chunk] for chunk in ("1", "4096", "0")]
         compare(library, name, stream, wanted, ways)
 
 
-def joined(lines):
+def join_lines(lines):
     return "".join(f"{line}\n" for line in lines).encode()
 
 
@@ -75,11 +75,11 @@ def test_vectors(library):
     def check_vector(case):
         vector, stream = case
         is_text = vector["kind"] == "text"
-        wanted = bytes_of(vector["text"]) if is_text else joined(lines_of(vector["events"]))
+        wanted = bytes_of(vector["text"]) if is_text else join_lines(lines_of(vector["events"]))
         ways = STRIP_WAYS if is_text else WAYS
         compare(library, f"vector: {vector['name']}", stream, wanted, [ways[0], ways[2]])
 
-    at_once(check_vector, VECTORS)
+    run_at_once(check_vector, VECTORS)
 
 
 def test_commands(library):
@@ -87,12 +87,12 @@ def test_commands(library):
     stream = b"".join(b"\x1b]" + data + end for data in COMMANDS for end in ends)
     stream += b"\x1b]2;" + MOST * 60 + b"\a"
     for parser, limit in ([], LIMIT), (["long"], None):
-        lines = joined(definition.lines_of(stream, house.House(limit=limit)))
+        lines = join_lines(definition.lines_of(stream, house.House(limit=limit)))
         compare(library, "commands", stream, lines, [[*parser, *way[:2]] for way in WAYS])
     compare_losses(library, "commands", stream)
 
 
-def all_streams(option):
+def make_streams(option):
     """Vectors joined, recorded streams and groups of random ones, with their names. With --short no
     recorded one is longer than 4,000 bytes."""
     # CAN is between them, after which a stream starts afresh
@@ -123,4 +123,4 @@ def test_streams(library, request):
         compare(library, name, stream, output_of([program, text, *chunk], stream), STRIP_WAYS)
         compare_losses(library, name, stream)
 
-    at_once(check_stream, enumerate(all_streams(option)))
+    run_at_once(check_stream, enumerate(make_streams(option)))

@@ -75,12 +75,12 @@ def test_speed(monkeypatch, words, changes):
     found = {"cores": []}
     measuring, figures = run.parts["measuring"], run.parts["figures"]
 
-    def programs(folder, placements):
+    def make_programs(folder, placements):
         found["placements"] = placements
         return SimpleNamespace(build=lambda _: None, build_commands=lambda _: {"ours": [["ours"]]},
                                write_stream=lambda name, size: sizes.append(size))
 
-    monkeypatch.setattr(measuring, "Programs", programs)
+    monkeypatch.setattr(measuring, "Programs", make_programs)
     monkeypatch.setattr(measuring, "compare_checksums", lambda *_: None)
     monkeypatch.setattr(measuring, "make_passes", lambda *_: lambda: 1)
     monkeypatch.setattr(figures, "show_row", rows.append)
@@ -101,19 +101,19 @@ def test_speed(monkeypatch, words, changes):
 def test_counts(monkeypatch, words, kinds, changes):
     asked, jobs = [], []
 
-    def pool(count):
+    def make_pool(count):
         jobs.append(count)
         return ThreadPoolExecutor(count)
 
-    def stream(name, size):
+    def write_stream(name, size):
         asked.append((name, size))
         return SimpleNamespace(name=name, size=size)
 
     count = Tool("../bench/count", count_pass=lambda words, _, path: (path.size, "left"),
-                 ThreadPoolExecutor=pool, copy_libc=lambda folder: None)
+                 ThreadPoolExecutor=make_pool, copy_libc=lambda folder: None)
     monkeypatch.setattr(count.parts["measuring"], "Programs", lambda folder: SimpleNamespace(
         folder=folder, build_peers=lambda side: [side], proved_program="proved",
-        write_stream=stream, build_commands=lambda _: {"vte_feed": [["in C"]]}))
+        write_stream=write_stream, build_commands=lambda _: {"vte_feed": [["in C"]]}))
     _, output = count.run(*words.split())
     wanted = {"streams": STRIP["streams"], "bytes": 200_000, "jobs": os.cpu_count(), **changes}
     streams = wanted["streams"] * len(kinds.split())

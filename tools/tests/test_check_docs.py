@@ -10,16 +10,16 @@ from lib.documents import Page, Repository
 from tests.support import Tool, write
 
 
-def check_docs(**known):
+def make_tool(**known):
     """The tool, and what it knows of a repository other than what this folder has."""
     repository = Repository(Path.cwd())
     vars(repository).update(known)
     return Tool("check_docs", REPOSITORY=repository)
 
 
-def failures(text, run=True, name="page.md"):
+def find_failures(text, run=True, name="page.md"):
     files = "a/src/known.rt", *(f"crates/{it}/specs/Two.antt" for it in ("a", "examples", "a/b"))
-    tool = check_docs(paths=list(map(Path, files)), words={"one", "two", "three", "rt"},
+    tool = make_tool(paths=list(map(Path, files)), words={"one", "two", "three", "rt"},
                       words_by_file=[{"one", "two", "rt"}, {"three"}],
                       source_lines={"f();", "g(1);"}, sources={Path("a.rt"): "f();\n h"},
                       is_in_history=lambda commit: commit == "abc1234")
@@ -59,24 +59,24 @@ def failures(text, run=True, name="page.md"):
     ("```sh run\ntrue\n```\n```sh\nfalse\n```", None), ("```sh run\ntest -e page.md\n```", None)])
 def test_pages(page, failure, monkeypatch):
     monkeypatch.setattr(shutil, "which", lambda _: "/bin/rt")
-    found = failures(page)
+    found = find_failures(page)
     assert [it[: len(failure or "")] for it in found] == [failure] * bool(failure)
-    assert failures(page, run=False) == [it for it in found if "commands failed" not in it]
+    assert find_failures(page, run=False) == [it for it in found if "commands failed" not in it]
 
 
 def test_comments_of_sources():
     source = "-- `four`\nf();  // `four`\n/// `one` `four`\n# `four`\nf(`four`) --four\n"
-    assert failures(source, name="a.rt") == ["no source file contains four"] * 4
+    assert find_failures(source, name="a.rt") == ["no source file contains four"] * 4
 
 
 def test_each_module_is_named():
     wanted = ["this module has no name here: crates/a/specs/Two.antt"]
-    assert failures("`one`", name="REVIEWING.md") == wanted
-    assert failures("# `Two`", name="REVIEWING.md") == ["no source file contains Two"]
+    assert find_failures("`one`", name="REVIEWING.md") == wanted
+    assert find_failures("# `Two`", name="REVIEWING.md") == ["no source file contains Two"]
 
 
 def test_each_call_is_named_and_has_an_example():
-    tool = check_docs()
+    tool = make_tool()
     write(tool.parts["EXAMPLES"], "Bell")
     write(tool.parts["TRAIT"], "".join(f"    fn {it}(&mut self)\n" for it in (
         "bell", "newline", "put_tab")) + "pub trait HandlerText")
@@ -96,7 +96,7 @@ def test_clauses_are_declared(text, wanted):
              "rust/C/src/r.rs": "/// A type five.\nfn g() {}", "rust/C/tests/t.rs": "fn six() {}",
              "crates/C/proofs/P.antt": "pub seven : ℕ"}
     texts = {Path(path): text for path, text in files.items()}
-    tool = check_docs(sources=texts, paths=list(texts))
+    tool = make_tool(sources=texts, paths=list(texts))
     found = list(tool.parts["check_clauses"](text))
     assert found == [f"no module, definition, field or clause is named {it}"
                      for it in wanted.split()]
@@ -117,7 +117,7 @@ def test_modules_are_listed_after_those_that_they_import(page, wanted):
              "crates/b/specs/Two.antt": "use Rattle.b.specs.One.{f}\nuse Rattle.a.specs.One as a\n"
                                         "use Rattle.b.specs.Two.{g}",
              "crates/b/specs/private/One.antt": "", "crates/b/specs/private.antt": ""}
-    tool = check_docs(paths=list(map(Path, files)))
+    tool = make_tool(paths=list(map(Path, files)))
     for path, text in files.items():
         write(path, text)
     found = tool.parts["check_modules"](page + "\n`One`, `Two`")
@@ -131,7 +131,7 @@ def test_modules_are_listed_after_those_that_they_import(page, wanted):
 def test_commands_that_lack_something_are_missing(needs, crates, lacking, monkeypatch, capsys):
     monkeypatch.setattr(shutil, "which", {"here": "/bin/here"}.get)
     monkeypatch.setenv("HAS_CRATES", crates)
-    found = failures(f"```sh run {needs}\nfalse\n```")
+    found = find_failures(f"```sh run {needs}\nfalse\n```")
     assert found == ([] if lacking else ["these commands failed with status 1"])
     reported = f"missing: commands of page.md:2 need {lacking}\n" * bool(lacking)
     assert capsys.readouterr().out == reported
@@ -157,7 +157,7 @@ def test_which_pages_are_checked(words, faulty, status, reported):
     write(".gitignore", "out/\n")
     for path in "README.md", "docs/A.md", "tools/README.md", "out/README.md", "a.py":
         write(path, "")
-    tool = check_docs()
+    tool = make_tool()
     tool.parts["check_page"] = lambda page, run: [(5, run)] * (page.path.name in faulty)
     assert tool.run(*words.split()) == (status, "".join(f"{line}\n" for line in reported))
 

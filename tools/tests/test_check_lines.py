@@ -19,7 +19,7 @@ LINES = {
     "erased text": ("rust/x/src/proved/f.rs", "", 0)}
 
 
-def faults(path, text):
+def find_faults(path, text):
     subprocess.run(["git", "init", "-q"], check=True)
     write(path, text)
     status, printed = Tool("check_lines").run()
@@ -32,7 +32,7 @@ def faults(path, text):
 def test_how_long_a_line_may_be(path, begin, most):
     line = (begin + " x" * 60)[:most or None]
     wanted = [f"{path}:2: a line of {most + 1} characters"] * bool(most)
-    assert faults(path, f"{line}\n{line}y\n") == wanted
+    assert find_faults(path, f"{line}\n{line}y\n") == wanted
 
 
 @pytest.mark.parametrize("path, begin, line, end, most, wanted", [
@@ -45,5 +45,6 @@ def test_how_long_a_line_may_be(path, begin, most):
         ("x.rt", "fn g();\nfn f(\n)\n    ensures {\n        b\n    }\n{\n", "    a;\n", "}\n", 44),
         ("x.rt", "fn f(\n    b: B,\n) -> [u8; 2] {\n", "    a;\n", "}\n", 44)))])
 def test_how_long_files_and_functions_may_be(path, begin, line, end, most, wanted):
-    assert faults(path, begin + most * line + end) == []
-    assert faults(path, begin + (most + 1) * line + end) == [f"{path}: {wanted}"] * bool(wanted)
+    assert find_faults(path, begin + most * line + end) == []
+    longer = begin + (most + 1) * line + end
+    assert find_faults(path, longer) == [f"{path}: {wanted}"] * bool(wanted)

@@ -9,7 +9,7 @@ from tests.support import TOOLS, Tool, write
 
 # ---- check_erased
 
-def differences(source, written, path="c/mod.rs", adapter=""):
+def find_differences(source, written, path="c/mod.rs", adapter=""):
     """What differs in a file, in whose place something else is written, and in an adapter."""
     write("a.rs", adapter)
     write("crates/c/src/lib.rt", source)
@@ -59,7 +59,7 @@ def differences(source, written, path="c/mod.rs", adapter=""):
      "fn f() { let b = match c { A(b) => b, _ => return, }; }", "+fn f, -fn f")])
 def test_what_differs_is_reported(source, written, wanted):
     shown = re.compile("c/mod.rs (.*?): it isn't (?:written|in the source as it is written: (.*))")
-    found = [shown.fullmatch(line) for line in differences(source, written)]
+    found = [shown.fullmatch(line) for line in find_differences(source, written)]
     assert ", ".join("+-"[it[2] is None] + it[1] for it in found) == wanted
     assert all(word in written for it in found for word in (it[2] or "").split())
 
@@ -69,7 +69,7 @@ EXAMPLES = [it[2].split(" -> ") for it in Tool("check_erased").parts["PATTERNS"]
 
 @pytest.mark.parametrize("texts", EXAMPLES)
 def test_what_may_differ(texts):
-    assert differences(*(f"fn f() {{ {text} }}" for text in texts)) == []
+    assert find_differences(*(f"fn f() {{ {text} }}" for text in texts)) == []
 
 
 @pytest.mark.parametrize("source, written", EXAMPLES)
@@ -79,7 +79,7 @@ def test_any_other_token_differs(source, written):
     for token in re.finditer(r"\w+|[^\w\s(){}[\]]", source):
         other = " 7 " if token[0].isdigit() else " other "
         changed = source[:token.start()] + other + source[token.end():]
-        if not differences(f"fn f() {{ {changed} }}", f"fn f() {{ {written} }}"):
+        if not find_differences(f"fn f() {{ {changed} }}", f"fn f() {{ {written} }}"):
             ignored.append(token[0])
     assert ignored == (["f"] if "laws" in source else [])
 
@@ -88,8 +88,8 @@ def test_documentation_is_repeated():
     text = "/// F\n/// [`crate::G`].\npub fn f() {}\n"
     same = ("/// F [`G`]:\n/// ```\n/// g();\n/// ```\n#[inline]\npub const fn f() {}\n"
             "/// More.\npub fn shrink() {}\n")
-    assert differences(text, text, adapter=same) == []
-    found = differences(text, text, adapter="/// F [`H`].\npub const fn f() {}\n")
+    assert find_differences(text, text, adapter=same) == []
+    found = find_differences(text, text, adapter="/// F [`H`].\npub const fn f() {}\n")
     assert found == ["a.rs fn f: the source has other documentation"]
 
 
@@ -97,15 +97,15 @@ def test_all_files_are_compared():
     for path in "a", "a/b", "laws/a", "tests", "tests/a":
         write(f"crates/c/src/{path}.rt", "fn f() {}")
     source = "pub mod laws;\n#[cfg(test)]\nmod tests;\n"
-    assert differences(source, "") == [f"c/{path}.rs fn f: it isn't written"
+    assert find_differences(source, "") == [f"c/{path}.rs fn f: it isn't written"
                                        for path in ("a", "a/b")]
-    found = differences(source + "// cargo lacks: why\nmod a;\n", "", "c/d.rs")
+    found = find_differences(source + "// cargo lacks: why\nmod a;\n", "", "c/d.rs")
     assert found == ["w/c/d.rs: it has no source"]
 
 
 # ---- erase
 
-def erase(*words):
+def run_erase(*words):
     plans = [Plan(folder=folder, modules={"c": "crate::c"}) for folder in ("v", "w")]
     return Tool("erase", PLANS=plans, format_files=lambda files: files).run(*words)
 
@@ -116,10 +116,10 @@ def test_what_is_out_of_date_is_told_and_then_written(folder):
     write("w/mod.rs", "as it was")
     outdated = ("these files aren't up to date; run tools/erase:\n"
                 "  v/c/d/e.rs\n  v/mod.rs\n  w/c/d/e.rs\n  w/left/over\n  w/mod.rs")
-    assert erase("--check") == (outdated, "")
-    assert erase() == (None, "5 files are written\n")
-    assert erase("--check") == (None, "")
-    assert erase() == (None, "0 files are written\n")
+    assert run_erase("--check") == (outdated, "")
+    assert run_erase() == (None, "5 files are written\n")
+    assert run_erase("--check") == (None, "")
+    assert run_erase() == (None, "0 files are written\n")
     assert not (folder / "w/left/over").exists()
     assert (folder / "w/c/d/e.rs").read_text().splitlines()[1:] == ["fn f() { }"]
 
@@ -143,5 +143,5 @@ def test_layout():
 def test_what_the_eraser_refuses_is_told(words, folder):
     write("crates/c/src/lib.rt", "\n#[test]\nfn f() {}\n")
     reported = "tools/erase: crates/c/src/lib.rt:2: unknown attribute: test"
-    assert erase(*words) == (reported, "")
+    assert run_erase(*words) == (reported, "")
     assert not (folder / "w").exists()

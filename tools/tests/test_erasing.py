@@ -11,7 +11,7 @@ from lib.erasing.tokens import Refused, split
 from tests.support import Tool, write
 
 
-def plan(**entries):
+def make_plan(**entries):
     return Plan(folder="o", modules={"a": "crate::a", "b": "crate::b"}, **entries)
 
 
@@ -80,7 +80,7 @@ def split_marked(marked):
     return re.sub("[‹›]|«[^»]*»", "", marked), re.sub("[«»]|‹[^›]*›", "", marked)
 
 
-def words(text):
+def words_of(text):
     """The words, comments and blank lines of a text: the rest of its layout is rustfmt's."""
     texts = [token.text.strip(" ") for token in split(text)]
     return [text for text in texts if text not in ("", "\n", ",")]
@@ -153,8 +153,8 @@ TEXTS = [
 def test_traps():
     assert "".join(token.text for token in split(TRAPS)) == TRAPS
     before, after = split_marked(TRAPS)
-    text, tests, _ = erase(before, "a", "a/x", plan())
-    assert words(text) == words(after)
+    text, tests, _ = erase(before, "a", "a/x", make_plan())
+    assert words_of(text) == words_of(after)
     assert tests == {"a/x/cases", "a/x/tests"}
 
 
@@ -162,8 +162,8 @@ def test_traps():
     " ".join(re.sub("[‹›«»]", "", marked).split())[:50] for _, marked in TEXTS])
 def test_texts(entries, marked):
     """What the eraser writes has no difference for the tool that shares no rule with it."""
-    (before, after), of_test = split_marked(marked), plan(**entries)
-    assert words(erase(before, "a", "a/x", of_test)[0]) == words(after)
+    (before, after), of_test = split_marked(marked), make_plan(**entries)
+    assert words_of(erase(before, "a", "a/x", of_test)[0]) == words_of(after)
     write("crates/a/src/x.rt", before)
     write("o/a/x.rs", after)
     status, output = Tool("check_erased", PLANS=(of_test,), REPEATED={}).run()
@@ -180,7 +180,7 @@ def test_texts(entries, marked):
     ("\n// cargo lacks:\nfn f() {}\n", 2), ("// cargo instead: a\n// cargo: b\nc\n#[test]\n", 4)])
 def test_what_is_refused(text, line):
     with pytest.raises(Refused) as caught:
-        erase(text, "a", "a/x", plan())
+        erase(text, "a", "a/x", make_plan())
     assert (caught.value.line or 1) == line, caught.value
 
 
@@ -193,7 +193,7 @@ def test_which_files_are_written(is_reversed):
                   "left.rt": "#[x]", "left/over.rt": "#[x]", "leftover.rt": ""},
             "b": {"main.rt": "#[cfg(test)] mod x; #[cfg(test)] mod c;", "x.rt": "#[x]",
                   "c.rt": "#[x]", "old.rt": "fn f() {}"}}
-    ours = plan(conditions={"b": "x"}, allowed_lints=("y", "z"))
+    ours = make_plan(conditions={"b": "x"}, allowed_lints=("y", "z"))
     files = write_crate(ours, lambda crate: dict(sorted(made[crate].items(), reverse=is_reversed)))
     assert sorted(files) == ["a/leftover.rs", "a/mod.rs", "a/y.rs", "a/z.rs",
                              "a/z/lib.rs", "b/mod.rs", "b/old.rs", "mod.rs"]
@@ -209,7 +209,7 @@ def test_which_files_are_written(is_reversed):
     dict(homes={"b": "gone"}), dict(rules=[("gone", "")])])
 def test_each_entry_is_needed(entries):
     with pytest.raises(Failure, match="what no file needs: gone"):
-        write_crate(plan(**entries), lambda _crate: {"x.rt": "fn f() {}"})
+        write_crate(make_plan(**entries), lambda _crate: {"x.rt": "fn f() {}"})
 
 
 @pytest.mark.parametrize("text, pattern, stays", [

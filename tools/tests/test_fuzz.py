@@ -26,14 +26,14 @@ def test_a_difference_is_found(does, is_found):
     ("readings", "readings", 5, "finds", 1), ("readings", "readings", 5, "fuzz", 1),
     ("--coverage", "", 0, "fuzz finds", 0), ("--coverage", "", 0, "coverage", 1)])
 def test_what_is_fuzzed(words, targets, seconds, failing, status):
-    def fake(name):
-        def function(*words):
+    def make_fake(name):
+        def print_words(*words):
             print(*words)
             return name not in failing
-        return function
+        return print_words
 
     fuzz = Tool("fuzz", find_missing=lambda: (), build=lambda *words: words,
-                build_different=str, fuzz=fake("fuzz"), finds_differences=fake("finds"),
+                build_different=str, fuzz=make_fake("fuzz"), finds_differences=make_fake("finds"),
                 check_coverage=lambda: "coverage" not in failing)
     wanted = [line for target in targets.split()
               for line in (f"{target} {(target, seconds)} {seconds}", f"{target} {target}")]

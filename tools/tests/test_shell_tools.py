@@ -94,7 +94,7 @@ def test_streams_of_c(monkeypatch, words, count, seed):
     conftest.pytest_addoption(SimpleNamespace(addoption=parser.add_argument))
     monkeypatch.setattr(of_c, "make_hostile_stream", lambda *it: [b"%d %d" % it[:2]])
     monkeypatch.setattr(of_c, "read_recorded", lambda: [("long", [b"a" * 20_000])])
-    streams = dict(of_c.all_streams(parser.parse_args(words.split())))
+    streams = dict(of_c.make_streams(parser.parse_args(words.split())))
     assert len(streams["long"]) == (4_000 if words == "--short" else 20_000)
     found = b"\x18".join(streams[name] for name in streams if name.startswith("random"))
     assert found.split(b"\x18") == [b"%d %d" % (seed, number) for number in range(count)]

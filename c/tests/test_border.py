@@ -6,7 +6,7 @@ from ctypes import c_char
 import pytest
 
 from calling import (ALL_KINDS, CSI, DATA, ESC, EXECUTE, FUNCTIONS, HOOK, NO_ROOM, OSC,
-                               ROOMS, TEXT, UNHOOK, Parser, Processor, make_parsers)
+                     ROOMS, TEXT, UNHOOK, Parser, Processor, make_parsers)
 
 OK, BELL, TRUNCATED = 0, 1, 2
 STREAM = b"a\x1b[1mb"
@@ -26,7 +26,7 @@ EACH_KIND = b"a\r\x1bP1q+\x1b\\\x1b]t\x07\x1b[1mb\x1b(B\x1bPq-\x18\x1bPqxyz"
     (STREAM, ALL_KINDS, 1 << TEXT, ROOMS, (1, 1, 0)),
     (STREAM, ALL_KINDS, 1 << CSI, ROOMS, (5, 2, 3)),
     (DATA_STRINGS, ALL_KINDS, 1 << DATA, ROOMS, (8, 3, 3))])
-def test_rooms_and_stops(library, sent, kinds, stops, rooms, wanted):
+def test_a_call_ends_at_a_stop_and_needs_room(library, sent, kinds, stops, rooms, wanted):
     # a parser without a limit has its own room for data
     for parser in make_parsers(library)[:1 if rooms[1] < 2112 else 2]:
         # data of earlier calls are gone
@@ -41,14 +41,14 @@ def test_rooms_and_stops(library, sent, kinds, stops, rooms, wanted):
 @pytest.mark.parametrize("sent, room, wanted", [
     (b"", 16, (0, b"")), (STREAM, 16, (6, b"ab")),
     *((sent, room, (NO_ROOM, b"")) for sent in (b"", STREAM) for room in range(16))])
-def test_room_for_text(library, sent, room, wanted):
+def test_text_needs_16_bytes_of_room(library, sent, room, wanted):
     parser = Parser(library)
     assert parser.strip(sent, room) == wanted
     assert wanted[0] < NO_ROOM or not any(parser.pointer)
 
 
 @pytest.mark.parametrize("kind", range(8))
-def test_kinds_and_stops(library, kind):
+def test_each_kind_can_be_chosen_and_stop(library, kind):
     """Each kind stops after its first event, if it is reported."""
     for parser in make_parsers(library):
         def feed_each(kinds, stops):
@@ -82,7 +82,7 @@ def test_runs_are_in_the_bytes(library, kind, sent, wanted):
             parser.feed(b"\x18")
 
 
-def test_places_of_long_texts(cargo_build):
+def test_all_of_a_long_text_has_a_position(cargo_build):
     """A parser without a limit reads 64 KiB at most, and all of these have a position."""
     sent, at = bytearray(b"a" * 200_000), 0
     sent[150_009::10_000] = b"\r" * 5
@@ -99,7 +99,7 @@ def test_places_of_long_texts(cargo_build):
         at += read
 
 
-def test_most_bytes_of_a_call(library):
+def test_a_call_reads_less_than_4_gib(library):
     """A call reads at most 4 GiB less one byte, so that a position has four bytes."""
     no_reserve = 0x4000
     pages = mmap.mmap(-1, 2 ** 32 + 9, mmap.MAP_PRIVATE | mmap.MAP_ANONYMOUS | no_reserve)
@@ -115,7 +115,7 @@ CALLS = (b"a\a\b\t\r\n\x1b[1;2H\x1b[31mb\x1b]2;t\a\x1b[18t\x1b[?25lc",
 
 
 @pytest.mark.parametrize("count", [0, 1, 3, len(FUNCTIONS), len(FUNCTIONS) + 3])
-def test_tables_of_other_versions(cargo_build, count):
+def test_a_table_may_be_of_another_version(cargo_build, count):
     """A table may be that of an earlier version or a later one. A part of a function is none."""
     processor, known = Processor(cargo_build, 8 * count), [name for name, _ in FUNCTIONS[:count]]
     assert processor.advance(CALLS[0]) == (OK, len(CALLS[0]))
@@ -124,7 +124,7 @@ def test_tables_of_other_versions(cargo_build, count):
     assert not any(Processor(cargo_build, 8 * count + part).pointer for part in range(1, 8))
 
 
-def test_processor(cargo_build):
+def test_a_processor_passes_on_text_in_runs(cargo_build):
     """A call may have no bytes. A text comes in runs, also one that was held."""
     processor = Processor(cargo_build)
     assert processor.advance(b"") == (OK, 0) and processor.sync() == (OK, 0, 0, 0)
@@ -162,7 +162,7 @@ SEVEN_COLOURS = b";".join(b"%d;#111" % index for index in range(7))
     (b"\x1b]2;t\x1b[m", ["set_title", "terminal_attribute"], {OSC, CSI}, ord("m"), 0),
     (b"\x1b_Gf=100;YQ==\x1b\\", [], {ESC}, 0x5c, 0),
     (b"\x1b[1" + b";1" * 32 + b"i", [], {CSI}, ord("i"), 1)])
-def test_what_a_second_parser_has(cargo_build, stream, calls, kinds, code, flag):
+def test_a_second_parser_has_what_a_processor_drops(cargo_build, stream, calls, kinds, code, flag):
     """What a processor doesn't pass on is in a parser beside it, as docs/C.md says."""
     processor = Processor(cargo_build)
     processor.advance(stream)

@@ -30,7 +30,7 @@ def list_symbols(library, *options):
     return [(words[-2], words[-1]) for words in map(str.split, listed) if len(words) > 1]
 
 
-def test_symbols(library):
+def test_a_library_has_and_needs_no_other_symbols(library):
     """It has the functions of its headers and needs few of C. rt's has no panic, and cargo's none
     but those of an index and of memory."""
     need("nm", "the library's symbols were not checked")
@@ -44,13 +44,13 @@ def test_symbols(library):
     assert [name for name in panics if library.build == "rt" or not OF_INDICES.search(name)] == []
 
 
-def test_random_bytes_as_a_parser(library):
+def test_random_bytes_are_safe_as_a_parser(library):
     if library.sanitized is None:
         miss("the address and undefined-behaviour sanitizers of cc")
     assert output_of([library.compile(PROGRAMS / "any_parser.c", *SANITIZERS)]) == b""
 
 
-def test_refused_memory(cargo_build):
+def test_a_stream_goes_on_after_refused_memory(cargo_build):
     words = [f"-Wl,--wrap={name}" for name in ("malloc", "realloc", "free")]
     program = cargo_build.compile(PROGRAMS / "refused.c", *words)
     # pieces without a byte take eight each
@@ -63,7 +63,7 @@ def test_refused_memory(cargo_build):
         assert min(map(int, counts.split())) > least
 
 
-def test_threads(cargo_build):
+def test_a_processor_in_use_is_busy_for_other_threads(cargo_build):
     """Also with the library and the program under the thread sanitizer."""
     assert output_of([cargo_build.compile(PROGRAMS / "threads.c", "-pthread")]) == b"busy\n"
     folder = cargo_build.folder / "for_threads"

@@ -182,7 +182,7 @@ def outputs(cargo_build):
     return run_scripts(cargo_build, "c")
 
 
-def test_calls(outputs):
+def test_calls_are_those_of_the_vectors(outputs):
     for (name, steps, is_order), output in zip(SCRIPTS, outputs):
         # what is written after each act: calls, and what is held
         after = re.findall(r"((?:.*\n)*?)held (\d+) (\d)\n", output)
@@ -200,7 +200,7 @@ def test_calls(outputs):
 
 
 @pytest.mark.parametrize("suffix", ["c", "cpp"])
-def test_with_sanitizers(cargo_build, outputs, suffix):
+def test_calls_are_the_same_under_sanitizers(cargo_build, outputs, suffix):
     others = run_scripts(cargo_build, suffix, *SANITIZERS)
     for (name, *_), output, wanted in zip(SCRIPTS, others, outputs):
         assert output == wanted, name

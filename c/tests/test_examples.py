@@ -70,7 +70,7 @@ def read_soon(stream, count):
     return read
 
 
-def test_stripper(library):
+def test_stripper_leaves_the_text(library):
     stripper = compile_example(library, "c/stripper.c")
     assert output_of([stripper], STREAM) == TEXT
     # more text than there is room for
@@ -80,7 +80,7 @@ def test_stripper(library):
 
 
 @pytest.mark.parametrize("example", ["c/title_watcher.c", "go/title_watcher/main.go"])
-def test_title_watcher(library, example):
+def test_title_watcher_writes_titles(library, example):
     watcher = compile_example(library, example)
     # more events than there is room for
     many = b"\r" * 2500 + b"\x1b]0;t\x07" * 2
@@ -93,7 +93,7 @@ def test_title_watcher(library, example):
 
 @pytest.mark.parametrize(
     "example", ["c/pty_events.c", "cpp/pty_events.cpp", "go/pty_events/main.go"])
-def test_pty_events(library, example, tmp_path):
+def test_pty_events_writes_events_as_they_come(library, example, tmp_path):
     printer, mark = compile_example(library, example), tmp_path / "goes_on"
     assert output_of([printer, "sh", "-c", PRINTS]) == EVENTS
     # a program goes on once there is a file: what came before has been printed by then
@@ -105,7 +105,7 @@ def test_pty_events(library, example, tmp_path):
     assert running.returncode == 0
 
 
-def test_clipboards(cargo_build, tmp_path):
+def test_clipboards_writes_each_text_to_a_file(cargo_build, tmp_path):
     texts = [b"Q" * 1_000_000, b"", b"YWJj"] + [b"YQ=="] * 20
     stream = b"a\x1b]52;c;?\x07\x1b]2;c;title\x07\x1b]52;c\x07" + b"".join(
         b"b\x1b]52;c;%b\x1b\\" % text for text in texts)
@@ -117,7 +117,7 @@ def test_clipboards(cargo_build, tmp_path):
         assert status_of(clipboards, *words, input=stream, stdout=subprocess.DEVNULL) in (1, 2)
 
 
-def test_outline(cargo_build):
+def test_outline_writes_text_and_calls(cargo_build):
     outline = compile_example(cargo_build, "cpp/outline.cpp", "-std=c++17")
     output = output_of([outline], STREAM + b"\x1b[3;5H\x1b[?2026hend").decode()
     assert output == "aü[bold][title a;b]\ufffd[go to 2, 4]end"

@@ -65,7 +65,7 @@ def list_lines_without_clipboards(stream):
             yield "esc - false 5c"
 
 
-def test_recorded(library):
+def test_streams_without_clipboards_are_passed_on(library):
     """Streams without such commands are passed on, each byte once it is known to be of none."""
     forward = compile_example(library, "c/forward.c")
     recorded = {name: b"".join(chunks) for name, chunks in streams.read_recorded()}
@@ -77,7 +77,7 @@ def test_recorded(library):
     assert_ends_by_errors(forward)
 
 
-def test_cuts(library):
+def test_a_cut_changes_nothing_that_is_passed_on(library):
     """Wherever a stream is cut, as much is passed on as of the whole, and by this definition."""
     by_hand, chance = {**BY_HAND, **dict(zip(PASSED, PASSED))}, random.Random(52)
     hostile = [b"".join(chance.choices(PARTS, k=chance.randint(1, 16))) for _ in range(300)]

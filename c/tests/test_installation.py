@@ -91,7 +91,7 @@ def prefix(site):
 
 @pytest.mark.parametrize("tool, words", [
     ("install", " [--cargo | --rt]"), ("build_c_library", " [--cargo | --rt]"), ("uninstall", "")])
-def test_arguments(site, tool, words):
+def test_wrong_arguments_are_refused(site, tool, words):
     for word in "-h", "--help":
         output = site.run(tool, word)
         assert f"tools/{tool}{words}" in output and "#" not in output
@@ -100,13 +100,13 @@ def test_arguments(site, tool, words):
     site.run("build_c_library", status=2)
 
 
-def test_build_in_a_folder_with_a_blank(site):
+def test_a_folder_may_have_a_blank(site):
     output = site.run("build_c_library", f"--{site.library.build}", "a folder")
     assert site.list_installed("a folder") == {"libvte_c.a", "libvte_c.so"}
     assert re.fullmatch(rf"built .* {site.library.build}: .*\n", output)
 
 
-def test_pkg_config(prefix):
+def test_pkg_config_finds_the_library(prefix):
     need("pkg-config", "the installed library was not looked for by it")
     assert "soname: [libvte_c.so.6]" in prefix.run("readelf", "-d", "prefix/lib/libvte_c.so")
     # what the pages and the file itself say to ask for: each other version is incompatible
@@ -134,17 +134,17 @@ def run_cmake(site, *words, **how):
     site.run("cmake", source, *words, "-S", PROGRAMS, "-B", "built", **how)
 
 
-def test_cmake(prefix):
+def test_cmake_finds_the_library(prefix):
     for version, status in (5, 1), (7, 1), (6, 0), ("", 0):
         run_cmake(prefix, f"-DCMAKE_PREFIX_PATH={prefix.folder / 'prefix'}", f"-DVERSION={version}",
-              status=status)
+                  status=status)
     prefix.run("cmake", "--build", "built")
     prefix.assert_strips("built/vte_c")
     prefix.assert_strips("built/static")
     assert "libvte_c" not in prefix.run("readelf", "-d", "built/static")
 
 
-def test_package(site):
+def test_a_package_is_used_where_it_is(site):
     """Everything for a package, with libraries in a folder of their machine, is used where it is,
     and removed. What a given archive has says which headers it gets, whatever was asked for."""
     staged, machine = site.folder / "staged here", "usr/lib/x86_64-linux-gnu"
@@ -161,12 +161,12 @@ def test_package(site):
         assert re.search(r"vte_feed\(vte_parser.*vte_long_feed.*vte_processor_new", page, re.S)
     assert (staged / "usr/bin/vtlog").read_bytes() == Path("/bin/true").read_bytes()
     run_cmake(site, f"-DCMAKE_PREFIX_PATH={staged / 'usr'}",
-          "-DCMAKE_LIBRARY_ARCHITECTURE=x86_64-linux-gnu", "-DVERSION=6")
+              "-DCMAKE_LIBRARY_ARCHITECTURE=x86_64-linux-gnu", "-DVERSION=6")
     site.run("cmake", "--build", "built")
     site.uninstall("staged here", **package)
 
 
-def test_without_tools(site):
+def test_installing_needs_no_compiler(site):
     """All is installed below the usual prefix without a C compiler, or a cargo that can build."""
     tools = site.folder / "cc"
     tools.mkdir()

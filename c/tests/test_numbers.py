@@ -47,7 +47,7 @@ def read_enums():
     return {name: number_names(re.search(LIST.format(f" {name}"), text)[1]) for name in ENUMS}
 
 
-def test_constants_of_headers():
+def test_headers_have_the_numbers_of_rust():
     wanted = {"VTE_SHAPE_OWN": -1, "VTE_BELL": 1, "VTE_TRUNCATED": 2}
     wanted |= {f"VTE_{name}": at for names in OF_C for at, name in enumerate(names.split())}
     for kind, names in ENUMS.items():
@@ -62,7 +62,7 @@ def test_constants_of_headers():
         name: number for name, number in wanted.items() if name}
 
 
-def test_handler_of_cpp(cargo_build):
+def test_handlers_of_cpp_may_throw_and_move(cargo_build):
     need("c++", "vte.hpp was not tested")
     words = ["-std=c++17", "-Wl,--wrap=malloc", "-Wl,--wrap=realloc"]
     assert output_of([cargo_build.compile(PROGRAMS / "handler.cpp", *words, compiler="c++")]) == b""

@@ -7,7 +7,7 @@ from calling import OSC, make_parsers
 from library import run_at_once
 
 
-def test_prefixes(library):
+def test_each_prefix_is_open_as_the_grammar_says(library):
     """Each prefix is read byte by byte, and whole, if what is no command may be skipped."""
     def check_prefixes(stream):
         slow_parsers = make_parsers(library)

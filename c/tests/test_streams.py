@@ -70,7 +70,7 @@ def join_lines(lines):
     return "".join(f"{line}\n" for line in lines).encode()
 
 
-def test_vectors(library):
+def test_vectors_give_their_events_and_text(library):
     """Events and text are as worked out by hand, for a parser that keeps 1,024 bytes."""
     def check_vector(case):
         vector, stream = case
@@ -82,7 +82,7 @@ def test_vectors(library):
     run_at_once(check_vector, VECTORS)
 
 
-def test_commands(library):
+def test_commands_lose_what_is_over_their_limits(library):
     ends = b"\a", b"\x18", b"\x1b"
     stream = b"".join(b"\x1b]" + data + end for data in COMMANDS for end in ends)
     stream += b"\x1b]2;" + MOST * 60 + b"\a"
@@ -108,7 +108,7 @@ def make_streams(option):
         yield f"random streams {at // 200}", b"\x18".join(group)
 
 
-def test_streams(library, request):
+def test_all_programs_write_what_vtlog_does(library, request):
     """All programs write, in all ways, what vtlog does. With --short, what the C program does in
     chunks of 65,536 bytes, with stops after one kind of event."""
     option = request.config.option

@@ -46,7 +46,7 @@ def count(monkeypatch):
           ("3.960", 1, "above 4.000"), ("3.900", 1, "above 3.939"), ("4.100", 0, "below 4.100"),
           ("?", 1, "and the table has none"))),
     ({"cell": "3.000", "rustc": "old"}, 0, OLD, 0), ({"rustc": "old", "allowed": ""}, 1, OLD, 0)])
-def test_counts_above_their_limits(count, table, status, fault, counts):
+def test_a_count_above_its_limit_is_a_fault(count, table, status, fault, counts):
     last = f"{counts} counts, {status * (counts > 0)} above their limits"
     assert count("--check", **table)[:2] == (status, [*fault, last])
 
@@ -70,7 +70,7 @@ STRIP = {"placements": 1, "cores": [], "kind": "strip", "bytes": 500_000, "round
     ("strip --bytes 99", {"bytes": 99}), ("strip --rounds 3", {"rounds": 3}),
     ("strip --placements 2", {"placements": 2}), ("strip --core 1", {"cores": [{1}]}),
     ("calls", {"kind": "calls", "streams": ["ascii", "ls_color", "coloured"] * 3})])
-def test_speed(monkeypatch, words, changes):
+def test_each_option_of_run_changes_one_thing(monkeypatch, words, changes):
     run, rows, sizes = Tool("../bench/run", describe_run=lambda *_: []), [], []
     found = {"cores": []}
     measuring, figures = run.parts["measuring"], run.parts["figures"]
@@ -98,7 +98,7 @@ def test_speed(monkeypatch, words, changes):
     ("screens", "screen terminal", {}), ("screens --jobs 3", "screen terminal", {"jobs": 3}),
     ("strip --streams cjk emoji", "strip filter", {"streams": ["cjk", "emoji"]}),
     ("calls", "vte_feed", {"streams": ["ascii", "ls_color", "coloured"] * 3})])
-def test_counts(monkeypatch, words, kinds, changes):
+def test_each_option_of_count_changes_one_thing(monkeypatch, words, kinds, changes):
     asked, jobs = [], []
 
     def make_pool(count):

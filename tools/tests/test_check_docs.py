@@ -20,9 +20,9 @@ def make_tool(**known):
 def find_failures(text, run=True, name="page.md"):
     files = "a/src/known.rt", *(f"crates/{it}/specs/Two.antt" for it in ("a", "examples", "a/b"))
     tool = make_tool(paths=list(map(Path, files)), words={"one", "two", "three", "rt"},
-                      words_by_file=[{"one", "two", "rt"}, {"three"}],
-                      source_lines={"f();", "g(1);"}, sources={Path("a.rt"): "f();\n h"},
-                      is_in_history=lambda commit: commit == "abc1234")
+                     words_by_file=[{"one", "two", "rt"}, {"three"}],
+                     source_lines={"f();", "g(1);"}, sources={Path("a.rt"): "f();\n h"},
+                     is_in_history=lambda commit: commit == "abc1234")
     if not name.endswith(".md"):
         return [it for _, it in tool.parts["check_comments"](text)]
     page = Page(write(name, text))
@@ -57,14 +57,14 @@ def find_failures(text, run=True, name="page.md"):
     ("```sh run\nexit 7\n```", "these commands failed with status 7"),
     ("```sh run\nexec 2>&-\necho $NO_SUCH_NAME\ntrue\n```", "these commands failed with status"),
     ("```sh run\ntrue\n```\n```sh\nfalse\n```", None), ("```sh run\ntest -e page.md\n```", None)])
-def test_pages(page, failure, monkeypatch):
+def test_what_is_wrong_with_a_page_is_told(page, failure, monkeypatch):
     monkeypatch.setattr(shutil, "which", lambda _: "/bin/rt")
     found = find_failures(page)
     assert [it[: len(failure or "")] for it in found] == [failure] * bool(failure)
     assert find_failures(page, run=False) == [it for it in found if "commands failed" not in it]
 
 
-def test_comments_of_sources():
+def test_comments_of_sources_are_checked():
     source = "-- `four`\nf();  // `four`\n/// `one` `four`\n# `four`\nf(`four`) --four\n"
     assert find_failures(source, name="a.rt") == ["no source file contains four"] * 4
 
@@ -139,7 +139,7 @@ def test_commands_that_lack_something_are_missing(needs, crates, lacking, monkey
 
 @pytest.mark.parametrize("status, output, wanted", [
     (0, "false\n", True), (1, "false\n", False), (1, "true\n", True)])
-def test_the_history(status, output, wanted):
+def test_a_commit_is_looked_up_unless_the_clone_is_shallow(status, output, wanted):
     repository = Repository(Path.cwd())
     repository.git = lambda *_: SimpleNamespace(returncode=status, stdout=output)
     assert repository.is_in_history("abc1234") == wanted

@@ -81,7 +81,7 @@ def test_what_is_refused_in_a_file(path, text, fault):
     assert (status, output.splitlines()) == (bool(fault), wanted)
 
 
-def test_all_files_and_handles():
+def test_all_files_and_handles_are_checked():
     subprocess.run(["git", "init", "-q"], check=True)
     write(".gitignore", "out/\n")
     for path in "crates/x/specs/A.antt", "crates/x/out/A.rt", "bench/b.rs", "c/d.rt", "e.md":
@@ -99,7 +99,7 @@ def test_all_files_and_handles():
     ("reader/advance", "take_run", r"nothing there is ^ *take_run\(bytes, range\)$"),
     ("reader/run_end", "", "it isn't there"),
     ("reader", "no word of it", None)])
-def test_a_name_that_nothing_has_any_more(path, word, fault):
+def test_a_name_that_nothing_has_is_told(path, word, fault):
     tool = Tool("check_trust", PLACES={}, ROOTS=())
     files = {*tool.parts["MAKERS"], *tool.parts["CALLS"], *tool.parts["RUNS"]}
     changed = f"{CORE}{path}.rt"

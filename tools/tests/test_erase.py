@@ -68,7 +68,7 @@ EXAMPLES = [it[2].split(" -> ") for it in Tool("check_erased").parts["PATTERNS"]
 
 
 @pytest.mark.parametrize("texts", EXAMPLES)
-def test_what_may_differ(texts):
+def test_what_may_differ_is_not_reported(texts):
     assert find_differences(*(f"fn f() {{ {text} }}" for text in texts)) == []
 
 
@@ -98,7 +98,7 @@ def test_all_files_are_compared():
         write(f"crates/c/src/{path}.rt", "fn f() {}")
     source = "pub mod laws;\n#[cfg(test)]\nmod tests;\n"
     assert find_differences(source, "") == [f"c/{path}.rs fn f: it isn't written"
-                                       for path in ("a", "a/b")]
+                                            for path in ("a", "a/b")]
     found = find_differences(source + "// cargo lacks: why\nmod a;\n", "", "c/d.rs")
     assert found == ["w/c/d.rs: it has no source"]
 
@@ -131,7 +131,7 @@ def test_each_folder_is_written():
 
 
 @pytest.mark.skipif(not shutil.which("rustfmt"), reason="without rustfmt")
-def test_layout():
+def test_files_have_the_layout_of_rustfmt():
     format_files = Tool("erase").parts["format_files"]
     assert format_files({"mod.rs": "mod a;", "a.rs": "fn f( ){}"}) == {
         "mod.rs": "mod a;\n", "a.rs": "fn f() {}\n"}

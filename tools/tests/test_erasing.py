@@ -150,7 +150,7 @@ TEXTS = [
         "fn f() { (a % 32) as u32 + match g(b) { Ok(c) => c, Err(_) => return 1, } }"))]
 
 
-def test_traps():
+def test_only_ghosts_and_tests_are_erased():
     assert "".join(token.text for token in split(TRAPS)) == TRAPS
     before, after = split_marked(TRAPS)
     text, tests, _ = erase(before, "a", "a/x", make_plan())
@@ -160,7 +160,7 @@ def test_traps():
 
 @pytest.mark.parametrize("entries, marked", TEXTS, ids=[
     " ".join(re.sub("[‹›«»]", "", marked).split())[:50] for _, marked in TEXTS])
-def test_texts(entries, marked):
+def test_what_is_erased_has_no_difference(entries, marked):
     """What the eraser writes has no difference for the tool that shares no rule with it."""
     (before, after), of_test = split_marked(marked), make_plan(**entries)
     assert words_of(erase(before, "a", "a/x", of_test)[0]) == words_of(after)
@@ -178,14 +178,14 @@ def test_texts(entries, marked):
     # marks, and what is below them, in the line of the source
     ("\n// cargo inlines: a\n", 2), ("\n// Cargo: a\n", 2), ("\n/// proof: a\nfn f() {}\n", 2),
     ("\n// cargo lacks:\nfn f() {}\n", 2), ("// cargo instead: a\n// cargo: b\nc\n#[test]\n", 4)])
-def test_what_is_refused(text, line):
+def test_a_refusal_tells_its_line(text, line):
     with pytest.raises(Refused) as caught:
         erase(text, "a", "a/x", make_plan())
     assert (caught.value.line or 1) == line, caught.value
 
 
 @pytest.mark.parametrize("is_reversed", [False, True])
-def test_which_files_are_written(is_reversed):
+def test_files_of_tests_and_laws_are_not_written(is_reversed):
     made = {"a": {"y/tests.rt": "#[x]", "x.rt": "#[x]", "y.rt": "#[cfg(test)] mod tests;",
                   "lib.rt": "#[cfg(test)] mod x; #[cfg(test)] mod c; mod y; mod z;\n"
                   "// cargo lacks: why\nmod left;", "z.rt": "pub mod laws;",

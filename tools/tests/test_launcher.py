@@ -97,7 +97,7 @@ def start():
                                 stdout=subprocess.DEVNULL)
 
 
-def test_answers():
+def test_help_and_wrong_words_build_nothing():
     text = Path("crates/vtlog/src/main.rt").read_text()
     shown = re.search(r'^const HELP:.*\n((?s:.*?))^";', text, re.M)[1]
     manifest = (TOP / "rust/vtlog/Cargo.toml").read_text()
@@ -111,7 +111,7 @@ def test_answers():
 
 
 @pytest.mark.parametrize("target", ["", "a b"])
-def test_cargo(checkout, monkeypatch, target):
+def test_cargo_builds_the_program_without_rt(checkout, monkeypatch, target):
     """It says what it runs if cargo has built it, wherever that put it."""
     monkeypatch.setenv("CARGO_BUILD_TARGET", target)
     Path("bin/rt").unlink()
@@ -152,7 +152,7 @@ def test_where_cargo_puts_what_it_makes(checkout, monkeypatch, path, variables):
     assert subprocess.run([made[:-1]]).returncode == 0
 
 
-def test_builds():
+def test_each_change_is_built_once():
     """It is built once after each of these, and not again. However long it takes, no progress is
     shown: `sleep` fails."""
     write_program("bin/sleep", "exit 1")
@@ -175,20 +175,20 @@ def test_builds():
 @pytest.mark.parametrize("file, errors, asked", [
     ("fails", "line\n" * 19 + "no proof\n", "vte_core lib\n"), ("idles", "", ALL),
     ("unstamped", "", ALL)])
-def test_failures(file, errors, asked):
+def test_a_failed_build_shows_the_end_of_its_log(file, errors, asked):
     write(file, "")
     write("log", "line\n" * 30)
     assert run_launcher("text") == (70, "", f"{BEGINS}{errors}{FAILED}", asked)
 
 
-def test_without_a_folder(monkeypatch):
+def test_without_a_folder_for_its_log_nothing_is_built(monkeypatch):
     monkeypatch.setenv("TMPDIR", "log")
     errors = f"{BEGINS}.*\nvtlog: cannot create a folder for the log of the build\n"
     assert start().wait() == 70 and re.fullmatch(errors, Path("errors").read_text())
 
 
 @pytest.mark.parametrize("name, status", [("HUP", 129), ("INT", 130), ("TERM", 143)])
-def test_signals(name, status):
+def test_a_signal_ends_the_build_too(name, status):
     hangs = write("hangs", "")
     launcher = start()
     wait_until(hangs.read_text)
@@ -199,7 +199,7 @@ def test_signals(name, status):
     wait_until(lambda: not process.exists() or ") Z " in process.read_text())
 
 
-def test_progress():
+def test_a_long_build_shows_its_progress():
     """20 seconds are over at once, once the build hangs, or has ended."""
     hangs = write("hangs", "")
     write("log", "begun\nso far: 3 of 12 functions\n")

@@ -37,7 +37,7 @@ def copy(tmp_path_factory):
     *((PATH, " by goal", verdict, "its verdict names no goal")
       for verdict in (" by a goal", ": `goal`: why")),
     ("crates/c/must-fail/m.edit", "", "", "it stands twice")])
-def test_faults_of_mutants(copy, path, old, new, fault):
+def test_what_is_wrong_with_a_mutant_is_told(copy, path, old, new, fault):
     write(path, MUTANT.replace(old, new))
     faults = [f"{PATH if 'twice' in fault else path}: {fault}"] if fault else []
     output = "\n".join([*faults, f"1 mutants, {len(faults)} faults\n"])
@@ -61,7 +61,7 @@ def mutate(output, *words):
         "x of a::b": "./proofs/a/b/Answers.antt:1:2: error: `x`: `y`",
         "x of a": "answers in ./proofs/a/Answers.antt; `search` did not prove `x`, `y`",
         "a goal of a": "answers in ./proofs/a/Answers.antt"}.items())])
-def test_verdicts(copy, output, status, line):
+def test_what_the_prover_says_becomes_the_verdict(copy, output, status, line):
     """Of two mutants one is chosen, by its name."""
     text = MUTANT.replace("abc1234 by goal", "abc1200 by old")
     mutant, other = write(PATH, text), write("tools/mutants/c/n.edit", text)

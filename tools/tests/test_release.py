@@ -37,7 +37,7 @@ RELEASE = {
     ("CHANGELOG.md", "| 1.2.3", "| 1.2.4", 'CHANGELOG.md has no "| 1.2.3 | the crate"'),
     ("CHANGELOG.md", "+naqshuve", "", 'CHANGELOG.md has no "| 0.15.0+naqshuve.1.2.3 | the same"'),
     ("CHANGELOG.md", ", 7", ", 6", 'CHANGELOG.md has no "`VTE_VERSION`, 7 |"')])
-def test_versions_of_a_release(path, old, new, reported):
+def test_a_wrong_version_is_told(path, old, new, reported):
     for name, text in RELEASE.items():
         write(name, (text.replace(old, new) if name == path else text) + "\n")
     write(CHECK, (TOOLS.parent / CHECK).read_text(), 0o755)
@@ -56,7 +56,7 @@ def test_versions_of_a_release(path, old, new, reported):
     ("", "exit 1", ["use: a fresh machine could not use the release"]),
     ("", '[ "$1 $2 $4 $5 $6" = "--with pkg-config ./try_release 1.2.3 7" ] && cd $3 && '
          '[ "$(echo $(git ls-files))" = "SHA256SUMS a program.c program.rs try_release" ]', [])])
-def test_making_and_using_a_release(folder, monkeypatch, make, use, reported):
+def test_a_release_is_made_twice_and_used(folder, monkeypatch, make, use, reported):
     write_program("tools/release", "mkdir $1 && cd $1 && echo a >a && "
                   f"sha256sum a >SHA256SUMS; {make}")
     monkeypatch.setenv("FRESH_MACHINE", str(write_program("machine", use)) if use else "")
@@ -73,7 +73,7 @@ def test_making_and_using_a_release(folder, monkeypatch, make, use, reported):
 
 
 @pytest.mark.parametrize("is_locked", [False, True])
-def test_what_a_killed_release_left(folder, is_locked):
+def test_what_a_killed_release_left_is_removed(folder, is_locked):
     """It is removed, but not while another release is being made."""
     for name, text in RELEASE.items():
         write(name, text + "\n")
@@ -92,7 +92,7 @@ def test_what_a_killed_release_left(folder, is_locked):
     assert is_locked or Path("found").read_text() == ""
 
 
-def test_contents_of_a_release(monkeypatch):
+def test_contents_are_what_is_linked(monkeypatch):
     monkeypatch.setenv("SOURCE_DATE_EPOCH", "86400")
     # what only builds need isn't linked
     edges = {"ours": {"both": ["dev", None], "build": ["build"]}, "both": {"in_both": [None]},

@@ -14,7 +14,7 @@ from lib.generating.streams import generate
 from tests.support import TOOLS, run_here, write, write_program
 
 
-def test_streams():
+def test_a_stream_is_written_as_generated():
     for name, size in ("cjk", 100), ("ascii", 7):
         written = subprocess.check_output([TOOLS / "streams", name, str(size)])
         assert written == generate(name, size) and len(written) == size
@@ -55,7 +55,7 @@ MISSING, HOMES = "missing: gcc-multilib.*32 bits were not tested", r"export CARG
       for words, status in (("", 2), ("--help", 0), ("--chek", 2), ("a b", 2))),
     # it asks for the files if the folder isn't there
     ("release", "there", {}, 1, "log$"), ("release", "new", {}, 2, "log archive$")])
-def test_words(folder, monkeypatch, tool, words, variables, status, output):
+def test_a_tool_obeys_its_words(folder, monkeypatch, tool, words, variables, status, output):
     needed = re.findall(r"(python3|librust)-\{(.*?)\}(-dev)?", (TOOLS / "next_release").read_text())
     had = [f"{begin}-{it}{end}" for begin, names, end in needed for it in names.split(",")]
     for path, text in {"tools/install_packages": "#!/bin/sh\n[ $1 = valgrind ]\n", "asked": "",
@@ -76,7 +76,7 @@ def test_words(folder, monkeypatch, tool, words, variables, status, output):
     ("vte::Store<8>::dispatch", True), ("vte::Store::dispatch_all", False),
     ("<vte::ParamsIter as Iterator>::next", True), ("vte::Params::next", False),
     ("vte::Engine<P>::stop", True), ("vte::Engine<P>::stops", False), ("other::f", True)])
-def test_functions_that_may_panic(function, is_known):
+def test_only_known_functions_may_panic(function, is_known):
     write("shown", f"0000 <{function}::h0123456789abcdef>:\n 1:\tcall 2 <core::panicking::panic>\n"
           "0001 <vte::quiet>:\n 2:\tcall 3 <core::slice::len>\n")
     status, lines = run_here("check_builds", "panics", cargo="", objdump="cat shown")
@@ -87,7 +87,7 @@ def test_functions_that_may_panic(function, is_known):
 # words for pytest, and the random streams that they ask for
 @pytest.mark.parametrize("words, count, seed", [
     ("", 20_000, 1), ("--short", 400, 1), ("--streams 250", 250, 1), ("--seed 7", 20_000, 7)])
-def test_streams_of_c(monkeypatch, words, count, seed):
+def test_options_choose_the_streams_of_c(monkeypatch, words, count, seed):
     write_program("tools/run_pytest", "shift; echo $*")
     assert run_here("test_c_library", *words.split()) == (0, [words])
     parser, of_c = ArgumentParser(), import_module("test_streams")

@@ -83,7 +83,7 @@ def drop_lacking(source):
     """Takes out what cargo's form hasn't, which are laws too, and the exports of modules that it
     hasn't. Returns these modules."""
     indices = [find_item_below(source, at) for at in range(len(source.tokens))
-              if _read_mark(source, at)[0] == "lacks"]
+               if _read_mark(source, at)[0] == "lacks"]
     modules = set()
     for at in sorted(indices + source.find_all("mod laws"), reverse=True):
         word = source.skip_visibility(at)

@@ -43,7 +43,7 @@ def has_modules(*names):
     """Whether Debian's Python has these modules."""
     has_all = "all(map(importlib.util.find_spec, sys.argv[1:]))"
     return ask_bash(f"/usr/bin/python3 -c 'import importlib.util, sys; sys.exit(not {has_all})' "
-                  + " ".join(names)) is not None
+                    + " ".join(names)) is not None
 
 
 # What parts need, by patterns of names: whether a machine has it, what is missing if not, and the

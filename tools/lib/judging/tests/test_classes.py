@@ -75,7 +75,7 @@ def test_a_breach_of_a_house_rule_has_its_rule(breach, rules):
     # what is found again and again is counted, but soon not shrunk any more
     ({r"\Z": "unhook\n"}, [b"a"] * 100, {"text/extra": 100}),
     ({"execute 0e": "(protocol: x)"}, [b"\x0e"] * 25, {"protocol": 25})])
-def test_what_is_counted(faults, streams, found):
+def test_each_stream_counts_for_one_class(faults, streams, found):
     asked = []
 
     def answer_wrongly(chunks, _):
@@ -91,7 +91,7 @@ def test_what_is_counted(faults, streams, found):
 
 
 @pytest.mark.parametrize("most, is_smallest", [(2000, True), (2, False)])
-def test_what_is_not_shrunk_to_the_end(monkeypatch, most, is_smallest):
+def test_what_is_not_shrunk_to_the_end_says_so(monkeypatch, most, is_smallest):
     monkeypatch.setattr(judgement, "MAX_CASES", most)
     result = judge_of(lambda *_: []).run([cases.Case("", [b"abc\x1b[m"])])
     assert [it.is_smallest for it in result.findings.values()] == [is_smallest]
@@ -104,11 +104,11 @@ def test_what_is_not_shrunk_to_the_end(monkeypatch, most, is_smallest):
     ("should", "malformed/replacement unfinished/replacement overlong/replacement colon/leaked "
      "surrogate/replacement ignored-string/leaked device-end/missing"),
     ("differs", "empty-number/numbers largest/numbers")])
-def test_what_binds_a_parser(level, names):
+def test_rules_and_kinds_decide_the_level(level, names):
     assert {classes.level_of(name) for name in names.split()} == {level}
 
 
-def test_what_a_class_is():
+def test_a_class_is_a_rule_with_or_without_a_kind():
     for name in "largest", "largest/numbers", "protocol", "cut:between", "cut:text/data":
         assert classes.is_class(name)
     for name in "x", "largest/x", "cut:x", "between", "cut", "/missing":
@@ -179,7 +179,7 @@ def test_a_freed_case_has_none_of_its_rules(case):
     ([b"\x1b]" + b";" * 16 + b"\x07"], "pieces=17", [b""]),
     ([b"\x1b[" + b";" * 32 + b"m"], "numbers=33", [b""]),
     ([b"\x1b]" + b"a" * 1025 + b"\x07"], "limit=1025", [b""])])
-def test_what_is_freed(chunks, rule, left):
+def test_only_what_a_rule_is_about_is_freed(chunks, rule, left):
     own = house.house_of([rule] * ("=" in rule))
     assert classes.free_case(chunks, {rule.partition("=")[0]}, own) == left
 
@@ -189,7 +189,7 @@ def test_what_is_freed(chunks, rule, left):
     # what is malformed is found to be so after its end
     (b"a\xc3b", [1, 2], [None, 1]), (b"\x1b[\n1m", [1, 2, 3, 4], [1, 1, 1, 1]),
     (b"\xc3\x1b7", [1], [0]), (b"\x1b]a\x07\xff\x1b", [3, 4, 5], [0, None, 1])])
-def test_what_a_cut_divides(stream, cuts, found):
+def test_a_cut_divides_one_step_or_none(stream, cuts, found):
     assert [*classes.find_steps_at_cuts(definition.steps_of(stream), cuts).values()] == found
 
 
@@ -252,7 +252,7 @@ def test_a_hang_that_was_only_slow_is_none():
     assert (result.streams, result.different, result.status()) == (9, 0, 0)
 
 
-def test_what_is_left_out():
+def test_what_is_left_out_is_no_difference():
     dropped = break_rules("delete=drop")
     assert judge_function(dropped, left_out=["delete"]).different == 0
     assert judge_function(dropped).findings["delete/missing"].streams == sum(
@@ -265,7 +265,7 @@ def test_what_is_left_out():
 
 @pytest.mark.parametrize("known, status", [
     ("delete", 0), ("delete/missing", 0), ("delete/extra", 1), ("del", 1), ("", 1)])
-def test_what_is_known(known, status):
+def test_what_is_known_is_no_failure(known, status):
     result = judge_function(break_rules("delete=drop"), [cases.Case("", [b"\x7f"])], known=[known])
     assert result.status() == status
 
@@ -291,7 +291,7 @@ def test_what_is_known(known, status):
     # in long answers the first lines count
     (["put 61", "unhook"] * 999, ["put 62", "print 0061"] * 999, "character"),
     (["unhook"] * 2, ["unhook", "(crash: status 1)"], "crash")])
-def test_kinds(one, other, kind):
+def test_two_answers_differ_first_in_this_kind(one, other, kind):
     same = kinds.find_first_difference(one, other)
     assert kinds.differences_of(one, other) == [(same, kind)] and kind in kinds.KINDS
 

@@ -58,7 +58,7 @@ HOUSES = [
 
 
 @pytest.mark.parametrize("stream, rules, lines", HOUSES)
-def test_houses(stream, rules, lines):
+def test_a_house_rule_changes_the_lines(stream, rules, lines):
     own = house.house_of(rules.split())
     assert definition.lines_of(stream, own) == lines != definition.lines_of(stream)
     assert sorted(house.words_of(own)) == sorted(rules.split())
@@ -116,12 +116,12 @@ def test_streams_are_shown_as_text(chunks, shown):
     assert report.show_text(chunks) == shown
 
 
-def test_the_example_of_the_page():
+def test_the_page_shows_a_finding_as_it_is_printed():
     answers = ["csi [65535] - false 61"], ["csi [91111] - false 61"]
     difference = Difference([b"\x1b[91111a"], *answers)
     case = Case("vector number-far-past-the-limit", [b"a" * 20, b"bc"])
     shown = report.show_finding(Finding("largest/numbers", difference, case),
-                                 "tools/judge --case '{}' python3 /tmp/my_parser.py".format)
+                                "tools/judge --case '{}' python3 /tmp/my_parser.py".format)
     page = (TOOLS.parent / "docs/JUDGE.md").read_text()
     assert "".join(f"    {line}\n" for line in shown.splitlines()) in page
     rest = Finding("cut:c1-byte/crash", difference._replace(before=[[b"x"]]), case, False, 1, False)
@@ -261,7 +261,7 @@ def test_what_is_reserved_is_not_used():
 @pytest.mark.parametrize("output", [
     b"", b"print 0061", b"csi [1:2;3] 3f - 6d\nesc - true 41\nunhook\nosc - 2 - 61\nput 00\n"
     b"hook [] - false 71\nexecute 1a\nprint 10ffff\nosc true 12 6162"])
-def test_lines_of_events(output):
+def test_lines_of_events_are_an_answer(output):
     assert candidate.answer_of(output) == output.decode().splitlines()
     assert candidate.answer_of(output + b"\n" * bool(output)) == output.decode().splitlines()
 
@@ -270,7 +270,7 @@ def test_lines_of_events(output):
     b"", b"print 61", b"print 0061 ", b"print 0061\r", b"end", b"execute 0A", b"\xff",
     b"csi [1] - maybe 6d", b"esc - false 4", b"print \0", b"(hang: x)", b"a\x1c", b"esc 2 - 41",
     b"csi [1] - false", b"csi [a] - - 6d", b"print 1234567", b"put 1", b"unhook -"])
-def test_lines_that_are_none(wrong):
+def test_a_line_of_no_event_breaks_the_protocol(wrong):
     answer = candidate.answer_of(b"print 0061\n" + wrong + b"\nunhook\n")
     assert [answer[0], candidate.mark_of(answer)] == ["print 0061", "protocol"]
     assert len(answer) == 2 and re.fullmatch("[ -~]*", "".join(answer))
@@ -287,11 +287,11 @@ def make_result(is_new=True, **fields):
     (0, Judgement(streams=1)), (1, Judgement()), (1, make_result()), (0, make_result(False)),
     (1, Judgement(9, 1)), (1, make_result(False, different=4)), (1, Judgement(ended_early="x")),
     (3, make_result(False, ended_early="x")), (1, make_result(ended_early="x"))])
-def test_statuses(status, judgement):
+def test_what_a_run_found_decides_its_status(status, judgement):
     assert judgement.status() == status
 
 
-def test_what_is_summed_up():
+def test_the_sum_lists_classes_and_counts_streams():
     found = {name: Finding(name, Difference([b"ab", b"c"], [], []), Case("", []), is_new, streams)
              for name, is_new, streams in (("text/extra", False, 2), ("delete/missing", True, 15))}
     assert report.show_sum(Judgement(99, 20, found, "the time was over"), "x").splitlines() == [
@@ -332,7 +332,7 @@ def test_junit_is_read_by_its_library(fields, others):
     assert (suite.tests, suite.failures, suite.skipped) == (len(results), 1 + len(others), 1)
 
 
-def test_json():
+def test_json_has_each_finding():
     reported = json.loads(format_findings("json", different=4, ended_early="x"))
     findings, rule = reported.pop("findings"), RULES["text"]
     assert reported == {"version": 2, "seed": "# \x1b]]>&", "streams": 9, "different": 4,

@@ -65,7 +65,7 @@ def test_a_finding_can_be_shown_again(judge, judge_toy, words, fault):
     (0, "--timeout 99.5", {}, "0 differ"), (1, "--timeout 0 --case 61", {}, "/hang:"),
     (1, "--memory 0 --case 61", {}, "(memory: more than 0 MiB)"),
     (0, "--case 61", {"fault": "stateful"}, "no difference")])
-def test_statuses(judge_toy, status, words, how, reported):
+def test_options_decide_what_is_found(judge_toy, status, words, how, reported):
     assert reported in judge_toy(status, *shlex.split(words), **how)
 
 
@@ -142,7 +142,7 @@ def test_the_time_is_over_for_a_reference_too(judge, tmp_path):
     assert "ended early: the time was over" in said and not (tmp_path / "awake").exists()
 
 
-def test_closed_standard_output(vtlog):
+def test_a_closed_standard_output_is_no_crash(vtlog):
     words = ["--vtlog", vtlog, "--count", 4, "--streams", "random", *make_toy_words(chunks=False)]
     reading, writing = os.pipe()
     os.close(reading)
@@ -171,5 +171,5 @@ def test_known_differences_are_passed(judge_toy, tmp_path):
     ("--case 6 cat", "invalid case: '6'"), ("--vtlog /no/vtlog cat", "judge: not a program"),
     ("--vtlog /usr/bin/cat cat", "judge: /usr/bin/cat isn't vtlog"),
     ("--write-known /no/file cat", "No such file")])
-def test_usage(judge, words, message):
+def test_a_wrong_word_is_told(judge, words, message):
     assert message in judge(2, *words.split())

@@ -57,7 +57,7 @@ class Parser:
 
 
 def make_parsers(library):
-    """New parsers of all kinds that the library has."""
+    """Makes parsers of all kinds that the library has."""
     return [Parser(library, is_long) for is_long in (False, True)[:1 + library.is_complete]]
 
 

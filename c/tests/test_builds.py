@@ -17,7 +17,7 @@ OF_INDICES = re.compile(r"panicking\d+panic_(bounds_check|fmt|nounwind_fmt)|slic
 
 
 def list_declared(library):
-    """The functions that the library's headers declare and don't define."""
+    """Returns the functions that the library's headers declare and don't define."""
     headers = INCLUDE.glob("*.h" if library.is_complete else "vte.h")
     text = "".join(header.read_text() for header in headers)
     function = r"^(?!static|typedef|#| \*)\w[\w ]*[ *](vte_\w+)\([^;{]*\);"
@@ -25,7 +25,7 @@ def list_declared(library):
 
 
 def list_symbols(library, *options):
-    """The names that nm lists with their letters."""
+    """Returns the names that nm lists with their letters."""
     listed = output_of(["nm", *options, library]).decode().splitlines()
     return [(words[-2], words[-1]) for words in map(str.split, listed) if len(words) > 1]
 

@@ -26,7 +26,7 @@ MAX_CUT = 50_000
 
 
 def value_of(word):
-    """A number, the bytes of a text, None, or the five numbers of a colour."""
+    """Returns a number, the bytes of a text, None, or the five numbers of a colour."""
     if word[0] == "t":
         return bytes.fromhex(word[1:])
     if word[0] == "c":
@@ -36,7 +36,7 @@ def value_of(word):
 
 @cache
 def names_of(kind):
-    """The names of one of Rust's enums by their numbers."""
+    """Returns the names of one of Rust's enums by their numbers."""
     return {number: name for name, number in read_enums()[kind].items()}
 
 
@@ -45,7 +45,7 @@ def show_optional(shown):
 
 
 def quote(text, mark='"'):
-    """A text in quotes, or None."""
+    """Returns a text in quotes, or None."""
     if text is None:
         return None
     shown = (f"\\{c}" if c in ("\\", mark) else c if " " <= c <= "~" else f"\\u{{{ord(c):x}}}"
@@ -103,7 +103,7 @@ def show(kind, *values):
 
 @cache
 def lines_of_call(line):
-    """The lines of the vectors for a line that calls.c wrote."""
+    """Returns the lines of the vectors for a line that calls.c wrote."""
     name, *words = line.split()
     if line == SET:
         return [line]
@@ -147,7 +147,7 @@ SCRIPTS = list(make_scripts())
 
 
 def write_functions():
-    """The functions of calls.c, in its macros: each writes what it was passed."""
+    """Returns the functions of calls.c, in its macros: each writes what it was passed."""
     written = []
     for name, text in FUNCTIONS:
         parameters = [*PARAMETER.finditer(text)]
@@ -161,7 +161,7 @@ def write_functions():
 
 
 def run_scripts(library, suffix, *words):
-    """What the program in C or C++ writes for each script."""
+    """Returns what the program in C or C++ writes for each script."""
     compiler = {"c": "cc", "cpp": "c++"}[suffix]
     need(compiler, f"calls.{suffix} was not built")
     (library.folder / "calls.inc").write_text(write_functions())

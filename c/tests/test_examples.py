@@ -24,7 +24,7 @@ LINES = [(b"\x1b[1mone\x1b[m\n", b"one\n", b""), (b"two\n", b"two\n", b"")]
 
 
 def compile_example(library, example, *words):
-    """An example, in the language of its file."""
+    """Compiles an example, in the language of its file."""
     source = EXAMPLES / example
     compiler = {".c": "cc", ".cpp": "c++", ".go": "go"}[source.suffix]
     need(compiler, f"{example} was not built")

@@ -56,7 +56,7 @@ def drop_clipboards(stream):
 
 
 def list_lines_without_clipboards(stream):
-    """The events of a stream: of a command for a clipboard BEL leaves a lone ST."""
+    """Yields the events of a stream: of a command for a clipboard BEL leaves a lone ST."""
     for line in definition.lines_of(stream, house.House(limit=None)):
         word, *rest = line.split()
         if word != "osc" or not is_clipboard(bytes.fromhex(rest[2].replace("-", ""))):

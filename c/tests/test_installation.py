@@ -36,7 +36,7 @@ class Site:
         self.wanted = OF_LIBRARY - {f"include/{name}" for name in others}
 
     def run(self, *words, status=0, says="", **variables):
-        """The output of a program, or of one of tools/, which leaves no temporary files."""
+        """Returns the output of a program, or of one of tools/, which leaves no temporary files."""
         if (TOOLS / words[0]).is_file():
             words = (TOOLS / words[0], *words[1:])
         done = subprocess.run(words, cwd=self.folder, env={**self.environment, **variables},

@@ -33,7 +33,7 @@ NAME = re.compile(r"^\s*(\w+)(?:\([^)]*\))?(?: = (-?\d+))?,?\s*$", re.M)
 
 
 def number_names(text):
-    """The names of an enum, with their numbers."""
+    """Returns the names of an enum, with their numbers."""
     numbers, next_number = {}, 0
     for name, number in NAME.findall(re.sub(r"//.*|#\[.*?\]", "", text)):
         numbers[name] = int(number or next_number)

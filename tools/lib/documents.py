@@ -45,8 +45,8 @@ class Page:
 
 
 def strip_marks(line):
-    """A line without its indentation and without the mark of a doc comment, because examples there
-    may be quoted too."""
+    """Returns a line without its indentation and without the mark of a doc comment, because
+    examples there may be quoted too."""
     return line.strip().removeprefix("//! ").removeprefix("/// ").strip()
 
 

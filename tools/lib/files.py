@@ -10,14 +10,14 @@ TOP = Path(__file__).resolve().parents[2]
 
 
 def list_files(top):
-    """The files below `top` that git tracks or doesn't ignore: their paths from there."""
+    """Returns the files below `top` that git tracks or doesn't ignore: their paths from there."""
     command = ["git", "ls-files", "-co", "--exclude-standard"]
     paths = subprocess.run(command, cwd=top, capture_output=True, text=True, check=True).stdout
     return [path for path in paths.splitlines() if (top / path).is_file()]
 
 
 def parser_of(about, **how):
-    """A parser of arguments, whose help is the text about a tool, line by line."""
+    """Returns a parser of arguments, whose help is the text about a tool, line by line."""
     layout = argparse.RawDescriptionHelpFormatter
     return argparse.ArgumentParser(description=about, formatter_class=layout, **how)
 

@@ -22,7 +22,7 @@ class Tool:
         self.parts.update(TOP=Path.cwd(), **replaced)
 
     def run(self, *words):
-        """The status or the message of its end, and what it printed."""
+        """Returns the status or the message of its end, and what it printed."""
         output = io.StringIO()
         with pytest.MonkeyPatch.context() as patch, contextlib.redirect_stdout(output):
             patch.setattr(sys, "argv", [self.name, *words])

@@ -11,7 +11,7 @@ from tests.support import Tool, write
 
 
 def make_tool(**known):
-    """The tool, and what it knows of a repository other than what this folder has."""
+    """Returns the tool, and what it knows of a repository other than what this folder has."""
     repository = Repository(Path.cwd())
     vars(repository).update(known)
     return Tool("check_docs", REPOSITORY=repository)

@@ -10,7 +10,7 @@ from tests.support import TOOLS, Tool, write
 # ---- check_erased
 
 def find_differences(source, written, path="c/mod.rs", adapter=""):
-    """What differs in a file, in whose place something else is written, and in an adapter."""
+    """Finds what differs in a file, in whose place something else is written, and in an adapter."""
     write("a.rs", adapter)
     write("crates/c/src/lib.rt", source)
     write(f"w/{path}", written)

@@ -76,7 +76,7 @@ mod tests { fn g() { 1; } }
 
 
 def split_marked(marked):
-    """A text with marks, as it is before and after."""
+    """Returns a text with marks, as it is before and after."""
     return re.sub("[‹›]|«[^»]*»", "", marked), re.sub("[«»]|‹[^›]*›", "", marked)
 
 

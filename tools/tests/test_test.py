@@ -53,7 +53,7 @@ PACKAGES = {LACKING: "no-such-command", LEFT_OUT: "no-such-tool"}
 
 
 def run(folder, words, fails=""):
-    """The status and the lines of tools/test, and what was tried."""
+    """Returns the status and the lines of tools/test, and what was tried."""
     for path, text in PROGRAMS.items():
         write_program(path, text)
     (folder / "temporary").mkdir()

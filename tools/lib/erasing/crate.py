@@ -23,15 +23,15 @@ class Failure(Exception):
 
 
 def read_files(top, crate):
-    """The files of a Rattle crate, by their paths below its `src`."""
+    """Returns the files of a Rattle crate, by their paths below its `src`."""
     folder = top / "crates" / crate / "src"
     return {str(file.relative_to(folder)): file.read_text()
             for file in sorted(folder.rglob("*.rt"))}
 
 
 def write_crate(plan, read_files):
-    """The files of a crate, by path below its folder. `read_files` answers those of a Rattle crate,
-    by their paths below its `src`."""
+    """Returns the files of a crate, by path below its folder. `read_files` answers those of a
+    Rattle crate, by their paths below its `src`."""
     files, left, used = {"mod.rs": _write_root(plan)}, set(), set()
     for crate in plan.modules:
         # those that declare modules of tests, or without a form for cargo, come first
@@ -57,7 +57,7 @@ def _rank(file):
 
 
 def target_of(name):
-    """Where a file of crates/ is written."""
+    """Returns where a file of crates/ is written."""
     crate, _, rest = name.partition("/")
     return f"{crate}/mod.rs" if rest in ("lib", "main") else f"{crate}/{rest}.rs"
 
@@ -73,8 +73,8 @@ def _write_root(plan):
 
 
 def erase(text, crate, name, plan):
-    """The Rust of a Rattle file, the modules that it declares and that aren't written, and the
-    entries of the plan that it used."""
+    """Returns the Rust of a Rattle file, the modules that it declares and that aren't written, and
+    the entries of the plan that it used."""
     source = Source(text)
     replaced = marks.put_lines(source)
     passes.drop_ghosts(source)

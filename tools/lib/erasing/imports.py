@@ -11,14 +11,14 @@ OF_CORE = {"cmp", "fmt", "iter", "marker", "mem", "ops", "str", "time"}
 
 
 def count_words(source):
-    """How often each word stands in a file outside its imports."""
+    """Counts how often each word stands in a file outside its imports."""
     imports = {index for at, end in source.find_items()
                if source.is_word(source.skip_visibility(at), "use") for index in range(at, end)}
     return Counter(token.text for index, token in enumerate(source.tokens) if index not in imports)
 
 
 def rename_root(source, at, path, crate, plan):
-    """A path with its root in the Rust crate."""
+    """Returns a path with its root in the Rust crate."""
     root, _, rest = path.partition("::")
     if root == "std":
         module, _, rest = rest.partition("::")
@@ -51,7 +51,7 @@ def rename_paths(source, crate, plan):
 
 
 def find_imports(source, at, end):
-    """The names that an item imports, if it does: pairs of a visibility and a path."""
+    """Finds the names that an item imports, if it does: pairs of a visibility and a path."""
     word = source.skip_visibility(at)
     if not source.is_word(word, "use"):
         return []
@@ -116,7 +116,7 @@ def _uses(source, name):
 
 
 def _write_imports(visibility, paths):
-    """The imports of these paths: one for each module."""
+    """Returns the imports of these paths: one for each module."""
     groups = {}
     for path in paths:
         root, sign, name = path.rpartition("::")

@@ -19,7 +19,7 @@ ITEMS = {"const", "enum", "fn", "impl", "mod", "static", "struct", "trait", "typ
 
 
 def _read_mark(source, at):
-    """The kind and the text of the mark at an index, or twice None."""
+    """Returns the kind and the text of the mark at an index, or twice None."""
     text = source.text(at).rstrip()
     if source.kind(at) != COMMENT or not LIKE_MARK.match(text):
         return None, None
@@ -72,7 +72,7 @@ def _find_comment_end(source, at):
 
 
 def find_item_below(source, at):
-    """The index of what follows a mark, after attributes."""
+    """Finds the index of what follows a mark, after attributes."""
     at = source.find_after(at)
     while source.is_sign(at, "#"):
         at = source.find_after(source.find_attribute_end(at))
@@ -97,7 +97,7 @@ def drop_lacking(source):
 
 
 def _find_end(source, at):
-    """The end of an item, a member or a statement."""
+    """Finds the end of an item, a member or a statement."""
     if source.text(at) in ITEMS:
         return source.find_item_end(at)
     while not source.is_sign(at, ",;"):

@@ -12,7 +12,7 @@ from lib.erasing.tokens import COMMENT, split
 
 @lru_cache(maxsize=None)
 def _split(pattern):
-    """The parts of a pattern: pairs of a number of `$`, and a name or a text."""
+    """Returns the parts of a pattern: pairs of a number of `$`, and a name or a text."""
     parts, count = [], 0
     for token in split(pattern):
         if token.text == "$":
@@ -24,8 +24,8 @@ def _split(pattern):
 
 
 def find(source, at, pattern):
-    """The last index of a pattern that begins at an index, and the texts of its names; None if it
-    doesn't fit, or a comment would be lost."""
+    """Finds the last index of a pattern that begins at an index, and the texts of its names; None
+    if it doesn't fit, or a comment would be lost."""
     found = None if source.tokens[at].is_blank else _fit(source, at, _split(pattern), {})
     if found is None:
         return None
@@ -37,7 +37,7 @@ def find(source, at, pattern):
 
 
 def _fit(source, at, parts, indices):
-    """The last index of parts that begin at an index, and the indices of names; or None."""
+    """Returns the last index of parts that begin at an index, and the indices of names; or None."""
     end = source.find_before(at)
     for index, (count, name) in enumerate(parts):
         if count == 0:
@@ -54,7 +54,7 @@ def _fit(source, at, parts, indices):
 
 
 def _fit_run(source, at, parts, indices):
-    """The same if the first part stands for any number of tokens."""
+    """Returns the same if the first part stands for any number of tokens."""
     (count, name), rest = parts[0], parts[1:]
     # the comments before it are its own
     last = source.find_before(at)
@@ -69,7 +69,7 @@ def _fit_run(source, at, parts, indices):
 
 
 def _find_element_end(source, at):
-    """The last index of one token, or of a bracket; None at the end of what is around it."""
+    """Finds the last index of one token, or of a bracket; None at the end of what is around it."""
     if source.kind(at) is None or source.is_sign(at, CLOSING):
         return None
     return source.match(at)
@@ -97,7 +97,7 @@ def rewrite(source, pattern, by, holds=lambda names: True):
 
 
 def fill_names(by, names):
-    """A text with the texts of names in the place of `$x`."""
+    """Returns a text with the texts of names in the place of `$x`."""
     made, is_name = [], False
     for token in split(by):
         if token.text == "$":

@@ -27,10 +27,10 @@ class Plan:
     rules: list = field(default_factory=list)
 
     def list_names(self):
-        """The names that are imported where they are used, and from where."""
+        """Returns the names that are imported where they are used, and from where."""
         return [(name, home) for home, names in self.homes.items() for name in names.split()]
 
     def list_entries(self):
-        """What a plan seeks, each with what it becomes."""
+        """Returns what a plan seeks, each with what it becomes."""
         return {*(rule[:2] for rule in self.rules), *self.list_names(), *self.imports.items(),
                 *self.of_std.items(), *self.other_crates.items()}

@@ -21,7 +21,7 @@ class Source:
         return self.tokens[at].kind if 0 <= at < len(self.tokens) else None
 
     def text_between(self, first, last):
-        """The text between two indices, with both."""
+        """Returns the text between two indices, with both."""
         return "".join(token.text for token in self.tokens[first : last + 1])
 
     def is_sign(self, at, signs):
@@ -37,7 +37,7 @@ class Source:
     # Finding
 
     def find_solid(self, at, step=1):
-        """The first index from `at` on, by `step`, that is neither space nor comment."""
+        """Finds the first index from `at` on, by `step`, that is neither space nor comment."""
         while self.kind(at) in (SPACE, COMMENT):
             at += step
         return at
@@ -49,7 +49,7 @@ class Source:
         return self.find_solid(at - 1, -1)
 
     def read_words(self, at, count):
-        """The texts of the next `count` solid tokens."""
+        """Returns the texts of the next `count` solid tokens."""
         texts = []
         for _ in range(count):
             texts.append(self.text(at))
@@ -66,7 +66,7 @@ class Source:
         return self.refuse("unclosed bracket", at)
 
     def find_item_end(self, at):
-        """The end of the item at an index: its `;`, or the brace that closes its block."""
+        """Finds the end of the item at an index: its `;`, or the brace that closes its block."""
         start, word = at, self.skip_visibility(at)
         has_block = self.text(self.find_after(word)) == "fn" or not self.is_word(
             word, "use", "static", "const", "type")
@@ -92,7 +92,7 @@ class Source:
         return before if self.text(before) == "pub" else at
 
     def find_attribute_end(self, at):
-        """The `]` of the attribute at an index, or None if an item begins there."""
+        """Finds the `]` of the attribute at an index, or None if an item begins there."""
         bracket = self.find_after(at)
         if self.is_sign(bracket, "!"):
             bracket = self.find_after(bracket)
@@ -109,7 +109,7 @@ class Source:
         return reversed(found)
 
     def find_all(self, front):
-        """The indices of what begins with these words, the last one first."""
+        """Finds the indices of what begins with these words, the last one first."""
         wanted = [token.text for token in split(front) if not token.is_blank]
         found = [at for at, token in enumerate(self.tokens) if token.text == wanted[0]
                  and self.read_words(at, len(wanted)) == wanted]
@@ -150,5 +150,5 @@ class Source:
         self.replace(at, at - 1, text)
 
     def join_text(self):
-        """The text of the file as it is now."""
+        """Returns the text of the file as it is now."""
         return self.text_between(0, len(self.tokens)).strip("\n") + "\n"

@@ -48,7 +48,7 @@ class Token(NamedTuple):
 
 
 def split(text):
-    """The tokens of a file. Their texts, joined, are the file."""
+    """Returns the tokens of a file. Their texts, joined, are the file."""
     tokens, at, line = [], 0, 1
     while at < len(text):
         try:
@@ -62,7 +62,7 @@ def split(text):
 
 
 def _read_token(text, at):
-    """The kind and the end of the token at an index."""
+    """Returns the kind and the end of the token at an index."""
     if text.startswith("/*", at):
         raise Refused("a comment of several lines")
     found = TOKEN.match(text, at)
@@ -78,7 +78,7 @@ def _read_token(text, at):
 
 
 def _find_ghost_end(text, at, stops):
-    """Where ghost text ends: after one of `stops` outside braces. It isn't Rust, so only its
+    """Finds where ghost text ends: after one of `stops` outside braces. It isn't Rust, so only its
     braces, strings and comments are looked at."""
     depth = 0
     for found in GHOST_MARK.finditer(text, at):

@@ -21,7 +21,7 @@ class Call(NamedTuple):
 
 
 def calls_of(trait):
-    """The calls by their names, from the text of the trait."""
+    """Returns the calls by their names, from the text of the trait."""
     text = trait[:trait.index("pub trait HandlerText")]
     return {name: Call(name, dict(re.findall(r"(\w+): (.*?)(?:,\s+(?=\w+:)|,?\s*$)", parameters)),
                        re.sub(r"\s*/// ?", " ", about).strip())

@@ -17,22 +17,22 @@ def make_part(chance, part):
 
 
 def choose(*parts):
-    """One of the parts."""
+    """Returns one of the parts."""
     return lambda chance: make_part(chance, chance.choice(parts))
 
 
 def prefer(part, *others):
-    """The part, and rarely one of the others."""
+    """Returns the part, and rarely one of the others."""
     return choose(*[part] * 9, choose(*others))
 
 
 def join(*parts):
-    """All of the parts, one after another."""
+    """Returns all of the parts, one after another."""
     return lambda chance: b"".join(make_part(chance, part) for part in parts)
 
 
 def repeat(counts, part, between=b""):
-    """A part so many times, as one of the counts says, and something between them."""
+    """Returns a part so many times, as one of the counts says, and something between them."""
     def make(chance):
         count = chance.choice(counts)
         parts = [part, between] * (count - 1) + [part] * (count > 0)
@@ -50,7 +50,7 @@ def number_below(limit):
 
 
 def add_stray(part):
-    """A part, sometimes with a byte or two in it that belong elsewhere."""
+    """Returns a part, sometimes with a byte or two in it that belong elsewhere."""
     def make(chance):
         text = make_part(chance, part)
         if chance.random() > 0.1:
@@ -61,7 +61,7 @@ def add_stray(part):
 
 
 def separate(counts, part):
-    """Several parts with `;`, with `:`, or with both between them."""
+    """Repeats a part with `;`, with `:`, or with both between them."""
     by = [repeat(counts, part, between) for between in (b";", b":", choose(b";", b":"))]
     return choose(by[0], *by)
 
@@ -172,7 +172,7 @@ OF_TEXT = {TEXT: 6, CONTROL: 2, CANCELS: 1, CHARACTER: 6, BROKEN: 10, FAULT: 4, 
 # ---- streams and their chunks
 
 def make_hostile_stream(seed, index, weights=PARTS):
-    """The chunks of the stream of this number, whose kinds of parts have these weights."""
+    """Returns the chunks of the stream of this number, whose kinds of parts have these weights."""
     chance = random.Random(f"hostile {seed}/{index}")
     size = chance.random()
     count = (chance.randint(1, 3) if size < 0.45 else chance.randint(2, 9) if size < 0.85 else
@@ -187,7 +187,7 @@ def make_hostile_stream(seed, index, weights=PARTS):
 
 
 def damage(chance, stream):
-    """The stream with a few bytes changed, dropped or doubled, or without its end."""
+    """Returns the stream with a few bytes changed, dropped or doubled, or without its end."""
     for _ in range(chance.randint(1, 3)):
         position = chance.randrange(len(stream) + 1)
         front, back = stream[:position], stream[position:]

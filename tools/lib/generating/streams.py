@@ -62,7 +62,7 @@ def make_western(letters, encoding):
 # ---- colours and the cursor
 
 def make_ls_color(chance):
-    """As `ls -lR --color` writes."""
+    """Returns what `ls -lR --color` could write."""
     kinds = [("01;34", ""), ("01;32", ""), ("01;36", " -> \x1b[0m\x1b[01;34mtarget\x1b[0m"),
              ("01;31", ".gz"), ("01;35", ".png"), (None, ".txt"), (None, ".c")]
     path = "/".join(chance.choice(WORDS) for _ in range(chance.randint(1, 5)))
@@ -79,7 +79,7 @@ def make_ls_color(chance):
 
 
 def make_coloured_line(chance):
-    """Text with a colour or an attribute at each second word."""
+    """Returns text with a colour or an attribute at each second word."""
     attributes = [0, 1, 3, 4, 7, 22, 24, 27, 31, 32, 33, 34, 35, 36, 39, 42, 49, 91, 97]
     line = [b"\x1b[%dm" % chance.choice(attributes) * (chance.random() < 0.5)
             + chance.choice(WORDS).encode() + b" " for _ in range(12)]
@@ -87,7 +87,7 @@ def make_coloured_line(chance):
 
 
 def make_dense_cells():
-    """Cells, each with two colours of 256, bold, italic and underlined."""
+    """Yields cells, each with two colours of 256, bold, italic and underlined."""
     for shift in itertools.count():
         for letter in range(0x41, 0x5B):
             colours = ((line + column + shift) % 156 for line in range(ROWS)
@@ -98,7 +98,7 @@ def make_dense_cells():
 
 
 def make_cursor(chance):
-    """Motions and erasures of all kinds, as full-screen programs write."""
+    """Returns a motion or an erasure of any kind, as full-screen programs write."""
     others = [b"\x1b7", b"\x1b8", b"\x1bM", b"\x1b(0", b"\x1b(B", b"\x0e", b"\x0f", b"\x08", b"\t",
               b"\r\n", b"\x1b[?25l", b"\x1b[?25h", b"\x1b[?7l", b"\x1b[?1049h"]
     kind = chance.random()
@@ -112,14 +112,14 @@ def make_cursor(chance):
 # ---- strings
 
 def make_osc_title(chance):
-    """Window titles, ended by BEL or ST, and a little text between them."""
+    """Returns a window title, ended by BEL or ST, and a little text."""
     end = chance.choice([b"\x07", b"\x1b\\"])
     title = b"\x1b]%d;%s%s" % (chance.randrange(3), pick_words(chance, 5, 60), end)
     return title + pick_words(chance, 1, 30)
 
 
 def make_sixel(chance):
-    """Sixel images of some 30 kB."""
+    """Returns a sixel image of some 30 kB."""
     def make_band():
         runs = [b"!%d%c" % (chance.randint(2, 90), chance.randrange(63, 127))
                 if chance.random() < 0.5
@@ -168,7 +168,7 @@ STREAMS = [*PARTS, "dense_cells", *REPEATED]
 
 
 def parts_of(name):
-    """The parts of a stream, without end."""
+    """Returns the parts of a stream, without end."""
     if name in PARTS:
         return iter(partial(PARTS[name], random.Random(name)), None)
     if name == "dense_cells":

@@ -19,14 +19,14 @@ def read_all_vectors():
 
 
 def chunks_of(vector):
-    """The stream of a vector, in chunks; a text alone has none."""
+    """Returns the stream of a vector, in chunks; a text alone has none."""
     steps = [step.get("advance", step.get("bytes", "")) for step in vector.get("steps", [])]
     chunks = [*vector.get("pieces", []), vector.get("before", ""), *steps]
     return [bytes_of(chunk) for chunk in chunks if chunk] or [b""]
 
 
 def parts_of(value):
-    """The (text, times) parts of bytes in hex, of a line, or of lists of these."""
+    """Returns the (text, times) parts of bytes in hex, of a line, or of lists of these."""
     if isinstance(value, str):
         return [(value, 1)]
     if isinstance(value, dict):
@@ -39,7 +39,7 @@ def bytes_of(value):
 
 
 def lines_of(values):
-    """The lines of an answer, repetitions written out."""
+    """Returns the lines of an answer, repetitions written out."""
     lines = []
     for value in values:
         if isinstance(value, dict) and "repeat" in value:

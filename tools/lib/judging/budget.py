@@ -30,7 +30,7 @@ class Time:
             raise OutOfTime
 
     def ask(self, question, *about):
-        """The answer to a question about something, or None if the time is over."""
+        """Returns the answer to a question about something, or None if the time is over."""
         try:
             return None if self.is_over else question(*about)
         except OutOfTime:
@@ -38,8 +38,8 @@ class Time:
             return None
 
     def make_batches(self, cases):
-        """The cases in batches: of few at first, and then of more as long as they take little
-        time. Raises OutOfTime if the time is over and cases are left."""
+        """Yields the cases in batches: of few at first, and then of more as long as they take
+        little time. Raises OutOfTime if the time is over and cases are left."""
         cases, size = iter(cases), 2
         while batch := list(islice(cases, size)):
             start = time.monotonic()
@@ -57,7 +57,7 @@ class Tries:
         self.time, self.left = time, iter(range(most))
 
     def ask(self, question, *about):
-        """The answer to a question about something, or None if no more may be asked."""
+        """Returns the answer to a question about something, or None if no more may be asked."""
         return None if self.is_over() else self.time.ask(question, *about)
 
     def is_over(self):

@@ -49,12 +49,12 @@ class Broken(Exception):
 
 
 def frame(chunks):
-    """A stream in chunks, as the program reads it."""
+    """Returns a stream in chunks, as the program reads it."""
     return b"".join(len(chunk).to_bytes(4, "little") + chunk for chunk in chunks) + END_OF_STREAM
 
 
 def escape_controls(text):
-    """A text without control characters, such as a terminal or a file of text can take."""
+    """Returns a text without control characters, such as a terminal or a file of text can take."""
     return re.sub(r"[^ -~]", lambda found: found[0].encode("unicode_escape").decode(), text)
 
 
@@ -70,7 +70,7 @@ def answer_of(output, mark=""):
 
 
 def mark_of(lines):
-    """The kind of the mark that ends an answer, or None."""
+    """Returns the kind of the mark that ends an answer, or None."""
     mark = MARK.fullmatch(lines[-1]) if lines else None
     return mark and mark[1]
 
@@ -102,8 +102,8 @@ class Program:
         self.guard.wait()
 
     def answer_all(self, cases):
-        """The lines for each case, a list of chunks. New processes get them: one each, or all if
-        they are framed."""
+        """Returns the lines for each case, a list of chunks. New processes get them: one each, or
+        all if they are framed."""
         if not self.takes_chunks:
             return list(self.threads.map(self.answer, cases))
         answers = []
@@ -118,7 +118,7 @@ class Program:
         self.answer_all([chunks])
 
     def answer(self, chunks):
-        """What a process prints until it ends."""
+        """Returns what a process prints until it ends."""
         output, until, mark = bytearray(), time.monotonic() + self.timeout, ""
         with self.run_process(b"".join(chunks)) as process:
             try:
@@ -130,7 +130,7 @@ class Program:
         return answer_of(output, mark)
 
     def answer_in_process(self, cases):
-        """The answers up to the one at which a process ends or stops, if it does."""
+        """Returns the answers up to the one at which a process ends or stops, if it does."""
         # it begins with the line feed before the next answer
         answers, output = [], bytearray(b"\n")
         with self.run_process(b"".join(map(frame, cases))) as process:
@@ -229,7 +229,7 @@ class Program:
 
 
 def measure_memory(process):
-    """The bytes of memory that a process uses, where the system shows them in /proc."""
+    """Measures the bytes of memory that a process uses, where the system shows them in /proc."""
     try:
         with open(f"/proc/{process.pid}/statm", "rb") as file:
             return int(file.read().split()[1]) * os.sysconf("SC_PAGE_SIZE")

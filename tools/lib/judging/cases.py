@@ -19,14 +19,14 @@ class Case(NamedTuple):
 
 
 def read_vector_cases():
-    """The streams of all vectors but those of texts, which are no streams."""
+    """Yields the streams of all vectors but those of texts, which are no streams."""
     for vector in read_vectors():
         if "text" not in vector or "pieces" in vector:
             yield Case(f"vector {vector['id']}", chunks_of(vector))
 
 
 def read_recorded_cases(seed):
-    """Recorded streams: as they came, and in random chunks."""
+    """Yields recorded streams: as they came, and in random chunks."""
     for name, chunks in read_recorded():
         yield Case(f"recorded stream {name}", chunks)
         chance = random.Random(f"recorded/{seed}/{name}")
@@ -36,8 +36,8 @@ def read_recorded_cases(seed):
 
 
 def make_random_cases(seed, count):
-    """Hostile streams, of all and mostly of text, in turn. One depends on the seed and its number.
-    """
+    """Yields hostile streams, of all and mostly of text, in turn. One depends on the seed and its
+    number."""
     for number in range(count):
         if number % 2:
             yield Case(f"stream {number} of seed {seed}, mostly text",
@@ -47,7 +47,7 @@ def make_random_cases(seed, count):
 
 
 def make_cases(sources, seed, count):
-    """The cases of these sources, the short ones first."""
+    """Yields the cases of these sources, the short ones first."""
     if "vectors" in sources:
         yield from read_vector_cases()
     if "random" in sources:

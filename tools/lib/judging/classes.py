@@ -42,8 +42,8 @@ def is_class(text):
 
 
 def rule_of(name):
-    """The rules of a class: for a cut the one about cuts, then the one of what is cut, if there is
-    one."""
+    """Returns the rules of a class: for a cut the one about cuts, then the one of what is cut, if
+    there is one."""
     rule = name.partition("/")[0]
     rest = rule.replace(CUT_PREFIX, "", 1)
     is_known = rest in RULES or rest in ALONE or rule == BETWEEN
@@ -52,15 +52,15 @@ def rule_of(name):
 
 
 def level_of(name):
-    """The level of a class: that of its rule, unless each rule of this kind is a must."""
+    """Returns the level of a class: that of its rule, unless each rule of this kind is a must."""
     rule, _, kind = name.partition("/")
     is_read = rule in MALFORMED and kind != "replacement"
     return MUST if kind in FAILURES or is_read else rule_of(name)[0].level
 
 
 def find_needed_rule(chunks, depends_on_cut, same, kind, house, but=()):
-    """The name of the rule that a case is about whose answers begin with the same lines: none of
-    the rules `but`. It is exact if the case is shrunk."""
+    """Finds the name of the rule that a case is about whose answers begin with the same lines: none
+    of the rules `but`. It is exact if the case is shrunk."""
     steps = steps_of(b"".join(chunks), house)
     if depends_on_cut:
         return find_cut_rule(steps, cuts_of(chunks), kind)
@@ -73,15 +73,15 @@ def find_needed_rule(chunks, depends_on_cut, same, kind, house, but=()):
 
 
 def find_cut_rule(steps, cuts, kind):
-    """The name of the rule about what cuts divide."""
+    """Finds the name of the rule about what cuts divide."""
     divided = {name for index in find_steps_at_cuts(steps, cuts).values() if index is not None
                for name in steps[index].rules if name in ORDER and is_about(name, kind)}
     return CUT_PREFIX + find_most_special(divided) if divided else BETWEEN
 
 
 def find_needed_steps(steps, same, kind):
-    """The steps that a difference after the same lines can be about: none after an event that has
-    another field, and no terminator of an event before."""
+    """Finds the steps that a difference after the same lines can be about: none after an event that
+    has another field, and no terminator of an event before."""
     ends = list(accumulate(len(step.lines) for step in steps))
     last = next((index for index, end in enumerate(ends) if end > same), len(steps) - 1)
     if kind in FIELDS:
@@ -95,8 +95,8 @@ def is_about(rule, kind):
 
 
 def find_steps_at_cuts(steps, cuts):
-    """For each cut the index of the step that it divides. What is malformed or unfinished is found
-    to be so after its end."""
+    """Finds for each cut the index of the step that it divides. What is malformed or unfinished is
+    found to be so after its end."""
     found = dict.fromkeys(cuts)
     for index, step in enumerate(steps):
         last = step.end if step.rules[0] in ("malformed", "unfinished") else step.end - 1
@@ -106,8 +106,8 @@ def find_steps_at_cuts(steps, cuts):
 
 
 def find_nearest(chunks, same, rules, house):
-    """Of the rules that occur in a case, the one that comes last before a position in its lines,
-    the most special one of several; and all rules of that step."""
+    """Finds, of the rules that occur in a case, the one that comes last before a position in its
+    lines, the most special one of several; and all rules of that step."""
     steps = steps_of(b"".join(chunks), house)
     divided = set(find_steps_at_cuts(steps, cuts_of(chunks)).values())
     line, best, of_step = 0, (-1, -1, min(rules)), rules
@@ -140,14 +140,14 @@ def free_case(chunks, rules, house):
 
 
 def find_unwanted_cuts(steps, cuts, rules):
-    """The cuts that divide what these rules are about, if they are about cuts."""
+    """Finds the cuts that divide what these rules are about, if they are about cuts."""
     divided = {name[len(CUT_PREFIX):] for name in rules if name.startswith(CUT_PREFIX)}
     return {cut for cut, index in find_steps_at_cuts(steps, cuts if divided else []).items()
             if (BETWEEN in rules if index is None else divided.intersection(steps[index].rules))}
 
 
 def find_kept_positions(text, rules, house):
-    """The positions of what is left of a text without what rules are about, in one pass: if
+    """Finds the positions of what is left of a text without what rules are about, in one pass: if
     something goes, only the last that was read before is read again, without what followed it."""
     # the reader has what stands at the positions `front`, and then all from `rest` on
     reader, front, rest, read = Reader(text, house), [], 0, []

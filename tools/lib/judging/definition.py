@@ -42,7 +42,7 @@ def steps_of(stream, house=DEFAULT):
 
 
 def segment_at(text, position, house):
-    """The segment of text at a position, and whether it is a well-formed character."""
+    """Returns the segment of text at a position, and whether it is a well-formed character."""
     first = text[position]
     if first < "\x80" or house.encoding == "bytes":
         return first, True
@@ -51,7 +51,7 @@ def segment_at(text, position, house):
 
 
 def expect_length(first):
-    """The length of a character as far as its first byte gives it alone."""
+    """Returns the length of a character as far as its first byte gives it alone."""
     return 2 + (first >= "\xe0") + (first >= "\xf0")
 
 
@@ -60,7 +60,7 @@ def execute(character):
 
 
 def lines_of_end(end):
-    """The lines of what ended a sequence: CAN and SUB have one."""
+    """Returns the lines of what ended a sequence: CAN and SUB have one."""
     return (execute(end),) if end and end in ENDS else ()
 
 
@@ -83,7 +83,7 @@ class Reader:
         return self.is_open, self.is_hooked
 
     def read_next(self):
-        """The steps of what stands at the position; none at the end."""
+        """Returns the steps of what stands at the position; none at the end."""
         self.steps = []
         if self.position < len(self.text):
             if self.is_hooked:
@@ -99,7 +99,7 @@ class Reader:
         self.position = end
 
     def find_first(self, wanted, start):
-        """Where a character first is that is wanted, or that ends any sequence and string."""
+        """Finds where a character first is that is wanted, or that ends any sequence and string."""
         found = re.compile(f"[{wanted}{ESC}{ENDS}]").search(self.text, start)
         return found.start() if found else len(self.text)
 
@@ -147,7 +147,7 @@ class Reader:
     # ---- sequences
 
     def read_body(self, escape):
-        """What ESC begins."""
+        """Returns what ESC begins."""
         was_open, self.is_open = self.is_open, False
         if was_open and self.character_at(escape + 1) == "\\":
             lines = ["esc - false 5c"] if self.house.terminator == "event" else []
@@ -161,8 +161,8 @@ class Reader:
             read(escape, key)
 
     def find_final(self, escape, start, wanted, dropped="dropped-in-sequence"):
-        """The position of a final byte, or None if the sequence ends without one: by the next ESC,
-        or CAN or SUB. Until then C0 is executed, or dropped as what isn't in a head."""
+        """Finds the position of a final byte, or None if the sequence ends without one: by the next
+        ESC, or CAN or SUB. Until then C0 is executed, or dropped as what isn't in a head."""
         end = self.find_first(wanted, start)
         for position, byte in enumerate(self.text[start:end], start):
             if byte < " " and dropped == "dropped-in-sequence":
@@ -195,8 +195,8 @@ class Reader:
             self.add(rules or ["malformed-head"], escape, final + 1, *lines)
 
     def read_head(self, method, rule, start, final):
-        """The rules and the line of a head, without what is dropped or executed in it; none if it
-        is malformed."""
+        """Returns the rules and the line of a head, without what is dropped or executed in it; none
+        if it is malformed."""
         house, text = self.house, re.sub("[^ -?]", "", self.text[start:final])
         shape = WELL_SHAPED.fullmatch(text)
         if not shape or house.colon == "refuses" and ":" in text:
@@ -226,7 +226,7 @@ class Reader:
             self.is_hooked = True
 
     def read_device_byte(self, start):
-        """A byte of data, or the end. If that is ESC, it also begins what comes next."""
+        """Returns a byte of data, or the end. If that is ESC, it also begins what comes next."""
         byte = self.text[start]
         if byte < "\x7f" and byte not in ESC + ENDS:
             self.add(["device-data"], start, start + 1, f"put {hex_of(byte)}")
@@ -245,7 +245,7 @@ class Reader:
         self.read_dropped_string(escape, key + 1, "ignored-string")
 
     def read_dropped_string(self, escape, start, rule):
-        """A string of which nothing is reported, up to ESC, CAN or SUB."""
+        """Returns a string of which nothing is reported, up to ESC, CAN or SUB."""
         stop = self.find_first(ST if self.house.ignored_9c == "ends" else "", start)
         last, text, rules = self.character_at(stop), self.text[start:stop], [rule]
         if ST in text + last:
@@ -284,14 +284,14 @@ class Reader:
 
 
 def number_of(digits, largest):
-    """A number in decimal, which has any number of digits if there is no largest one."""
+    """Returns a number in decimal, which has any number of digits if there is no largest one."""
     digits, most = digits.lstrip("0") or "0", str(largest)
     is_kept = largest is None or (len(digits), digits) < (len(most), most)
     return digits if is_kept else most
 
 
 def show_groups(parameters, house):
-    """The groups of a parameter text, as a line shows them."""
+    """Shows the groups of a parameter text, as a line shows them."""
     text = parameters if house.colon == "joins" else parameters.replace(":", ";")
     parts = re.split("([:;])", text)
     kept = len(parts) if house.numbers is None else 2 * house.numbers - 1
@@ -300,7 +300,7 @@ def show_groups(parameters, house):
 
 
 def split_command(items, house):
-    """How many of the items of a command are kept, and their pieces."""
+    """Returns how many of the items of a command are kept, and their pieces."""
     counts = accumulate((item != ";" for item in items), initial=0)
     kept = "".join(item for item, count in zip(items, counts)
                    if house.limit is None or count < house.limit)
@@ -308,12 +308,12 @@ def split_command(items, house):
 
 
 def ends_of_command(house):
-    """What ends a command, besides ESC, CAN and SUB."""
+    """Returns what ends a command, besides ESC, CAN and SUB."""
     return (BEL if house.bell == "ends" else "") + (ST if house.command_9c == "ends" else "")
 
 
 def find_size_rules(items, kept, pieces, house):
-    """The rules about how long a command is, and whether each is at work."""
+    """Finds the rules about how long a command is, and whether each is at work."""
     data = len(items) - items.count(";")
     most = 16 if house.pieces is None else min(house.pieces, 16)
     return {"limit": kept < len(items) or data > 1024, "pieces": len(pieces) > most,

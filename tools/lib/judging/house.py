@@ -26,7 +26,7 @@ def words_of(house):
 
 
 def house_of(words):
-    """The house of words such as `delete=drop`. Raises ValueError."""
+    """Returns the house of words such as `delete=drop`. Raises ValueError."""
     house = DEFAULT
     for word in words:
         name, _, value = word.partition("=")

@@ -66,11 +66,11 @@ class Judgement:
         return name in self.findings
 
     def find_new(self):
-        """The findings that aren't known."""
+        """Returns the findings that aren't known."""
         return [finding for finding in self.findings.values() if finding.is_new]
 
     def status(self):
-        """1 if something is new, or no stream was judged; 3 if streams are left; else 0."""
+        """Returns 1 if something is new or no stream was judged, 3 if streams are left, else 0."""
         is_bad = self.find_new() or self.unexplained_count or not self.streams
         return 1 if is_bad else 3 if self.ended_early else 0
 
@@ -252,8 +252,8 @@ class Judge:
             needless.append(rule)
 
     def find_same(self, name, difference):
-        """A class of the same rule whose smallest case stands within another, byte after byte: what
-        comes after it may differ in another way. None if there is none."""
+        """Finds a class of the same rule whose smallest case stands within another, byte after
+        byte: what comes after it may differ in another way. None if there is none."""
         rule, _, kind = name.partition("/")
         for other, finding in self.result.findings.items():
             rest = iter(b"".join(difference.chunks))
@@ -265,8 +265,8 @@ class Judge:
     # ---- what differs only at times
 
     def confirm(self, case, difference, tries=1):
-        """The difference that a stream has alone, each time in a new process; or None, once it has
-        reported why."""
+        """Returns the difference that a stream has alone, each time in a new process; or None, once
+        it has reported why."""
         # a program that doesn't end takes its time again
         for _ in range(min(tries, 2) if mark_of(difference.candidate) in LIMITS else tries):
             again = self.sides.find_difference(difference.chunks)

@@ -25,12 +25,12 @@ REPLACEMENT = "print fffd"
 
 
 def find_first_difference(reference, candidate):
-    """The number of lines, or of characters, with which both begin."""
+    """Finds the number of lines, or of characters, with which both begin."""
     return len(os.path.commonprefix([reference, candidate]))
 
 
 def differences_of(reference, candidate):
-    """The positions and kinds of the differences, in order. A position is a number of the
+    """Returns the positions and kinds of the differences, in order. A position is a number of the
     reference's lines."""
     mark = mark_of(candidate)
     if mark:
@@ -46,7 +46,7 @@ def differences_of(reference, candidate):
 
 
 def kind_of(reference, candidate):
-    """The kind of the difference of lines, of which none is the same."""
+    """Returns the kind of the difference of lines, of which none is the same."""
     if {*reference, *candidate} == {REPLACEMENT}:
         return "replacement"
     if not candidate:
@@ -62,7 +62,7 @@ def kind_of(reference, candidate):
 
 
 def kind_of_field(one, other):
-    """Which field of two lines of a method differs first."""
+    """Returns which field of two lines of a method differs first."""
     method, *fields = one.split(" ")
     others = other.split(" ")[1:]
     if method == "osc":

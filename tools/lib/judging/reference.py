@@ -30,7 +30,7 @@ class Reference:
             raise NoReference(f"{self.vtlog} isn't vtlog: it prints other lines")
 
     def answer(self, stream):
-        """The lines of a stream."""
+        """Returns the lines of a stream."""
         try:
             done = subprocess.run([self.vtlog], input=stream, capture_output=True, timeout=SECONDS)
         except subprocess.TimeoutExpired:
@@ -53,8 +53,8 @@ class Reference:
 
 
 def find_vtlog(named=None):
-    """The program: the named one, $VTLOG, the one of this repository, which cargo keeps up to date,
-    or the one that is installed."""
+    """Finds the program: the named one, $VTLOG, the one of this repository, which cargo keeps up to
+    date, or the one that is installed."""
     named = named or os.environ.get("VTLOG")
     if named:
         if not os.access(named, os.X_OK) or Path(named).is_dir():

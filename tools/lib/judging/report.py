@@ -9,53 +9,52 @@ MAX_LINES, LONGEST = 6, 120
 
 
 def show_bytes(chunks):
-    """The chunks in hex, with `|` at each cut and `*` after a byte that is repeated, as --case
-    reads."""
+    """Shows the chunks in hex, with `|` at each cut and `*` after a byte that is repeated, as
+    --case reads."""
     runs = [[(byte, len(list(run))) for byte, run in groupby(chunk)] for chunk in chunks]
     return " | ".join(" ".join(f"{byte:02x}" + f"*{times}" * (times > 1) for byte, times in chunk)
                       for chunk in runs)
 
 
 def read_bytes(text):
-    """The chunks that show_bytes shows. Raises ValueError."""
+    """Returns the chunks that show_bytes shows. Raises ValueError."""
     words = [[word.partition("*") for word in chunk.split()] for chunk in text.split("|")]
     return [b"".join(bytes.fromhex(byte) * int(times or 1) for byte, _, times in chunk)
             for chunk in words]
 
 
 def show_case(difference):
-    """The streams that a program is to get, with `/` between two."""
+    """Shows the streams that a program is to get, with `/` between two."""
     return " / ".join(map(show_bytes, [*difference.before, difference.chunks]))
 
 
 def read_case(text):
-    """The streams that show_case shows. Raises ValueError."""
+    """Returns the streams that show_case shows. Raises ValueError."""
     return list(map(read_bytes, text.split("/")))
 
 
 def show_text(chunks):
-    """The front of the chunks, as Python shows bytes."""
+    """Shows the front of the chunks, as Python shows bytes."""
     text = " | ".join(repr(chunk)[2:-1] for chunk in chunks)
     return text if len(text) <= 200 else f"{text[:150]} .."
 
 
 def show_lines(lines, at=0):
-    """Some lines in a row, the first of them around a position, or that there are none."""
+    """Shows some lines in a row, the first of them around a position, or that there are none."""
     more = [f".. ({len(lines)} lines)", *lines[-1:] * bool(mark_of(lines))]
     shown = [show_line(line, 0 if index else at) for index, line in enumerate(lines[:MAX_LINES])]
     return " / ".join(shown + more * (len(lines) > MAX_LINES)) or "(no event)"
 
 
 def show_line(line, at=0):
-    """A line, or the part of a long one about a position."""
+    """Shows a line, or the part of a long one about a position."""
     start = max(0, min(at - LONGEST // 2, len(line) - LONGEST))
     end = start + LONGEST
     return ".. " * (start > 0) + line[start:end] + " .." * (end < len(line))
 
 
 def show_answers(one, other):
-    """Both answers as they are shown: from their first difference on if they or its lines are long.
-    """
+    """Shows both answers, from their first difference on if they or its lines are long."""
     same = find_first_difference(one, other)
     longest = max([len(line) for line in one[same:same + 1] + other[same:same + 1]], default=0)
     if max(len(one), len(other)) > MAX_LINES or longest > LONGEST:
@@ -69,7 +68,7 @@ def show_answers(one, other):
 
 
 def show_finding(finding, again):
-    """A finding in lines. `again` gives the command that judges a case alone."""
+    """Shows a finding in lines. `again` gives the command that judges a case alone."""
     kind = finding.name.partition("/")[2]
     size, found_size = (sum(map(len, it.chunks)) for it in (finding.difference, finding.found_in))
     title = "NEW  " if finding.is_new else "KNOWN"
@@ -91,7 +90,7 @@ def show_finding(finding, again):
 
 
 def show_sum(result, seed):
-    """The table of classes, and the line about all of them."""
+    """Shows the table of classes, and the line about all of them."""
     lines = []
     if result.findings:
         width = max(map(len, result.findings))

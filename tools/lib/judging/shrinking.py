@@ -16,8 +16,8 @@ PLAIN = [("\x1a", "a\x0a\x07\x18"), ("\x1b", ""), ("\x1f", "a\x0a"), ("\x7e", "a
 
 
 def shrink(streams, ask, at_once=1):
-    """What is known of the smallest streams in a row, each in chunks, that were found to differ.
-    `ask` returns something of those that do; so many are tried at once."""
+    """Returns what is known of the smallest streams in a row, each in chunks, that were found to
+    differ. `ask` returns something of those that do; so many are tried at once."""
     answers, threads = {}, concurrent.futures.ThreadPoolExecutor(at_once)
 
     def answer(text):
@@ -26,7 +26,7 @@ def shrink(streams, ask, at_once=1):
         return answers[text]
 
     def find_first(texts):
-        """The first of some texts whose streams differ, or None."""
+        """Finds the first of some texts whose streams differ, or None."""
         texts = iter(texts)
         while batch := list(islice(texts, at_once)):
             differ = threads.map(answer, batch) if at_once > 1 else map(answer, batch)
@@ -45,8 +45,8 @@ def shrink(streams, ask, at_once=1):
 
 
 def find_smallest(items, find_first):
-    """A part of a sequence that differs, from which no single item can go. `find_first` gives the
-    first of some sequences that differs, or None."""
+    """Finds a part of a sequence that differs, from which no single item can go. `find_first` gives
+    the first of some sequences that differs, or None."""
     size = len(items)
     while size:
         rests = (items[:start] + items[start + size:] for start in range(0, len(items), size))

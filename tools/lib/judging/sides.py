@@ -15,7 +15,7 @@ class Sides:
         self.time = time
 
     def answer_all(self, streams, before=()):
-        """Both answers to streams, which new processes get after others."""
+        """Returns both answers to streams, which new processes get after others."""
         self.time.check()
         references = self.reference.answer_all([b"".join(chunks) for chunks in streams])
         answers = self.candidate.answer_all([*before, *streams])[len(before):]
@@ -25,20 +25,20 @@ class Sides:
         return self.answer_all(streams[-1:], streams[:-1])[0]
 
     def find_difference(self, chunks, before=()):
-        """The difference at a stream, which new processes get after others, or None."""
+        """Finds the difference at a stream, which new processes get after others, or None."""
         reference, answer = self.answer_last([*before, chunks])
         return None if reference == answer else Difference(chunks, reference, answer)
 
     def find_difference_without(self, rules, kind, chunks):
-        """The difference at a stream that has none of some rules, of a kind if one is given, or
-        None."""
+        """Finds the difference at a stream that has none of some rules, of a kind if one is given,
+        or None."""
         is_free = free_case(chunks, rules, self.house) == chunks
         difference = self.find_difference(chunks) if is_free else None
         is_of_kind = difference and (kind is None or kind in kinds_of(difference))
         return difference if is_of_kind else None
 
     def find_rest_without(self, difference, rules, kind=None):
-        """What is left of a difference without some rules."""
+        """Finds what is left of a difference without some rules."""
         chunks = free_case(difference.chunks, rules, self.house)
         return self.find_difference_without(rules, kind, chunks)
 

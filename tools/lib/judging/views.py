@@ -6,7 +6,7 @@ EVENTS = {"print": ("print",), "execute": ("execute",), "csi": ("csi",), "esc": 
 
 
 def join_pieces(command):
-    """The line of a command whose pieces are joined again by `;`."""
+    """Returns the line of a command whose pieces are joined again by `;`."""
     data = command[2].replace("-", "").replace(" ", "3b")
     return f"{command[1]} 1 {data or '-'}"
 
@@ -33,7 +33,7 @@ class View:
         self.hidden = {method for name in unreported for method in EVENTS.get(name, ())}
 
     def filter(self, lines):
-        """The lines with what both sides report."""
+        """Returns the lines with what both sides report."""
         return [self.view_line(line) for line in lines if line.partition(" ")[0] not in self.hidden]
 
     def view_line(self, line):

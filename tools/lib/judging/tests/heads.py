@@ -40,7 +40,7 @@ def head_of(vector, rules):
 
 
 def rules_of(vector):
-    """The names of the rules of a vector, in the order of the tables."""
+    """Returns the names of the rules of a vector, in the order of the tables."""
     stream, kind = b"".join(chunks_of(vector)), vector["kind"]
     used = {name for step in definition.steps_of(stream, House(limit=vector.get("limit", 1024)))
             for name in step.rules}
@@ -54,7 +54,7 @@ def rules_of(vector):
 
 
 def functions_of(stream):
-    """The names of the control functions in a stream."""
+    """Yields the names of the control functions in a stream."""
     for line in definition.lines_of(stream):
         match = LINE.fullmatch(line)
         if line.startswith("osc "):
@@ -74,7 +74,7 @@ def text_of(shown):
 
 
 def find_house_rules(vector):
-    """The house rules on which the events of a vector depend."""
+    """Finds the house rules on which the events of a vector depend."""
     stream = bytes_of(shorten(vector["pieces"]))
     house = House(limit=vector["limit"])
     others = [(name, value) for name, choices in CHOICES.items() if name != "limit"

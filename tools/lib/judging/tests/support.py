@@ -16,7 +16,7 @@ EVENTS = FILES[0]["vectors"] + FILES[0]["long"]
 
 
 def run(*words, **how):
-    """The status and the output of a program."""
+    """Returns the status and the output of a program."""
     done = subprocess.run(list(map(str, words)), stdout=subprocess.PIPE, stderr=subprocess.STDOUT,
                           text=True, **how)
     return done.returncode, done.stdout
@@ -42,7 +42,7 @@ class Side:
 
 
 def judge_of(answer, **options):
-    """A judge of a function, or of a side. The definition is the reference."""
+    """Returns a judge of a function, or of a side. The definition is the reference."""
     defined = SimpleNamespace(answer_all=lambda streams: [*map(definition.lines_of, streams)])
     side = answer if isinstance(answer, Side) else Side(answer)
     return Judge(defined, side, views.View(), house.DEFAULT, **options)

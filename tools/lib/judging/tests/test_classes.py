@@ -18,7 +18,7 @@ CASES = [case for case in cases.make_cases(("vectors", "random"), "1", 240)
 
 
 def judge_function(answer, tried=CASES, **options):
-    """What the judge says of a function. Each finding must show itself again, alone."""
+    """Returns what the judge says of a function. Each finding must show itself again, alone."""
     result = judge_of(answer, **options).run(iter(tried))
     for finding in result.findings.values():
         if finding.name != "not-deterministic":
@@ -33,7 +33,7 @@ def names_of(result):
 
 
 def break_rules(*rules):
-    """A parser that breaks rules of its house."""
+    """Returns a parser that breaks rules of its house."""
     own = house.house_of(rules)
     return lambda chunks, _: definition.lines_of(b"".join(chunks), own)
 

@@ -304,8 +304,8 @@ def test_the_sum_lists_classes_and_counts_streams():
 
 
 def format_findings(kind, **fields):
-    """What a format makes of two rules, with texts that it has to escape: one is known, of the
-    other a kind is new."""
+    """Returns what a format makes of two rules, with texts that it has to escape: one is known, of
+    the other a kind is new."""
     lines = ["print 0061", "(protocol: this is no event line: '<&#\">')"]
     difference, case = Difference([b"a#"], ["unhook"], lines), Case("x # y", [b"ab"])
     found = {name: Finding(name, difference, case, name == "colon/leaked")

@@ -14,7 +14,7 @@ from tests.support import wait_until, write_program
 
 
 def make_toy_words(fault=None, chunks=True, once=False):
-    """The arguments for the toy parser: those of the judge, and its command."""
+    """Returns the arguments for the toy parser: those of the judge, and its command."""
     framed = ["--chunks"] * chunks
     command = [sys.executable, TOY, *framed, *["--once"] * once, *[fault] * bool(fault)]
     return [*framed, *command]
@@ -30,7 +30,7 @@ def judge_toy(judge):
 
 
 def find_processes(word):
-    """The processes that have a word among their arguments, without tools/judge."""
+    """Finds the processes that have a word among their arguments, without tools/judge."""
     _, shown = run("ps", "-ww", "-eo", "args")
     return [line for line in shown.splitlines() if line.endswith(word)
             and "tools/judge " not in line]

@@ -37,7 +37,7 @@ class Page:
             elif not line.startswith("    "):
                 self.prose.append((number, line))
 
-    def headings(self):
+    def list_headings(self):
         for _, line in self.prose:
             if line.startswith("#"):
                 title = re.sub(r"[^\w\- ]", "", line.lstrip("# ").lower())
@@ -108,10 +108,10 @@ class Repository:
         pattern = re.compile(rf"(?:.*/)?{named}(?:\.\w+)?(?:/.*)?")
         return any(pattern.fullmatch(str(path)) for path in self.paths)
 
-    def git(self, *words):
+    def run_git(self, *words):
         return subprocess.run(["git", *words], cwd=self.top, capture_output=True, text=True)
 
     def find_in_history(self, commit):
         """Whether HEAD stands on a commit. In a shallow clone nothing can be looked up."""
-        return (self.git("merge-base", "--is-ancestor", commit, "HEAD").returncode == 0
-                or self.git("rev-parse", "--is-shallow-repository").stdout == "true\n")
+        return (self.run_git("merge-base", "--is-ancestor", commit, "HEAD").returncode == 0
+                or self.run_git("rev-parse", "--is-shallow-repository").stdout == "true\n")

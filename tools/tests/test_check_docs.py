@@ -141,7 +141,7 @@ def test_commands_that_lack_something_are_missing(needs, crates, lacking, monkey
     (0, "false\n", True), (1, "false\n", False), (1, "true\n", True)])
 def test_a_commit_is_looked_up_unless_the_clone_is_shallow(status, output, wanted):
     repository = Repository(Path.cwd())
-    repository.git = lambda *_: SimpleNamespace(returncode=status, stdout=output)
+    repository.run_git = lambda *_: SimpleNamespace(returncode=status, stdout=output)
     assert repository.is_in_history("abc1234") == wanted
 
 

@@ -69,7 +69,7 @@ class Judgement:
         """Returns the findings that aren't known."""
         return [finding for finding in self.findings.values() if finding.is_new]
 
-    def status(self):
+    def find_status(self):
         """Returns 1 if something is new or no stream was judged, 3 if streams are left, else 0."""
         is_bad = self.find_new() or self.unexplained_count or not self.streams
         return 1 if is_bad else 3 if self.ended_early else 0

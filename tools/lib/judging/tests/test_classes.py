@@ -53,7 +53,7 @@ def test_a_breach_of_a_house_rule_has_its_rule(breach, rules):
     result = judge_function(break_rules(breach))
     assert names_of(result) == set(rules.split())
     assert len(result.findings) == len(rules.split()), "a rule has one class"
-    assert (result.unexplained_count, result.status()) == (0, 1)
+    assert (result.unexplained_count, result.find_status()) == (0, 1)
 
 
 # for streams in a row, what is replaced in the lines, and the streams that each class counts
@@ -249,7 +249,7 @@ def test_a_hang_that_was_only_slow_is_none():
     answers = iter([["print 0061"], [candidate.HANG]])
     result = judge_of(lambda chunks, _: next(answers, ["execute 0e"])).run(
         iter([cases.Case("", [b"\x0e"])] * 9))
-    assert (result.streams, result.different, result.status()) == (9, 0, 0)
+    assert (result.streams, result.different, result.find_status()) == (9, 0, 0)
 
 
 def test_what_is_left_out_is_no_difference():
@@ -267,7 +267,7 @@ def test_what_is_left_out_is_no_difference():
     ("delete", 0), ("delete/missing", 0), ("delete/extra", 1), ("del", 1), ("", 1)])
 def test_what_is_known_is_no_failure(known, status):
     result = judge_function(break_rules("delete=drop"), [cases.Case("", [b"\x7f"])], known=[known])
-    assert result.status() == status
+    assert result.find_status() == status
 
 
 @pytest.mark.parametrize("one, other, kind", [

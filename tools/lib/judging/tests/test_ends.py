@@ -65,9 +65,9 @@ class SlowSide(Side):
 
     def answer_all(self, streams):
         self.asked.append(len(streams))
-        return [self.slow_answer(chunks) for chunks in streams]
+        return [self.answer_slowly(chunks) for chunks in streams]
 
-    def slow_answer(self, chunks):
+    def answer_slowly(self, chunks):
         wanted = self.seconds * len(b"".join(chunks))
         self.now += min(wanted, self.timeout)
         if self.deadline is not None and self.now >= self.deadline:
@@ -83,7 +83,7 @@ def test_long_batches_are_followed_by_smaller_ones(monkeypatch, seconds, sizes, 
     side = SlowSide(monkeypatch, answer_rightly, seconds, deadline)
     result = judge_of(side).run([cases.Case("", [b"a"])] * (sum(sizes) + left))
     assert side.asked == [1, *sizes, *[1] * bool(left)]
-    assert (result.streams, result.status()) == (sum(sizes), 3 if left else 0)
+    assert (result.streams, result.find_status()) == (sum(sizes), 3 if left else 0)
     assert bool(result.ended_early) == bool(left)
 
 

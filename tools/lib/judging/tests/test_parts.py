@@ -81,7 +81,7 @@ def test_headings_of_rules_are_there():
     links = [it.page for it in [*RULES.values(), *ALONE.values(), CUT]]
     links += [it["page"] for it in FILES[1]["rules"].values()]
     for page, _, heading in (link.partition("#") for link in links):
-        assert heading in Page(TOOLS.parent / page).headings(), heading
+        assert heading in Page(TOOLS.parent / page).list_headings(), heading
 
 
 @pytest.mark.parametrize("chunks, differs, smallest", [
@@ -288,7 +288,7 @@ def make_result(is_new=True, **fields):
     (1, Judgement(9, 1)), (1, make_result(False, different=4)), (1, Judgement(ended_early="x")),
     (3, make_result(False, ended_early="x")), (1, make_result(ended_early="x"))])
 def test_what_a_run_found_decides_its_status(status, judgement):
-    assert judgement.status() == status
+    assert judgement.find_status() == status
 
 
 def test_the_sum_lists_classes_and_counts_streams():

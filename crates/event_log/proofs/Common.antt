@@ -27,8 +27,8 @@ pub use Rattle.vte_core.specs.declared.parser.Parser.{Parser}
 pub use Rattle.event_log.specs.Lines.{blank, line_feed}
 unfoldable pub use Rattle.event_log.specs.Lines.{flag_field, hex_byte, hex_character, hex_digit, hex_field, hex_length, line_of, pieces_fields, sequence_fields, six_hex_digits}
 unfoldable pub use Rattle.event_log.specs.Plain.{plain_text_of}
-pub use Rattle.event_log.specs.private.Progress.{AddsUpTo, HasKept, HasReadSome, HasWritten}
+pub use Rattle.event_log.specs.private.Progress.{AddsUpTo, HasKept, HasReadStream, HasWritten}
 pub use Rattle.event_log.specs.private.Line.{BeginsLine, EndsLine, ExtendsLine}
-pub use Rattle.event_log.specs.HeldText.{capacity, empty_text, has_room_after, held_text_in, held_with_event, HeldText, is_to_be_written}
+pub use Rattle.event_log.specs.HeldText.{capacity, empty_text, has_room_after, held_text_of, held_with_event, HeldText, is_to_be_written}
 unfoldable pub use Rattle.event_log.specs.HeldText.{held_with_text}
 pub use Rattle.event_log.specs.declared.lines.Lines.{Lines}

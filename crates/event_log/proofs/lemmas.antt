@@ -1,4 +1,4 @@
--- From the parts of lines (`Fields`) to what is held (`Records`), which is never too long (`Lengths`), and written
+-- From the parts of lines (`Fields`) to what is held (`HeldTexts`), which is never too long (`Lengths`), and written
 -- (`Progress`).
 pub mod Fields
 pub mod Lengths

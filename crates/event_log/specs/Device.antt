@@ -15,5 +15,5 @@ abbrev pub device_failed : {D : Type 0} → Device D → Bool
 device_failed device = is_some device.error
 
 -- What is known of the bytes inside, as long as the device hasn't failed.
-abbrev pub known_unless : Bool → Option (List ℕ) → Option (List ℕ)
-known_unless failed known = if failed then None else known
+abbrev pub known_if_working : Bool → Option (List ℕ) → Option (List ℕ)
+known_if_working failed known = if failed then None else known

@@ -33,5 +33,5 @@ abbrev pub is_to_be_written : HeldText → Bool
 is_to_be_written held = nat_lt (capacity / 2) (length held.bytes)
 
 -- What a `Lines` holds.
-abbrev pub held_text_in : Lines → HeldText
-held_text_in lines = record { bytes = lines.bytes.items; lost = lines.lost }
+abbrev pub held_text_of : Lines → HeldText
+held_text_of lines = record { bytes = lines.bytes.items; lost = lines.lost }

@@ -32,7 +32,7 @@ pub record WritesPrefix (output_of : List ℕ → List ℕ) (input held : List �
   pub stream : List ℕ
   pub rest : List ℕ
   pub parts : input ≡ stream ++ rest
-  pub left : IfSome remaining (λ bytes. bytes ≡ rest)
+  pub rest_is : IfSome remaining (λ bytes. bytes ≡ rest)
   pub written : contents ≡ Some (held ++ output_of stream)
   pub cause : (failed ≡ true) ⊎ (max_reads ≤ length stream)
 

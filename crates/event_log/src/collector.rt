@@ -1,7 +1,7 @@
 //! Performers that collect text until it is written.
 ghost use Rattle.std.specs.Prelude.{length, List, ℕ, [], ◌<◌, ◌≡◌};
 ghost use Rattle.vte_core.specs.Event.{Event};
-ghost use Rattle.event_log.specs.private.Progress.{AddsUpTo, HasKept, HasReadSome};
+ghost use Rattle.event_log.specs.private.Progress.{AddsUpTo, HasKept, HasReadStream};
 ghost use Rattle.event_log.specs.HeldText.{empty_text, HeldText};
 
 use vte_core::Parser;
@@ -10,7 +10,7 @@ use vte_core::Parser;
 pub(crate) type RunParser = Parser<1024>;
 
 /// Collects a text for each event.
-// proof: the text of an event, and the record that it holds, define its meaning.
+// proof: the text of an event, and what it holds, define its meaning.
 pub(crate) trait Collector {
     ghost text_of: { Event → List ℕ };
 
@@ -19,15 +19,15 @@ pub(crate) trait Collector {
     /// Parses bytes and collects their text until it is time to write it. Nothing is lost. Returns
     /// the unread bytes.
     fn collect<'a>(&mut self, parser: &mut RunParser, bytes: &'a [u8]) -> &'a [u8]
-        requires parsed { HasReadSome parser.old }
+        requires parsed { HasReadStream parser.old }
         requires holds_nothing { held_text_of self.old ≡ empty_text }
-        ensures progress { 0 < length bytes.now → length result.now < length bytes.now }
-        ensures collects { (whole : List ℕ → List ℕ)
-            → AddsUpTo text_of whole [] parser.old bytes.now →
-            HasKept text_of whole (held_text_of self.new) parser.new result.now };
+        ensures reads_some { 0 < length bytes.now → length result.now < length bytes.now }
+        ensures collects { (total_text : List ℕ → List ℕ)
+            → AddsUpTo text_of total_text [] parser.old bytes.now →
+            HasKept text_of total_text (held_text_of self.new) parser.new result.now };
 
     /// Returns the collected text.
-    fn texts(&self) -> &[u8]
+    fn collected_text(&self) -> &[u8]
         ensures { result.now ≡ (held_text_of self.now).bytes };
 
     /// Clears the text, and forgets that any was lost.

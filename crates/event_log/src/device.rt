@@ -1,7 +1,7 @@
 //! Readers and writers.
 ghost use Rattle.std.specs.Prelude.{Bool, false, IfOk, is_err, is_some, IsTrue, length, List, OnErr, OnOk, Option, take, ℕ, ◌<◌, ◌≡◌, ◌≤◌};
 ghost use Rattle.std.specs.Io.KnownBytes.{Appends, Consumes, IsAtEnd, Keeps};
-ghost use Rattle.event_log.specs.Device.{device_failed, device_inner, KeepsWhereKnown, known_unless};
+ghost use Rattle.event_log.specs.Device.{device_failed, device_inner, KeepsWhereKnown, known_if_working};
 
 use std::io::{self, Read, Write};
 
@@ -22,7 +22,7 @@ pub trait Source {
     /// Fails if the source has failed. Then no byte is consumed.
     fn read(&mut self, buffer: &mut [u8]) -> Result<usize, ()>
         ensures fails { is_err result ≡ has_failed self.new }
-        ensures stays { IsTrue (has_failed self.old) → IsTrue (has_failed self.new) }
+        ensures stays_failed { IsTrue (has_failed self.old) → IsTrue (has_failed self.new) }
         ensures bound { IfOk result (λ count. count ≤ length buffer.new) }
         ensures moves { IfOk result (λ count.
             Consumes (remaining self.old) (remaining self.new) (take count buffer.new)) }
@@ -48,7 +48,7 @@ pub trait Sink {
     /// Fails if the sink has failed. Some of the bytes may have been written.
     fn write_all(&mut self, bytes: &[u8]) -> Result<(), ()>
         ensures fails { is_err result ≡ has_failed self.new }
-        ensures stays { IsTrue (has_failed self.old) → IsTrue (has_failed self.new) }
+        ensures stays_failed { IsTrue (has_failed self.old) → IsTrue (has_failed self.new) }
         ensures appends { OnOk result (Appends (contents self.old) (contents self.new) bytes.now) };
 
     /// Passes on everything it has taken.
@@ -58,7 +58,7 @@ pub trait Sink {
     /// Fails if the sink has failed.
     fn flush(&mut self) -> Result<(), ()>
         ensures fails { is_err result ≡ has_failed self.new }
-        ensures stays { IsTrue (has_failed self.old) → IsTrue (has_failed self.new) }
+        ensures stays_failed { IsTrue (has_failed self.old) → IsTrue (has_failed self.new) }
         ensures keeps { OnOk result (Keeps (contents self.old) (contents self.new)) }
         ensures adds_none { OnErr result (KeepsWhereKnown (contents self.old)
             (contents self.new)) };
@@ -92,7 +92,8 @@ impl<D> Device<D> {
 }
 
 impl<D: Read> Source for Device<D> {
-    ghost remaining = { λ device. known_unless (device_failed device) (D.remaining device.inner) };
+    ghost remaining = { λ device.
+        known_if_working (device_failed device) (D.remaining device.inner) };
 
     ghost has_failed = { λ device. device_failed device };
 
@@ -111,7 +112,8 @@ impl<D: Read> Source for Device<D> {
 }
 
 impl<D: Write> Sink for Device<D> {
-    ghost contents = { λ device. known_unless (device_failed device) (D.contents device.inner) };
+    ghost contents = { λ device.
+        known_if_working (device_failed device) (D.contents device.inner) };
 
     ghost has_failed = { λ device. device_failed device };
 

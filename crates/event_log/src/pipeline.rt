@@ -3,7 +3,7 @@ ghost use Rattle.std.specs.Prelude.{Err, false, IfOk, is_err, length, List, OnOk
 ghost use Rattle.std.specs.Io.KnownBytes.{Appends};
 ghost use Rattle.std.specs.List.{flat_map};
 ghost use Rattle.vte_core.specs.Stream.{default_limit, events};
-ghost use Rattle.event_log.specs.private.Progress.{HasReadSome, HasWritten};
+ghost use Rattle.event_log.specs.private.Progress.{HasReadStream, HasWritten};
 ghost use Rattle.event_log.specs.HeldText.{empty_text};
 ghost use Rattle.event_log.specs.Run.{LogsExactly, StripsExactly, WritesExactly};
 
@@ -89,14 +89,14 @@ fn write_chunk<C: Collector, W: Sink>(
     writer: &mut W,
     chunk: &[u8],
 ) -> Result<(), ()>
-    requires parsed { HasReadSome parser.old }
+    requires parsed { HasReadStream parser.old }
     requires holds_nothing { C.held_text_of collector.old ≡ empty_text }
-    ensures reads { OnOk result (HasReadSome parser.new) }
+    ensures reads { OnOk result (HasReadStream parser.new) }
     ensures empties { OnOk result (C.held_text_of collector.new ≡ empty_text) }
-    ensures writes { (whole : List ℕ → List ℕ)
-        → HasWritten C.text_of whole (W.contents writer.old) parser.old [] →
+    ensures writes { (total_text : List ℕ → List ℕ)
+        → HasWritten C.text_of total_text (W.contents writer.old) parser.old [] →
         OnOk result
-        (HasWritten C.text_of (λ more. whole (chunk.now ++ more))
+        (HasWritten C.text_of (λ more. total_text (chunk.now ++ more))
         (W.contents writer.new) parser.new []) }
     ensures fails { is_err result ≡ true → W.has_failed writer.new ≡ true }
 {
@@ -114,16 +114,16 @@ fn write_some<'a, C: Collector, W: Sink>(
     writer: &mut W,
     bytes: &'a [u8],
 ) -> Result<&'a [u8], ()>
-    requires parsed { HasReadSome parser.old }
+    requires parsed { HasReadStream parser.old }
     requires holds_nothing { C.held_text_of collector.old ≡ empty_text }
-    ensures progress { IfOk result (λ unread. 0 < length bytes.now
+    ensures reads_some { IfOk result (λ unread. 0 < length bytes.now
         → length unread.now < length bytes.now) }
-    ensures reads { OnOk result (HasReadSome parser.new) }
+    ensures reads { OnOk result (HasReadStream parser.new) }
     ensures empties { OnOk result (C.held_text_of collector.new ≡ empty_text) }
-    ensures writes { (whole : List ℕ → List ℕ)
-        → HasWritten C.text_of whole (W.contents writer.old) parser.old bytes.now →
+    ensures writes { (total_text : List ℕ → List ℕ)
+        → HasWritten C.text_of total_text (W.contents writer.old) parser.old bytes.now →
         IfOk result
-        (λ unread. HasWritten C.text_of whole (W.contents writer.new) parser.new unread.now) }
+        (λ unread. HasWritten C.text_of total_text (W.contents writer.new) parser.new unread.now) }
     ensures fails { is_err result ≡ true → W.has_failed writer.new ≡ true }
 {
     let unread = collector.collect(parser, bytes);
@@ -138,7 +138,7 @@ fn write_out<C: Collector, W: Sink>(collector: &mut C, writer: &mut W) -> Result
         (C.held_text_of collector.old).bytes) }
     ensures fails { is_err result ≡ W.has_failed writer.new }
 {
-    writer.write_all(collector.texts())?;
+    writer.write_all(collector.collected_text())?;
     collector.clear();
     Ok(())
 }

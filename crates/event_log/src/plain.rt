@@ -1,7 +1,7 @@
 //! The performer that keeps only text.
 ghost use Rattle.std.specs.Prelude.{true, ◌≡◌};
 ghost use Rattle.event_log.specs.Plain.{plain_text_of};
-ghost use Rattle.event_log.specs.HeldText.{empty_text, held_text_in, held_with_event, HeldText, is_to_be_written};
+ghost use Rattle.event_log.specs.HeldText.{empty_text, held_text_of, held_with_event, HeldText, is_to_be_written};
 
 use crate::collector::{Collector, RunParser};
 use crate::lines::Lines;
@@ -25,7 +25,7 @@ pub struct Plain {
 impl Model for Plain {
     ghost Value = { HeldText };
 
-    ghost view = { λ plain. held_text_in plain.texts };
+    ghost view = { λ plain. held_text_of plain.texts };
 }
 
 impl Plain {
@@ -161,7 +161,7 @@ impl Collector for Plain {
         unread
     }
 
-    fn texts(&self) -> &[u8] {
+    fn collected_text(&self) -> &[u8] {
         self.bytes()
     }
 

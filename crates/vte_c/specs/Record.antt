@@ -122,26 +122,27 @@ second_kept (a ∷ b ∷ more) = b
 second_kept _ = 0
 
 abbrev pub with_intermediates : VteEvent → List ℕ → VteEvent
-with_intermediates vte_event intermediates = record vte_event {
+with_intermediates vte_record intermediates = record vte_record {
   intermediate_count = kept_count intermediates;
   first_intermediate = first_kept intermediates;
   second_intermediate = second_kept intermediates;
 }
 
 abbrev pub with_flag : VteEvent → Bool → VteEvent
-with_flag vte_event flag = record vte_event { flag = flag_byte flag }
+with_flag vte_record flag = record vte_record { flag = flag_byte flag }
 
 -- The second bit of a command's flag says that it lost data bytes.
 abbrev pub with_loss : VteEvent → VteEvent
-with_loss vte_event = record vte_event { flag = vte_event.flag % 2 + 2 }
+with_loss vte_record = record vte_record { flag = vte_record.flag % 2 + 2 }
 
 -- A record without that bit, of which no clause speaks.
 unfoldable pub without_loss : VteEvent → VteEvent
-without_loss vte_event =
-    if vte_event.kind == osc_kind then record vte_event { flag = vte_event.flag % 2 } else vte_event
+without_loss vte_record =
+    if vte_record.kind == osc_kind
+    then record vte_record { flag = vte_record.flag % 2 } else vte_record
 
 abbrev pub with_count : VteEvent → ℕ → VteEvent
-with_count vte_event count = record vte_event { count = count_byte count }
+with_count vte_record count = record vte_record { count = count_byte count }
 
 abbrev pub sequence_record : ℕ → List (List ℕ) → List ℕ → Bool → ℕ → VteEvent
 sequence_record kind groups intermediates ignore final =
@@ -241,40 +242,40 @@ pieces_in (suc n) (a ∷ b ∷ c ∷ d ∷ area) =
 pieces_in _ _ = []
 
 abbrev pub intermediates_in : VteEvent → List ℕ
-intermediates_in vte_event =
-    take vte_event.intermediate_count
-    (vte_event.first_intermediate ∷ vte_event.second_intermediate ∷ [])
+intermediates_in vte_record =
+    take vte_record.intermediate_count
+    (vte_record.first_intermediate ∷ vte_record.second_intermediate ∷ [])
 
 -- The event that a record represents, with its data in the area, if it is no run.
 unfoldable pub event_in : List ℕ → VteEvent → Event
-event_in area vte_event =
-    let later = drop vte_event.start area in
-    let groups = groups_in vte_event.count later in
-    if vte_event.kind == execute_kind then Execute vte_event.code
-    else if vte_event.kind == hook_kind
-    then Hook groups (intermediates_in vte_event) (vte_event.flag == 1) vte_event.code
-    else if vte_event.kind == unhook_kind then Unhook
-    else if vte_event.kind == osc_kind
-    then OscDispatch (pieces_in vte_event.count later) (vte_event.flag % 2 == 1)
-    else if vte_event.kind == csi_kind
-    then CsiDispatch groups (intermediates_in vte_event) (vte_event.flag == 1) vte_event.code
-    else EscDispatch (intermediates_in vte_event) (vte_event.flag == 1) vte_event.code
+event_in area vte_record =
+    let later = drop vte_record.start area in
+    let groups = groups_in vte_record.count later in
+    if vte_record.kind == execute_kind then Execute vte_record.code
+    else if vte_record.kind == hook_kind
+    then Hook groups (intermediates_in vte_record) (vte_record.flag == 1) vte_record.code
+    else if vte_record.kind == unhook_kind then Unhook
+    else if vte_record.kind == osc_kind
+    then OscDispatch (pieces_in vte_record.count later) (vte_record.flag % 2 == 1)
+    else if vte_record.kind == csi_kind
+    then CsiDispatch groups (intermediates_in vte_record) (vte_record.flag == 1) vte_record.code
+    else EscDispatch (intermediates_in vte_record) (vte_record.flag == 1) vte_record.code
 
 -- The bytes of a run that a record represents: in the area if it has the flag, in the input
 -- otherwise.
 abbrev pub run_in : List ℕ → List ℕ → VteEvent → List ℕ
-run_in input area vte_event =
-    take vte_event.code (drop vte_event.start (if vte_event.flag == 1 then area else input))
+run_in input area vte_record =
+    take vte_record.code (drop vte_record.start (if vte_record.flag == 1 then area else input))
 
 -- The events that a record represents.
 unfoldable pub events_of : List ℕ → List ℕ → VteEvent → List Event
-events_of input area vte_event =
-    if vte_event.kind == text_kind then events_of_run TextRun (run_in input area vte_event)
-    else if vte_event.kind == data_kind then events_of_run DataRun (run_in input area vte_event)
-    else event_in area vte_event ∷ []
+events_of input area vte_record =
+    if vte_record.kind == text_kind then events_of_run TextRun (run_in input area vte_record)
+    else if vte_record.kind == data_kind then events_of_run DataRun (run_in input area vte_record)
+    else event_in area vte_record ∷ []
 
 abbrev pub kinds_of : List VteEvent → List ℕ
-kinds_of records = map (λ vte_event. vte_event.kind) records
+kinds_of records = map (λ vte_record. vte_record.kind) records
 
 -- The events of the first `count` records.
 abbrev pub events_in : ℕ → List VteEvent → List ℕ → List ℕ → List Event

@@ -19,7 +19,7 @@ pub record HasGiven {A : Type 0} (report_of : List Event → List A) (parser : S
     (stream unread : List ℕ) : Type 0 where
   pub already_read : List ℕ
   pub reads : HasReadSaved parser already_read
-  pub goes_on : (more : List ℕ) →
+  pub total_is : (more : List ℕ) →
       given ++ report_of (added default_limit already_read (unread ++ more))
       ≡ report_of (events default_limit (stream ++ more))
 
@@ -37,30 +37,32 @@ abbrev pub no_room : ℕ
 no_room = 2 ^ 64 - 1
 
 -- How many bytes a call with this result has read.
-abbrev pub read_count : ℕ → ℕ
-read_count result = if result == no_room then 0 else result
+abbrev pub bytes_read : ℕ → ℕ
+bytes_read result = if result == no_room then 0 else result
 
 -- Events of a kind stop a call if they are reported and among the stops.
 abbrev pub is_stop : ℕ → ℕ → ℕ → Bool
-is_stop kinds stops kind = contains_kind kinds kind && contains_kind stops kind
+is_stop kinds stop_kinds kind = contains_kind kinds kind && contains_kind stop_kinds kind
 
 -- No event has a kind that stops.
 abbrev pub NoEventStops : (ℕ → Bool) → List Event → Type 0
-NoEventStops stops [] = ⊤
-NoEventStops stops (event ∷ events) = (stops (event_kind event) ≡ false) × NoEventStops stops events
+NoEventStops does_stop [] = ⊤
+NoEventStops does_stop (event ∷ events) =
+    (does_stop (event_kind event) ≡ false) × NoEventStops does_stop events
 
 -- None of these is among the stops.
 abbrev pub NoKindStops : ℕ → List ℕ → Type 0
-NoKindStops stops [] = ⊤
-NoKindStops stops (kind ∷ kinds) = (contains_kind stops kind ≡ false) × NoKindStops stops kinds
+NoKindStops stop_kinds [] = ⊤
+NoKindStops stop_kinds (kind ∷ record_kinds) =
+    (contains_kind stop_kinds kind ≡ false) × NoKindStops stop_kinds record_kinds
 
 -- A call stops after the first record that is among the stops: at most one follows it.
-pub record AtMostOneFollowsStop (stops : ℕ) (kinds : List ℕ) : Type 0 where
+pub record AtMostOneFollowsStop (stop_kinds : ℕ) (record_kinds : List ℕ) : Type 0 where
   pub before : List ℕ
   pub last : List ℕ
-  pub parts : kinds ≡ before ++ last
-  pub others : NoKindStops stops before
-  pub at_most : length last ≤ 2
+  pub parts : record_kinds ≡ before ++ last
+  pub no_stop_before : NoKindStops stop_kinds before
+  pub at_most_two : length last ≤ 2
 
 -- A text is well-formed characters, none of them a control. Data may be any bytes: its events are
 -- these.
@@ -71,7 +73,7 @@ IsRunOfKind DataRun bytes = ⊤
 -- A part of the input that is a run, of one byte or more.
 pub record IsRunAt (input : List ℕ) (run : InputRunKind) (start size : ℕ) : Type 0 where
   pub within : start + size ≤ length input
-  pub some : 0 < size
+  pub not_empty : 0 < size
   pub is_of_kind : IsRunOfKind run (take size (drop start input))
 
 -- The entries can be read: an event is within the limits, and what is in the input is a run.
@@ -82,15 +84,16 @@ AreReadable input (Single event ∷ entries) = IsBounded default_limit event
 AreReadable input (InInput run start size ∷ entries) =
     IsRunAt input run start size × AreReadable input entries
 
--- These events are encoded, and nothing else: by `count` records, one for each entry, and `used`
--- bytes of data, which begin in the area where the record says. A run in the input has no data.
+-- These events are encoded, and nothing else: by `record_count` records, one for each entry, and
+-- `data_used` bytes of data, which begin in the area where the record says. A run in the input has
+-- no data.
 -- That the record of a command says whether data were lost is only tested.
-pub record AreEncoded (events : List Event) (count used : ℕ) (records : List VteEvent)
+pub record AreEncoded (events : List Event) (record_count data_used : ℕ) (records : List VteEvent)
     (input area : List ℕ) : Type 0 where
   pub entries : List Entry
-  pub given : flat_map (entry_events input) entries ≡ events
+  pub events_are : flat_map (entry_events input) entries ≡ events
   pub readable : AreReadable input entries
-  pub number : count ≡ length entries
-  pub recorded : map without_loss (take count records) ≡ records_from 0 entries
-  pub size : used ≡ length (flat_map entry_data entries)
-  pub held : take used area ≡ flat_map entry_data entries
+  pub count_is : record_count ≡ length entries
+  pub records_are : map without_loss (take record_count records) ≡ records_from 0 entries
+  pub used_is : data_used ≡ length (flat_map entry_data entries)
+  pub data_is : take data_used area ≡ flat_map entry_data entries

@@ -41,7 +41,7 @@ pub struct VteEvent {
 }
 
 impl VteEvent {
-    /// Creates an event with a kind and a character or byte.
+    /// Creates a record of a kind, with a code.
     #[inline(always)]
     pub(crate) fn new(kind: u8, code: u32) -> Self
         ensures { result ≡ blank_record kind code }
@@ -60,7 +60,7 @@ impl VteEvent {
     }
 
     /// Creates the record of a text or data in the input.
-    pub(crate) fn run(kind: u8, start: u32, size: u32) -> Self
+    pub(crate) fn new_run(kind: u8, start: u32, size: u32) -> Self
         ensures { result ≡ run_record kind start size }
     {
         VteEvent {
@@ -69,7 +69,7 @@ impl VteEvent {
         }
     }
 
-    /// Returns the event with the first two of these intermediates.
+    /// Returns the record with the first two of these intermediates.
     pub(crate) fn with_intermediates(self, intermediates: &[u8]) -> Self
         ensures { result ≡ with_intermediates self intermediates.now }
     {
@@ -86,7 +86,7 @@ impl VteEvent {
         }
     }
 
-    /// Returns the event with a flag.
+    /// Returns the record with a flag.
     pub(crate) fn with_flag(self, flag: bool) -> Self
         ensures { result ≡ with_flag self flag }
     {
@@ -106,7 +106,7 @@ impl VteEvent {
         }
     }
 
-    /// Returns the event with a count of groups or pieces.
+    /// Returns the record with a count of groups or pieces.
     pub(crate) fn with_count(self, count: usize) -> Self
         ensures { result ≡ with_count self count }
     {

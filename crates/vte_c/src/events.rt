@@ -32,7 +32,7 @@ fn is_at_limit(pieces: usize, size: usize) -> bool
 }
 
 /// Returns the bytes of a group with one number.
-fn bytes_of_one(number: u16) -> [u8; 3]
+fn encode_single_number(number: u16) -> [u8; 3]
     ensures { result ≡ group_bytes (number ∷ []) }
 {
     [1, (number % 256) as u8, (number / 256) as u8]
@@ -45,64 +45,64 @@ fn bytes_of_one(number: u16) -> [u8; 3]
 /// command that may have lost data, so that the parser can be asked whether it has.
 #[derive(Drop)]
 pub(crate) struct EventWriter<'a> {
-    events: &'a mut [VteEvent],
+    records: &'a mut [VteEvent],
     area: &'a mut [u8],
     // how many data bytes there is room for, at offsets of 32 bits
-    size: usize,
-    // how many events were written
-    count: usize,
+    data_capacity: usize,
+    // how many records were written
+    record_count: usize,
     // how many data bytes were written
-    used: usize,
+    data_used: usize,
     // the kinds of events to write
     kinds: u32,
     // the kinds of events after which to stop
-    stops: u32,
-    // whether an event after which to stop was written
+    stop_kinds: u32,
+    // whether a record of these kinds was written
     has_stopped: bool,
     // whether a command came about which the parser wasn't asked yet
-    paused: bool,
+    is_paused: bool,
     // the index of that command's record
     command_index: usize,
-    // the number of events at which the buffers are full: 0 once an event that stops was written,
+    // the number of records at which the buffers are full: 0 once a record that stops was written,
     // in a pause, and if the area has little room left
     full_at: usize,
-    ghost size_limit: { size ≡ min (length area.now) (2 ^ 32 - 1) },
-    ghost used_limit: { used ≤ size },
-    ghost count_limit: { full_at
-        ≡ (if has_stopped || paused || nat_lt
-        (size - used) max_data_per_byte then 0 else length events.now - 1) },
+    ghost data_capacity_is: { data_capacity ≡ min (length area.now) (2 ^ 32 - 1) },
+    ghost data_fits: { data_used ≤ data_capacity },
+    ghost full_at_is: { full_at
+        ≡ (if has_stopped || is_paused || nat_lt
+        (data_capacity - data_used) max_data_per_byte then 0 else length records.now - 1) },
 }
 
 impl<'a> EventWriter<'a> {
-    ghost use Rattle.vte_c.specs.private.Buffers.{AreCharacters, AreaHolds, Buffers, AreEmptyBuffers, must_return, buffers_of, buffers_with_event, with_record_alone, with_record, with_reported, with_run};
+    ghost use Rattle.vte_c.specs.private.Buffers.{AreCharacters, AreaHolds, Buffers, AreEmptyBuffers, must_return, buffers_of, buffers_with_event, with_record_alone, with_record, with_wanted_record, with_run};
 
     /// Creates a performer that has written nothing, and writes into these buffers.
     pub(crate) fn new(
-        events: &'a mut [VteEvent],
+        records: &'a mut [VteEvent],
         area: &'a mut [u8],
         kinds: u32,
-        stops: u32,
+        stop_kinds: u32,
     ) -> Self
-        requires enough_events { min_events ≤ length events.old }
+        requires enough_records { min_events ≤ length records.old }
         requires enough_data { min_data ≤ length area.old }
         ensures are_empty { AreEmptyBuffers (buffers_of result) }
         ensures kinds { (buffers_of result).kinds ≡ kinds }
-        ensures stops { (buffers_of result).stops ≡ stops }
-        ensures same_events { result.events.ghost_name ≡ events.entry.ghost_name }
-        ensures same_area { result.area.ghost_name ≡ area.entry.ghost_name }
+        ensures stop_kinds { (buffers_of result).stop_kinds ≡ stop_kinds }
+        ensures same_records_name { result.records.ghost_name ≡ records.entry.ghost_name }
+        ensures same_area_name { result.area.ghost_name ≡ area.entry.ghost_name }
     {
-        let full_at = events.len() - 1;
-        let size = area.len().min(u32::MAX as usize);
+        let full_at = records.len() - 1;
+        let data_capacity = area.len().min(u32::MAX as usize);
         EventWriter {
-            events,
+            records,
             area,
-            size,
-            count: 0,
-            used: 0,
+            data_capacity,
+            record_count: 0,
+            data_used: 0,
             kinds,
-            stops,
+            stop_kinds,
             has_stopped: false,
-            paused: false,
+            is_paused: false,
             command_index: 0,
             full_at,
         }
@@ -120,61 +120,61 @@ impl<'a> EventWriter<'a> {
     pub(crate) fn must_return(&self) -> bool
         ensures { result ≡ must_return (buffers_of self.now) }
     {
-        self.count >= self.full_at
+        self.record_count >= self.full_at
     }
 
-    /// Returns how many events were written.
-    pub(crate) fn count(&self) -> usize
-        ensures { result ≡ self.now.count }
+    /// Returns how many records were written.
+    pub(crate) fn record_count(&self) -> usize
+        ensures { result ≡ self.now.record_count }
     {
-        self.count
+        self.record_count
     }
 
     /// Returns how many data bytes were written.
-    pub(crate) fn used(&self) -> usize
-        ensures { result ≡ self.now.used }
+    pub(crate) fn data_used(&self) -> usize
+        ensures { result ≡ self.now.data_used }
     {
-        self.used
+        self.data_used
     }
 
     /// Writes a record, if there is room for it.
     #[inline(always)]
     #[tactic(auto, unfolding(crate::specs::private::Buffers::with_record_alone))]
-    fn write_record(&mut self, event: VteEvent)
-        ensures { buffers_of self.new ≡ with_record_alone (buffers_of self.old) event }
+    fn write_record(&mut self, record: VteEvent)
+        ensures { buffers_of self.new ≡ with_record_alone (buffers_of self.old) «record» }
     {
-        let count = self.count;
-        if count < self.events.len() {
-            self.events[count] = event;
-            self.count = count + 1;
-            if contains_kind(self.stops, event.kind) {
+        let count = self.record_count;
+        if count < self.records.len() {
+            self.records[count] = record;
+            self.record_count = count + 1;
+            if contains_kind(self.stop_kinds, record.kind) {
                 self.has_stopped = true;
                 self.full_at = 0;
             }
         }
     }
 
-    /// Writes an event without data.
+    /// Writes the record of an event without data.
     #[inline(always)]
     #[tactic(auto, unfolding(crate::specs::private::Buffers::with_record_alone, crate::specs::private::Buffers::with_record))]
-    fn write_without_data(&mut self, event: VteEvent)
-        ensures { buffers_of self.new ≡ with_reported (buffers_of self.old) event [] }
+    fn write_without_data(&mut self, record: VteEvent)
+        ensures { buffers_of self.new ≡ with_wanted_record (buffers_of self.old) «record» [] }
     {
-        if self.is_wanted(event.kind) {
+        if self.is_wanted(record.kind) {
             self.write_record(VteEvent {
-                start: self.used as u32,
-                ..event
+                start: self.data_used as u32,
+                ..record
             });
         }
     }
 
-    /// Writes an event and its data, if there is room for both.
+    /// Writes the record and the data of an event, if there is room for both.
     #[inline(always)]
-    fn add(&mut self, event: VteEvent, bytes: &[u8])
-        ensures { buffers_of self.new ≡ with_record (buffers_of self.old) event bytes.now }
+    fn add(&mut self, record: VteEvent, bytes: &[u8])
+        ensures { buffers_of self.new ≡ with_record (buffers_of self.old) «record» bytes.now }
     {
-        let end = self.write(self.used, bytes);
-        self.finish_event(event, end);
+        let end = self.write(self.data_used, bytes);
+        self.finish_event(record, end);
     }
 
     /// Writes a run that is in the input. The parser returned it for the bytes from an offset on.
@@ -189,12 +189,12 @@ impl<'a> EventWriter<'a> {
         match run.taken {
             Taken::Text(text) => {
                 if self.is_wanted(event::TEXT) {
-                    self.write_record(VteEvent::run(event::TEXT, start, text.len() as u32));
+                    self.write_record(VteEvent::new_run(event::TEXT, start, text.len() as u32));
                 }
             }
             Taken::Data(data) => {
                 if self.is_wanted(event::DATA) {
-                    self.write_record(VteEvent::run(event::DATA, start, data.len() as u32));
+                    self.write_record(VteEvent::new_run(event::DATA, start, data.len() as u32));
                 }
             }
             Taken::Nothing => self.resume(lost_data),
@@ -205,13 +205,13 @@ impl<'a> EventWriter<'a> {
     #[inline(always)]
     fn write_character(&mut self, c: char)
         ensures { buffers_of self.new
-            ≡ with_reported (buffers_of self.old) (record_of (Print c)) (data_of (Print c)) }
+            ≡ with_wanted_record (buffers_of self.old) (record_of (Print c)) (data_of (Print c)) }
     {
         if self.is_wanted(event::TEXT) {
             let mut bytes = [0; 4];
             let text = c.encode_utf8(&mut bytes).as_bytes();
-            let event = VteEvent::new(event::TEXT, text.len() as u32).with_flag(true);
-            self.add(event, text);
+            let record = VteEvent::new(event::TEXT, text.len() as u32).with_flag(true);
+            self.add(record, text);
         }
     }
 
@@ -225,14 +225,14 @@ impl<'a> EventWriter<'a> {
         ignore: bool,
         action: char,
     )
-        ensures { buffers_of self.new ≡ with_reported (buffers_of self.old)
+        ensures { buffers_of self.new ≡ with_wanted_record (buffers_of self.old)
             (sequence_record kind params.now intermediates.now ignore action)
             (flat_map group_bytes params.now) }
     {
         let mut groups = params.iter();
         match (groups.next(), groups.next(), intermediates) {
             (Some([number]), None, []) => {
-                self.write_sequence_with_one(kind, *number, ignore, action);
+                self.write_single_number_sequence(kind, *number, ignore, action);
             }
             _ => self.write_any_sequence(kind, params, intermediates, ignore, action),
         }
@@ -240,16 +240,16 @@ impl<'a> EventWriter<'a> {
 
     /// Writes a sequence with one number.
     #[inline(always)]
-    fn write_sequence_with_one(&mut self, kind: u8, number: u16, ignore: bool, action: char)
-        ensures { buffers_of self.new ≡ with_reported (buffers_of self.old)
+    fn write_single_number_sequence(&mut self, kind: u8, number: u16, ignore: bool, action: char)
+        ensures { buffers_of self.new ≡ with_wanted_record (buffers_of self.old)
             (sequence_record kind ((number ∷ []) ∷ []) [] ignore action)
             (group_bytes (number ∷ [])) }
     {
         if self.is_wanted(kind) {
-            let event = VteEvent::new(kind, action as u32)
+            let record = VteEvent::new(kind, action as u32)
                 .with_flag(ignore)
                 .with_count(1);
-            self.add(event, &bytes_of_one(number));
+            self.add(record, &encode_single_number(number));
         }
     }
 
@@ -263,17 +263,17 @@ impl<'a> EventWriter<'a> {
         ignore: bool,
         action: char,
     )
-        ensures { buffers_of self.new ≡ with_reported (buffers_of self.old)
+        ensures { buffers_of self.new ≡ with_wanted_record (buffers_of self.old)
             (sequence_record kind params.now intermediates.now ignore action)
             (flat_map group_bytes params.now) }
     {
         if self.is_wanted(kind) {
             let end = self.write_groups(params);
-            let event = VteEvent::new(kind, action as u32)
+            let record = VteEvent::new(kind, action as u32)
                 .with_intermediates(intermediates)
                 .with_flag(ignore)
                 .with_count(params.iter().size_hint().0);
-            self.finish_event(event, end);
+            self.finish_event(record, end);
         }
     }
 
@@ -284,12 +284,12 @@ impl<'a> EventWriter<'a> {
             (λ piece. piece.now) pieces.now) bell_terminated) }
     {
         if self.is_wanted(event::OSC) {
-            let (command_index, start) = (self.count, self.used);
+            let (command_index, start) = (self.record_count, self.data_used);
             let end = self.write_pieces(pieces);
-            let event = VteEvent::new(event::OSC, 0)
+            let record = VteEvent::new(event::OSC, 0)
                 .with_flag(bell_terminated)
                 .with_count(pieces.len());
-            self.finish_event(event, end);
+            self.finish_event(record, end);
             self.pause_if(is_at_limit(pieces.len(), end - start), command_index);
         }
     }
@@ -297,18 +297,18 @@ impl<'a> EventWriter<'a> {
     /// Writes the record of an event whose data was written up to `end`, if that is in the area.
     #[inline(always)]
     #[tactic(auto, unfolding(crate::specs::private::Buffers::with_record))]
-    fn finish_event(&mut self, event: VteEvent, end: usize)
-        requires { self.old.used ≤ end }
+    fn finish_event(&mut self, record: VteEvent, end: usize)
+        requires { self.old.data_used ≤ end }
         ensures { (buffers : Buffers) (text : List ℕ) → AreaHolds buffers self.old end text →
-            buffers_of self.new ≡ with_record buffers event text }
+            buffers_of self.new ≡ with_record buffers «record» text }
     {
-        if end <= self.size && self.count < self.events.len() {
-            let start = self.used as u32;
-            self.used = end;
-            if self.size - self.used < MAX_DATA_PER_BYTE {
+        if end <= self.data_capacity && self.record_count < self.records.len() {
+            let start = self.data_used as u32;
+            self.data_used = end;
+            if self.data_capacity - self.data_used < MAX_DATA_PER_BYTE {
                 self.full_at = 0;
             }
-            self.write_record(VteEvent { start, ..event });
+            self.write_record(VteEvent { start, ..record });
         }
     }
 }
@@ -365,10 +365,10 @@ impl Perform for EventWriter<'_> {
     }
 
     fn esc_dispatch(&mut self, intermediates: &[u8], ignore: bool, byte: u8) {
-        let event = VteEvent::new(event::ESC, u32::from(byte))
+        let record = VteEvent::new(event::ESC, u32::from(byte))
             .with_intermediates(intermediates)
             .with_flag(ignore);
-        self.write_without_data(event);
+        self.write_without_data(record);
     }
 
     fn terminated(&self) -> bool {

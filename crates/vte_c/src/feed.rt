@@ -38,30 +38,30 @@ pub(crate) fn feed(
     parser: &mut Saved,
     bytes: &[u8],
     kinds: u32,
-    stops: u32,
-    events: &mut [VteEvent],
+    stop_kinds: u32,
+    records: &mut [VteEvent],
     area: &mut [u8],
     counts: &mut VteCounts,
 ) -> usize
-    ensures { Feeds kinds stops parser.old parser.new bytes.now events.old events.new
+    ensures { Feeds kinds stop_kinds parser.old parser.new bytes.now records.old records.new
         area.old area.new counts.new result }
 {
     *counts = VteCounts {
         events: 0,
         bytes: 0,
     };
-    if events.len() < MIN_EVENTS || area.len() < MIN_DATA {
+    if records.len() < MIN_EVENTS || area.len() < MIN_DATA {
         return NO_ROOM;
     }
-    let (capacity, size) = (events.len(), area.len());
+    let (record_capacity, data_capacity) = (records.len(), area.len());
     // Records have 32 bits for positions in the input.
     let end = bytes.len().min(u32::MAX as usize);
     let bytes = &bytes[..end];
-    let mut writer = EventWriter::new(events, area, kinds, stops);
+    let mut writer = EventWriter::new(records, area, kinds, stop_kinds);
     let read = read_into(parser, bytes, &mut writer);
     *counts = VteCounts {
-        events: writer.count().min(capacity),
-        bytes: writer.used().min(size),
+        events: writer.record_count().min(record_capacity),
+        bytes: writer.data_used().min(data_capacity),
     };
     read
 }
@@ -71,7 +71,7 @@ fn read_into(saved: &mut Saved, bytes: &[u8], writer: &mut EventWriter<'_>) -> u
     requires are_empty { AreEmptyBuffers (buffers_of writer.old) }
     requires fits_32_bits { length bytes.now < 2 ^ 32 }
     ensures within { result ≤ length bytes.now }
-    ensures stops { (stream : List ℕ) → HasReadSaved saved.old stream →
+    ensures stops_at_once { (stream : List ℕ) → HasReadSaved saved.old stream →
         NoRunStops (buffers_of writer.old) → (i : ℕ) → i < result →
         NoEventStopsIn (buffers_of writer.old) (added default_limit stream (take i bytes.now)) }
     ensures feeds { (given : List Event) (stream rest : List ℕ) →
@@ -95,7 +95,7 @@ fn read_until_full(parser: &mut Parser<1024>, bytes: &[u8], writer: &mut EventWr
         (buffers_of writer.new) parser.new already_read bytes.now 0
         result }
     ensures reads_some { (already_read : List ℕ) → HasRead parser.old already_read →
-        NoRecordStops (buffers_of writer.old).stops (buffers_of writer.new).events →
+        NoRecordStops (buffers_of writer.old).stop_kinds (buffers_of writer.new).records →
         0 < length bytes.now → 0 < result }
 {
     let mut position = 0;
@@ -126,7 +126,8 @@ fn read_more(
         result }
     ensures reads_some { (already_read : List ℕ) → HasRead parser.old already_read →
         AreEmptyBuffers (buffers_of writer.old) →
-        NoRecordStops (buffers_of writer.old).stops (buffers_of writer.new).events → 0 < result }
+        NoRecordStops (buffers_of writer.old).stop_kinds (buffers_of writer.new).records →
+        0 < result }
 {
     laws::early_stops();
     laws::opens_silently();

@@ -24,8 +24,8 @@ struct TextWriter<'a> {
 
 impl TextWriter<'_> {
     /// Returns the number of bytes for which there is still room.
-    fn left(&self) -> usize
-        ensures { result ≡ (written_text_of self.now).size - (written_text_of self.now).used }
+    fn remaining_room(&self) -> usize
+        ensures { result ≡ (written_text_of self.now).capacity - (written_text_of self.now).used }
     {
         self.bytes.len().saturating_sub(self.used)
     }
@@ -152,7 +152,7 @@ fn read_into(saved: &mut Saved, bytes: &[u8], writer: &mut TextWriter<'_>) -> us
     ensures within { result ≤ length bytes.now }
     ensures reads_some { 0 < length bytes.now → 0 < result }
     ensures fills { result < length bytes.now
-        → (written_text_of writer.new).size < (written_text_of writer.new).used + 8 }
+        → (written_text_of writer.new).capacity < (written_text_of writer.new).used + 8 }
     ensures strips { (text stream rest : List ℕ) →
         HasStripped saved.old text stream (bytes.now ++ rest) →
         StripsMore writer.old writer.new saved.new text stream bytes.now rest result }
@@ -162,9 +162,11 @@ fn read_into(saved: &mut Saved, bytes: &[u8], writer: &mut TextWriter<'_>) -> us
     parser.restore(saved);
     let mut count = 0;
     // The text of a chunk fits whatever its bytes are, so no character needs a stop.
-    while count < bytes.len() && writer.left() >= MAX_TEXT_PER_BYTE {
+    while count < bytes.len() && writer.remaining_room() >= MAX_TEXT_PER_BYTE {
         let unread = &bytes[count..];
-        let size = unread.len().min(writer.left() / MAX_TEXT_PER_BYTE);
+        let size = unread
+            .len()
+            .min(writer.remaining_room() / MAX_TEXT_PER_BYTE);
         let chunk = &unread[..size];
         parser.advance_text(writer, chunk);
         count += chunk.len();

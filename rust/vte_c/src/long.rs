@@ -145,10 +145,10 @@ pub unsafe extern "C" fn vte_long_feed(
     let mut writer = EventWriter::new(events, area, kinds, stops);
     let (read, is_refused) = read_until_full(parser, bytes, kinds, &mut writer);
     *counts = VteCounts {
-        events: writer.count(),
-        bytes: writer.used(),
+        events: writer.record_count(),
+        bytes: writer.data_used(),
     };
-    match (read, writer.count(), is_refused) {
+    match (read, writer.record_count(), is_refused) {
         (0, 0, true) => REFUSED,
         _ => read,
     }

@@ -1,29 +1,29 @@
--- What a record holds after texts, and a collector from call to call. A record holds the texts of all events if there
--- is room at each start: from one start to the next (`passed-at`).
-use Rattle.event_log.proofs.Common.{added, AddsUpTo, after, ap, append-nil, append_assoc, AreBrief, arith, BeginsLine, Bool, capacity, cases_Bool, default_limit, EndsLine, Event, ExtendsLine, false, flat_map, flat_map-append, has_room_after, HasKept, HasRead, HasReadSome, held_text_in, held_with_event, held_with_text, HeldText, inl, inr, is_to_be_written, IsStart, le-leb, length, length-append, Lines, List, nat_tests, Parser, refl, reported_before, ReportsUnits, sym, take-append_seam, ℕ, [], ◌++◌, ◌+◌, ◌-◌, ◌<◌, ◌∙◌, ◌∷◌, ◌≡◌, ◌≤◌}
+-- What a collector holds after texts, and from call to call. It holds the texts of all events if there is room at each
+-- start: from one start to the next (`passed-at`).
+use Rattle.event_log.proofs.Common.{added, AddsUpTo, after, ap, append-nil, append_assoc, AreBrief, arith, BeginsLine, Bool, capacity, cases_Bool, default_limit, EndsLine, Event, ExtendsLine, false, flat_map, flat_map-append, has_room_after, HasKept, HasRead, HasReadStream, held_text_of, held_with_event, held_with_text, HeldText, inl, inr, is_to_be_written, IsStart, le-leb, length, length-append, Lines, List, nat_tests, Parser, refl, reported_before, ReportsUnits, sym, take-append_seam, ℕ, [], ◌++◌, ◌+◌, ◌-◌, ◌<◌, ◌∙◌, ◌∷◌, ◌≡◌, ◌≤◌}
 use Rattle.vte_core.proofs.lemmas.EarlyStops.{passed-at}
 use Rattle.vte_core.proofs.lemmas.streams.After.{after_events-append}
 
 -- ---- one text
 
--- A record has bytes, and a flag that says whether a text was lost.
-abbrev pub held_text_of : List ℕ → Bool → HeldText
-held_text_of bytes lost = record { bytes = bytes; lost = lost }
+-- What is held has bytes, and a flag that says whether a text was lost.
+abbrev pub held_bytes : List ℕ → Bool → HeldText
+held_bytes bytes lost = record { bytes = bytes; lost = lost }
 
-held_text_of-same : {bytes next_bytes : List ℕ} {lost next_lost : Bool} → bytes ≡ next_bytes → lost ≡ next_lost
-    → held_text_of bytes lost ≡ held_text_of next_bytes next_lost
-held_text_of-same same_bytes same_lost = cc
+held_bytes-same : {bytes next_bytes : List ℕ} {lost next_lost : Bool} → bytes ≡ next_bytes → lost ≡ next_lost
+    → held_bytes bytes lost ≡ held_bytes next_bytes next_lost
+held_bytes-same same_bytes same_lost = cc
 
 -- A text is taken if there is room for it.
 text-taken : (held : HeldText) (text : List ℕ) → length held.bytes + length text ≤ capacity
-    → held_with_text held text ≡ held_text_of (held.bytes ++ text) held.lost
+    → held_with_text held text ≡ held_bytes (held.bytes ++ text) held.lost
 unfolding held_with_text
 text-taken held text fits = rw (le-leb _ _ fits) refl
 
 -- A line that begins, is written and ends is taken if there is room for it.
 pub line-taken : {old begun written ended : Lines} {line : List ℕ} → BeginsLine old begun
     → ExtendsLine begun line written → EndsLine written ended
-    → held_text_in ended ≡ held_with_text (held_text_in old) line
+    → held_text_of ended ≡ held_with_text (held_text_of old) line
 unfolding held_with_text
 line-taken {old} {begun} {written} {ended} {line} begins extends ends =
     let fitting : written.fits ≡ has_room_after old.bytes.items line =
@@ -37,7 +37,7 @@ line-taken {old} {begun} {written} {ended} {line} begins extends ends =
       | inr too_long ↦
           let bytes =
           rw (too_long, extends.start, begins.start, extends.kept.1, begins.bytes, take-append_seam) at ends.bytes in
-          rw (sym fitting ∙ too_long) (held_text_of-same bytes (rw too_long at ends.lost))
+          rw (sym fitting ∙ too_long) (held_bytes-same bytes (rw too_long at ends.lost))
     ]
 
 -- ---- the texts of events
@@ -45,16 +45,16 @@ line-taken {old} {begun} {written} {ended} {line} begins extends ends =
 -- If all texts have room, they are all taken.
 pub texts-taken : (text_of : Event → List ℕ) (bytes : List ℕ) (lost : Bool) (events : List Event)
     → length bytes + length (flat_map text_of events) ≤ capacity
-    → after (held_with_event text_of) (held_text_of bytes lost) events
-    ≡ held_text_of (bytes ++ flat_map text_of events) lost
-texts-taken text_of bytes lost [] fits = held_text_of-same (sym (append-nil bytes)) refl
+    → after (held_with_event text_of) (held_bytes bytes lost) events
+    ≡ held_bytes (bytes ++ flat_map text_of events) lost
+texts-taken text_of bytes lost [] fits = held_bytes-same (sym (append-nil bytes)) refl
 texts-taken text_of bytes lost (event ∷ later) fits =
     let text = text_of event in
     let sizes = length-append text (flat_map text_of later) in
     ap (λ (held : HeldText). after (held_with_event text_of) held later)
-    (text-taken (held_text_of bytes lost) text (omega (arith, sizes)))
+    (text-taken (held_bytes bytes lost) text (omega (arith, sizes)))
     ∙ texts-taken text_of (bytes ++ text) lost later (omega (arith, sizes, length-append bytes text))
-    ∙ held_text_of-same (append_assoc bytes text (flat_map text_of later)) refl
+    ∙ held_bytes-same (append_assoc bytes text (flat_map text_of later)) refl
 
 -- A text is taken as the texts of events are, one after another, if there is room for it.
 pub text-taken_as_events : (text_of : Event → List ℕ) (held : HeldText) (text : List ℕ) (events : List Event)
@@ -63,7 +63,7 @@ pub text-taken_as_events : (text_of : Event → List ℕ) (held : HeldText) (tex
     → held_with_text held text ≡ after (held_with_event text_of) held events
 text-taken_as_events text_of held text events spelt fits =
     text-taken held text (omega arith)
-    ∙ held_text_of-same (ap (λ (text : List ℕ). held.bytes ++ text) spelt) refl
+    ∙ held_bytes-same (ap (λ (text : List ℕ). held.bytes ++ text) spelt) refl
     ∙ sym (texts-taken text_of held.bytes held.lost events (rw (← spelt) fits))
 
 -- ---- a collector that has room at each start
@@ -94,10 +94,11 @@ room-for_unit held not_to_be_written = grind (arith, nat_tests)
 
 module _ (text_of : Event → List ℕ) (small : IsSmall text_of) (units : ReportsUnits default_limit)
     (stream bytes : List ℕ)
-    (old : HeldText) (kept : old.lost ≡ false)
+    (old : HeldText) (nothing_lost : old.lost ≡ false)
     (room : HasRoomForUnit old) where
   abbrev Takes : List Event → Type 0
-  Takes events = after (held_with_event text_of) old events ≡ held_text_of (old.bytes ++ flat_map text_of events) false
+  Takes events =
+      after (held_with_event text_of) old events ≡ held_bytes (old.bytes ++ flat_map text_of events) false
 
   unit-taken : (events unit : List Event) → Takes events → HasRoomForUnit (after (held_with_event text_of) old events)
       → AreBrief default_limit unit
@@ -107,54 +108,54 @@ module _ (text_of : Event → List ℕ) (small : IsSmall text_of) (units : Repor
       ∙ ap (λ (held : HeldText). after (held_with_event text_of) held unit) taken
       ∙ texts-taken text_of (old.bytes ++ flat_map text_of events) false unit
       (omega (arith, small unit brief, ap (λ (held : HeldText). length held.bytes) taken))
-      ∙ held_text_of-same (simp (append_assoc, flat_map-append)) refl
+      ∙ held_bytes-same (simp (append_assoc, flat_map-append)) refl
 
   -- If there was room at each start before a position, all texts were taken.
   pub reported-taken : (i : ℕ) → i ≤ length bytes
       → ((j : ℕ) → j < i → IsStart stream bytes j
       → HasRoomForUnit (after (held_with_event text_of) old (reported_before default_limit stream bytes j)))
       → after (held_with_event text_of) old (reported_before default_limit stream bytes i)
-      ≡ held_text_of (old.bytes ++ flat_map text_of (reported_before default_limit stream bytes i)) false
+      ≡ held_bytes (old.bytes ++ flat_map text_of (reported_before default_limit stream bytes i)) false
   reported-taken =
       passed-at Takes (λ events. HasRoomForUnit (after (held_with_event text_of) old events)) stream bytes units
-      (held_text_of-same (sym (append-nil old.bytes)) kept) room unit-taken
+      (held_bytes-same (sym (append-nil old.bytes)) nothing_lost) room unit-taken
 
 -- ---- what a collector holds
 
--- From call to call, what is held and the text of what is unread add up to the whole text: the events that a call
+-- From call to call, what is held and the text of what is unread add up to the total text: the events that a call
 -- reported are taken, and the parser goes on from another stream.
 
--- Before a call nothing is held, and the whole is the text of what the unread bytes and more add.
-pub adds_up-at_first : {text_of : Event → List ℕ} {parser : Parser 1024} (has_read : HasReadSome parser)
+-- Before a call nothing is held, and the total is the text of what the unread bytes and more add.
+pub adds_up-at_first : {text_of : Event → List ℕ} {parser : Parser 1024} (has_read : HasReadStream parser)
     (unread : List ℕ)
     → AddsUpTo text_of (λ more. flat_map text_of (added default_limit has_read.already_read
     (unread ++ more))) [] parser unread
 adds_up-at_first has_read unread = record {
   already_read = has_read.already_read;
   parsed = has_read.parsed;
-  goes_on = λ more. refl;
+  total_is = λ more. refl;
 }
 
 -- A call reported events, whose texts were all taken, and the parser goes on from another stream.
-pub kept-by_call : {text_of : Event → List ℕ} {whole_text : List ℕ → List ℕ} {unread next_unread : List ℕ}
+pub kept-by_call : {text_of : Event → List ℕ} {total_text : List ℕ → List ℕ} {unread next_unread : List ℕ}
     {parser next_parser : Parser 1024} {held next_held : HeldText}
-    (events : List Event) (already_read : List ℕ) → (has_kept : HasKept text_of whole_text held parser unread)
+    (events : List Event) (already_read : List ℕ) → (has_kept : HasKept text_of total_text held parser unread)
     → ((more : List ℕ)
     → added default_limit has_kept.adds_up.already_read (unread ++ more)
     ≡ events ++ added default_limit already_read (next_unread ++ more))
-    → HasRead next_parser already_read → next_held ≡ held_text_of (held.bytes ++ flat_map text_of events) false
-    → HasKept text_of whole_text next_held next_parser next_unread
-kept-by_call {text_of} {next_unread} {held} events already_read has_kept goes_on parsed holds = record {
+    → HasRead next_parser already_read → next_held ≡ held_bytes (held.bytes ++ flat_map text_of events) false
+    → HasKept text_of total_text next_held next_parser next_unread
+kept-by_call {text_of} {next_unread} {held} events already_read has_kept added_parts parsed holds = record {
   adds_up = record {
     already_read = already_read;
     parsed = parsed;
-    goes_on = λ more.
+    total_is = λ more.
         let later = flat_map text_of (added default_limit already_read (next_unread ++ more)) in
         ap (λ (held : HeldText). held.bytes ++ later) holds
         ∙ append_assoc held.bytes (flat_map text_of events) later
         ∙ ap (λ (text : List ℕ). held.bytes ++ text)
-        (sym (flat_map-append text_of events _) ∙ ap (flat_map text_of) (sym (goes_on more)))
-        ∙ has_kept.adds_up.goes_on more;
+        (sym (flat_map-append text_of events _) ∙ ap (flat_map text_of) (sym (added_parts more)))
+        ∙ has_kept.adds_up.total_is more;
   };
-  kept = ap (λ (held : HeldText). held.lost) holds;
+  nothing_lost = ap (λ (held : HeldText). held.lost) holds;
 }

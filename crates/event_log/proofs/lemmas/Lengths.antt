@@ -5,7 +5,7 @@ use Rattle.std.proofs.Common.{length-drop}
 use Rattle.std.proofs.lemmas.List.Sums.{sum_by-cons}
 use Rattle.vte_core.proofs.lemmas.EarlyStops.{added-append}
 use Rattle.vte_core.proofs.lemmas.streams.After.{added-nothing}
-use Rattle.event_log.proofs.lemmas.HeldTexts.{held_text_of, IsSmall, kept-by_call, max_of_character_line, max_of_line, reported-taken, room-for_unit, text-taken_as_events, texts-taken}
+use Rattle.event_log.proofs.lemmas.HeldTexts.{held_bytes, IsSmall, kept-by_call, max_of_character_line, max_of_line, reported-taken, room-for_unit, text-taken_as_events, texts-taken}
 use Rattle.std.proofs.Math.Utf8.{encodes}
 use Rattle.std.specs.Char.{encode_utf8}
 use Rattle.vte_core.proofs.lemmas.bytes.Runs.{layout-is_ascii}
@@ -186,29 +186,29 @@ call-reads_some {stream} {bytes} {n = zero} empty stops_exactly not_empty =
 call-reads_some {n = suc n} empty stops_exactly not_empty = omega arith
 
 -- At a start where the recorder isn't terminated, at most half of the capacity is in use.
-pub lines-kept : {whole_text : List ℕ → List ℕ} {n : ℕ} {parser next_parser : Parser 1024} {old new : HeldText}
+pub lines-kept : {total_text : List ℕ → List ℕ} {n : ℕ} {parser next_parser : Parser 1024} {old new : HeldText}
     (unread : List ℕ)
     → GoesOnFromPositions default_limit → ReportsUnits default_limit → old ≡ empty_text
-    → (before : AddsUpTo line_of whole_text [] parser unread)
+    → (before : AddsUpTo line_of total_text [] parser unread)
     → StopsExactly (held_with_event line_of) is_to_be_written old default_limit before.already_read unread new n
     → HasRead next_parser (resumed_stream before.already_read unread n)
-    → HasKept line_of whole_text new next_parser (drop n unread)
-lines-kept {whole_text} {n} {parser} {old} unread goes_on units empty before stops_exactly parsed =
+    → HasKept line_of total_text new next_parser (drop n unread)
+lines-kept {total_text} {n} {parser} {old} unread goes_on units empty before stops_exactly parsed =
     let already_read = before.already_read in
-    let has_kept : HasKept line_of whole_text old parser unread = record {
+    let has_kept : HasKept line_of total_text old parser unread = record {
       adds_up = record {
         already_read = already_read;
         parsed = before.parsed;
-        goes_on =
-            λ more. rw empty (before.goes_on more);
+        total_is =
+            λ more. rw empty (before.total_is more);
       };
-      kept = ap (λ (held : HeldText). held.lost) empty;
+      nothing_lost = ap (λ (held : HeldText). held.lost) empty;
     } in
     kept-by_call (reported_before default_limit already_read unread n) (resumed_stream already_read unread n) has_kept
     (λ more. goes_on already_read unread more n)
     parsed
     (stops_exactly.comes.performed
-    ∙ reported-taken line_of lines_are_small units already_read unread old has_kept.kept
+    ∙ reported-taken line_of lines_are_small units already_read unread old has_kept.nothing_lost
     (room-for_unit old (ap is_to_be_written empty)) n stops_exactly.comes.within
     (λ j earlier start.
     room-for_unit (after (held_with_event line_of) old (reported_before default_limit already_read unread j))
@@ -248,13 +248,13 @@ run-taken held text utf8 fits =
     (sym (text_of-run (chars text) ∙ encodes-chars text utf8)) fits
 
 -- If all bytes of a chunk were read, its text is taken.
-pub text-kept : {whole_text : List ℕ → List ℕ} {unread : List ℕ} {parser next_parser : Parser 1024}
+pub text-kept : {total_text : List ℕ → List ℕ} {unread : List ℕ} {parser next_parser : Parser 1024}
     {held next_held : HeldText} (chunk rest : List ℕ)
-    → BytesAreBrief → (has_kept : HasKept plain_text_of whole_text held parser unread) → chunk ++ rest ≡ unread
+    → BytesAreBrief → (has_kept : HasKept plain_text_of total_text held parser unread) → chunk ++ rest ≡ unread
     → length held.bytes + 8 * length chunk ≤ capacity
     → next_held ≡ after (held_with_event plain_text_of) held (added default_limit has_kept.adds_up.already_read chunk)
     → HasRead next_parser (has_kept.adds_up.already_read ++ chunk)
-    → HasKept plain_text_of whole_text next_held next_parser rest
+    → HasKept plain_text_of total_text next_held next_parser rest
 text-kept {held} chunk rest brief has_kept parts fits performed parsed =
     let already_read = has_kept.adds_up.already_read in
     let reported = added default_limit already_read chunk in
@@ -264,4 +264,4 @@ text-kept {held} chunk rest brief has_kept parts fits performed parsed =
     kept-by_call reported (already_read ++ chunk) has_kept
     (λ more. rw (← parts, append_assoc chunk rest more) (added-append default_limit already_read chunk (rest ++ more)))
     parsed
-    (performed ∙ taken ∙ ap (held_text_of (held.bytes ++ flat_map plain_text_of reported)) has_kept.kept)
+    (performed ∙ taken ∙ ap (held_bytes (held.bytes ++ flat_map plain_text_of reported)) has_kept.nothing_lost)

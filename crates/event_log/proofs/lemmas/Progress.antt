@@ -37,12 +37,12 @@ known-kept_where_known (Some bytes_after) known keeps = keeps
 -- ---- a chunk
 
 -- What was collected is written, and the run goes on with the unread bytes.
-pub written-more : {text_of : Event → List ℕ} {whole_text : List ℕ → List ℕ} {unread next_unread collected : List ℕ}
+pub written-more : {text_of : Event → List ℕ} {total_text : List ℕ → List ℕ} {unread next_unread collected : List ℕ}
     {parser next_parser : Parser 1024}
-    {contents next_contents : Option (List ℕ)} → HasWritten text_of whole_text contents parser unread
+    {contents next_contents : Option (List ℕ)} → HasWritten text_of total_text contents parser unread
     → ((part : List ℕ → List ℕ) → AddsUpTo text_of part [] parser unread
     → AddsUpTo text_of part collected next_parser next_unread)
-    → Appends contents next_contents collected → HasWritten text_of whole_text next_contents next_parser next_unread
+    → Appends contents next_contents collected → HasWritten text_of total_text next_contents next_parser next_unread
 written-more {unread} {collected} {next_contents} has_written collects appends =
     let before = has_written.adds_up in
     let now = collects _ (adds_up-at_first (record {
@@ -57,32 +57,32 @@ written-more {unread} {collected} {next_contents} has_written collects appends =
       adds_up = record {
         already_read = now.already_read;
         parsed = now.parsed;
-        goes_on = λ more.
+        total_is = λ more.
             append_assoc has_written.written collected _
-            ∙ ap (λ (text : List ℕ). has_written.written ++ text) (now.goes_on more)
-            ∙ before.goes_on more;
+            ∙ ap (λ (text : List ℕ). has_written.written ++ text) (now.total_is more)
+            ∙ before.total_is more;
       };
     }
 
 -- A chunk is still to be given to the parser.
-pub written-before_chunk : {text_of : Event → List ℕ} {whole_text : List ℕ → List ℕ} {parser : Parser 1024}
+pub written-before_chunk : {text_of : Event → List ℕ} {total_text : List ℕ → List ℕ} {parser : Parser 1024}
     {contents : Option (List ℕ)}
-    (chunk : List ℕ) → HasWritten text_of whole_text contents parser []
-    → HasWritten text_of (λ more. whole_text (chunk ++ more)) contents parser chunk
+    (chunk : List ℕ) → HasWritten text_of total_text contents parser []
+    → HasWritten text_of (λ more. total_text (chunk ++ more)) contents parser chunk
 written-before_chunk chunk has_written = record {
   written = has_written.written;
   contents_are = has_written.contents_are;
   adds_up = record {
     already_read = has_written.adds_up.already_read;
     parsed = has_written.adds_up.parsed;
-    goes_on = λ more. has_written.adds_up.goes_on (chunk ++ more);
+    total_is = λ more. has_written.adds_up.total_is (chunk ++ more);
   };
 }
 
-pub written-kept : {text_of : Event → List ℕ} {whole_text : List ℕ → List ℕ} {parser : Parser 1024}
+pub written-kept : {text_of : Event → List ℕ} {total_text : List ℕ → List ℕ} {parser : Parser 1024}
     {contents next_contents : Option (List ℕ)} {unread : List ℕ}
-    → HasWritten text_of whole_text contents parser unread → Keeps contents next_contents
-    → HasWritten text_of whole_text next_contents parser unread
+    → HasWritten text_of total_text contents parser unread → Keeps contents next_contents
+    → HasWritten text_of total_text next_contents parser unread
 written-kept {next_contents} has_written keeps =
     record {
       written = has_written.written;
@@ -92,8 +92,8 @@ written-kept {next_contents} has_written keeps =
 
 -- ---- a run
 
-abbrev means : (Event → List ℕ) → List ℕ → List ℕ
-means text_of stream = flat_map text_of (events default_limit stream)
+abbrev output_of : (Event → List ℕ) → List ℕ → List ℕ
+output_of text_of stream = flat_map text_of (events default_limit stream)
 
 -- A run has made this many reads, and each gave something.
 pub record HasReadPart (text_of : Event → List ℕ) (input held : List ℕ) (reads : ℕ) (parser : Parser 1024)
@@ -101,10 +101,10 @@ pub record HasReadPart (text_of : Event → List ℕ) (input held : List ℕ) (r
   pub stream : List ℕ
   pub rest : List ℕ
   pub parts : input ≡ stream ++ rest
-  pub left : remaining ≡ Some rest
-  pub whole_text : List ℕ → List ℕ
-  pub meaning : (more : List ℕ) → whole_text more ≡ held ++ means text_of (stream ++ more)
-  pub written : HasWritten text_of whole_text contents parser []
+  pub rest_is : remaining ≡ Some rest
+  pub total_text : List ℕ → List ℕ
+  pub total_text_is : (more : List ℕ) → total_text more ≡ held ++ output_of text_of (stream ++ more)
+  pub written : HasWritten text_of total_text contents parser []
   pub each_gave : reads ≤ length stream
 
 module _ {text_of : Event
@@ -115,13 +115,13 @@ module _ {text_of : Event
     stream = [];
     rest = input;
     parts = refl;
-    left = input_known;
-    whole_text = λ more. held ++ means text_of more;
-    meaning = λ more. refl;
+    rest_is = input_known;
+    total_text = λ more. held ++ output_of text_of more;
+    total_text_is = λ more. refl;
     written = record {
       written = held;
       contents_are = held_known;
-      adds_up = record { already_read = []; parsed = parsed; goes_on = λ more. rw no_events refl };
+      adds_up = record { already_read = []; parsed = parsed; total_is = λ more. rw no_events refl };
     };
     each_gave = omega arith;
   }
@@ -130,43 +130,43 @@ module _ {text_of : Event
       (chunk : List ℕ)
       → HasReadPart text_of input held reads parser remaining contents → Consumes remaining next_remaining chunk
       → 0 < length chunk
-      → ((whole_text : List ℕ → List ℕ) → HasWritten text_of whole_text contents parser []
-      → HasWritten text_of (λ more. whole_text (chunk ++ more)) next_contents next_parser [])
+      → ((total_text : List ℕ → List ℕ) → HasWritten text_of total_text contents parser []
+      → HasWritten text_of (λ more. total_text (chunk ++ more)) next_contents next_parser [])
       → HasReadPart text_of input held (reads + 1) next_parser next_remaining next_contents
   run-reads_more {next_remaining} chunk has_read consumes not_empty writes =
-      let has_rest = known-consumed next_remaining has_read.rest chunk (rw has_read.left at consumes) in
+      let has_rest = known-consumed next_remaining has_read.rest chunk (rw has_read.rest_is at consumes) in
       record {
         stream = has_read.stream ++ chunk;
         rest = has_rest.rest;
         parts = rw (append_assoc, ← has_rest.parts) has_read.parts;
-        left = has_rest.rest_is;
-        whole_text = λ more. has_read.whole_text (chunk ++ more);
-        meaning = λ more. rw append_assoc (has_read.meaning (chunk ++ more));
-        written = writes has_read.whole_text has_read.written;
+        rest_is = has_rest.rest_is;
+        total_text = λ more. has_read.total_text (chunk ++ more);
+        total_text_is = λ more. rw append_assoc (has_read.total_text_is (chunk ++ more));
+        written = writes has_read.total_text has_read.written;
         each_gave = omega (arith, has_read.each_gave, length-append has_read.stream chunk);
       }
 
   -- All that was read is written.
   run-has_written : {reads : ℕ} → (has_read : HasReadPart text_of input held reads parser remaining contents)
-      → contents ≡ Some (held ++ means text_of has_read.stream)
+      → contents ≡ Some (held ++ output_of text_of has_read.stream)
   run-has_written has_read =
       let has_written = has_read.written in
       has_written.contents_are
       ∙ ap Some
       (sym (rw (added-nothing default_limit has_written.adds_up.already_read) (append-nil has_written.written))
-      ∙ has_written.adds_up.goes_on [] ∙ has_read.meaning []
+      ∙ has_written.adds_up.total_is [] ∙ has_read.total_text_is []
       ∙ rw append-nil refl)
 
   -- A read that fails ends a run, and so do as many reads as there may be.
   pub run_ends-at_prefix : {reads : ℕ} {next_remaining : Option (List ℕ)} {failed : Bool}
       → HasReadPart text_of input held reads parser remaining contents
       → KeepsWhereKnown remaining next_remaining → (failed ≡ true) ⊎ (max_reads ≤ reads)
-      → WritesPrefix (means text_of) input held next_remaining contents failed
+      → WritesPrefix (output_of text_of) input held next_remaining contents failed
   run_ends-at_prefix {next_remaining} has_read keeps cause = record {
     stream = has_read.stream;
     rest = has_read.rest;
     parts = has_read.parts;
-    left = known-kept_where_known next_remaining has_read.rest (rw has_read.left at keeps);
+    rest_is = known-kept_where_known next_remaining has_read.rest (rw has_read.rest_is at keeps);
     written = run-has_written has_read;
     cause = elim cause [
       | inl fails ↦ inl fails
@@ -178,9 +178,9 @@ module _ {text_of : Event
   pub run_ends-with_all : {reads : ℕ} {next_remaining : Option (List ℕ)}
       → HasReadPart text_of input held reads parser remaining contents
       → Consumes remaining next_remaining [] → IsAtEnd next_remaining
-      → WritesAll (means text_of) input held next_remaining contents
+      → WritesAll (output_of text_of) input held next_remaining contents
   run_ends-with_all {next_remaining} has_read consumes end =
-      let has_rest = known-consumed next_remaining has_read.rest [] (rw has_read.left at consumes) in
+      let has_rest = known-consumed next_remaining has_read.rest [] (rw has_read.rest_is at consumes) in
       let none_left : has_rest.rest ≡ [] = rw has_rest.rest_is at end in
       record {
         at_end = has_rest.rest_is ∙ ap Some none_left;

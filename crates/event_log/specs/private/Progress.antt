@@ -7,32 +7,32 @@ use Rattle.vte_core.specs.Stream.{added, default_limit}
 use Rattle.vte_core.specs.declared.parser.Parser.{Parser}
 use Rattle.event_log.specs.HeldText.{HeldText}
 
-pub record HasReadSome (parser : Parser 1024) : Type 0 where
+pub record HasReadStream (parser : Parser 1024) : Type 0 where
   pub already_read : List ℕ
   pub parsed : HasRead parser already_read
 
--- A text, followed by the text of what the unread bytes and any more add, is the whole text, which
+-- A text, followed by the text of what the unread bytes and any more add, is the total text, which
 -- depends on the bytes to come.
-pub record AddsUpTo (text_of : Event → List ℕ) (whole_text : List ℕ → List ℕ) (text : List ℕ)
+pub record AddsUpTo (text_of : Event → List ℕ) (total_text : List ℕ → List ℕ) (text : List ℕ)
     (parser : Parser 1024) (unread : List ℕ)
     : Type 0 where
   pub already_read : List ℕ
   pub parsed : HasRead parser already_read
-  pub goes_on : (more : List ℕ)
+  pub total_is : (more : List ℕ)
       → text ++ flat_map text_of (added default_limit already_read (unread ++ more))
-      ≡ whole_text more
+      ≡ total_text more
 
--- The text is what a record holds, and nothing was lost.
-pub record HasKept (text_of : Event → List ℕ) (whole_text : List ℕ → List ℕ) (held : HeldText)
+-- The text is what a collector holds, and nothing was lost.
+pub record HasKept (text_of : Event → List ℕ) (total_text : List ℕ → List ℕ) (held : HeldText)
     (parser : Parser 1024) (unread : List ℕ)
     : Type 0 where
-  pub adds_up : AddsUpTo text_of whole_text held.bytes parser unread
-  pub kept : held.lost ≡ false
+  pub adds_up : AddsUpTo text_of total_text held.bytes parser unread
+  pub nothing_lost : held.lost ≡ false
 
 -- The text is all that a writer has taken.
-pub record HasWritten (text_of : Event → List ℕ) (whole_text : List ℕ → List ℕ)
+pub record HasWritten (text_of : Event → List ℕ) (total_text : List ℕ → List ℕ)
     (contents : Option (List ℕ)) (parser : Parser 1024) (unread : List ℕ)
     : Type 0 where
   pub written : List ℕ
   pub contents_are : contents ≡ Some written
-  pub adds_up : AddsUpTo text_of whole_text written parser unread
+  pub adds_up : AddsUpTo text_of total_text written parser unread

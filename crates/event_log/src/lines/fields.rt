@@ -7,7 +7,7 @@ ghost use Rattle.event_log.specs.Lines.{flag_field, hex_byte, hex_character, hex
 ghost use Rattle.event_log.specs.private.Line.{ExtendsLine};
 
 use super::Lines;
-use super::short::{hex_length, hex_pair, six_hex_digits};
+use super::hex::{hex_length, hex_pair, six_hex_digits};
 use vte_core::Params;
 
 impl Lines {

@@ -1,7 +1,7 @@
 -- What events leave in the buffers. Those that aren't full have room for what one byte adds, so each event is written
 -- as one entry (`event-written`), or isn't one of the kinds asked for (`event-passed`); so is all that one byte reports
 -- (`entries-unit_more`), and a run of the input (`entries-run`).
-use Rattle.vte_c.proofs.Common.{add-zero, after, All, All-head, All-tail, any_of_kinds, ap, append-nil, append_assoc, AreaHolds, AreBrief, AreGroups, AreReadable, arith, AtMostOneFollowsStop, Bool, Buffers, buffers_of, buffers_with_event, cases_Bool, concat, contains_kind, count_of, CsiDispatch, data_of, DataRun, default_limit, Entry, entry_data, EscDispatch, Event, event_kind, EventWriter, Execute, false, filter-append, flag_byte, flat_map, flat_map-append, group_bytes, has_room_for, HasEntries, Hook, if◌then◌else◌, InInput, inl, InputRunKind, inr, IsBounded, IsNonEmpty, IsRunAt, IsShort, kinds_of, len_utf8_bounds, length, length-append, length-encode, length-map, List, map, map-append, max_data_per_byte, may_have_lost, must_return, nat_lt, nat_tests, NoRecordStops, or_parts, OscDispatch, piece_bytes, Print, Put, record_at, records_from, refl, resumed, run_kind, run_record, Single, subst, sum_by-cons, sym, take, TextRun, true, two_bytes, Unhook, VteEvent, wanted_events, with_entries, with_record, with_record_alone, without_loss, ℕ, [], ◌%◌, ◌*◌, ◌++◌, ◌+◌, ◌<◌, ◌∙◌, ◌∷◌, ◌≡◌, ◌≤◌}
+use Rattle.vte_c.proofs.Common.{add-zero, after, All, All-head, All-tail, any_of_kinds, ap, append-nil, append_assoc, AreaHolds, AreBrief, AreGroups, AreReadable, arith, AtMostOneFollowsStop, Bool, Buffers, buffers_of, buffers_with_event, cases_Bool, concat, contains_kind, count_of, CsiDispatch, data_of, DataRun, default_limit, Entry, entry_data, EscDispatch, Event, event_kind, EventWriter, Execute, false, filter-append, flag_byte, flat_map, flat_map-append, group_bytes, has_room_for_record, HasEntries, Hook, if◌then◌else◌, InInput, inl, InputRunKind, inr, IsBounded, IsNonEmpty, IsRunAt, IsShort, kinds_of, len_utf8_bounds, length, length-append, length-encode, length-map, List, map, map-append, max_data_per_byte, may_have_lost, must_return, nat_lt, nat_tests, NoRecordStops, or_parts, OscDispatch, piece_bytes, Print, Put, record_at, records_from, refl, resumed, run_kind, run_record, Single, subst, sum_by-cons, sym, take, TextRun, true, two_bytes, Unhook, VteEvent, wanted_events, with_entries, with_record, with_record_alone, without_loss, ℕ, [], ◌%◌, ◌*◌, ◌++◌, ◌+◌, ◌<◌, ◌∙◌, ◌∷◌, ◌≡◌, ◌≤◌}
 use Rattle.std.proofs.Math.Bool.{or-false, or_assoc}
 use Rattle.std.proofs.lemmas.List.Folds.{list_any-append}
 use Rattle.vte_core.proofs.lemmas.places.PlaceLeads.{short_bounded}
@@ -81,43 +81,43 @@ length-records offset (entry ∷ entries) = omega (arith, length-records (offset
 with_entries-append : (buffers : Buffers) (front back : List Entry)
     → with_entries (with_entries buffers front) back ≡ with_entries buffers (front ++ back)
 with_entries-append buffers front back =
-    let size : buffers.used + length (flat_map entry_data front) + length (flat_map entry_data back)
-    ≡ buffers.used + length (flat_map entry_data front ++ flat_map entry_data back) =
+    let size : buffers.data_used + length (flat_map entry_data front) + length (flat_map entry_data back)
+    ≡ buffers.data_used + length (flat_map entry_data front ++ flat_map entry_data back) =
     omega (arith, length-append (flat_map entry_data front) (flat_map entry_data back)) in
-    let count : buffers.count + length front + length back ≡ buffers.count + length (front ++ back) =
+    let count : buffers.record_count + length front + length back ≡ buffers.record_count + length (front ++ back) =
     omega (arith, length-append front back) in
     rw (← count, records-append, flat_map-append, ← size, list_any-append)
-    (rw (append_assoc buffers.events, append_assoc buffers.area, or_assoc) refl)
+    (rw (append_assoc buffers.records, append_assoc buffers.area, or_assoc) refl)
 
 -- As long as buffers aren't full, no record stops.
 pub no_record_stops-not_returning : {old new : Buffers} {input : List ℕ} {entries : List Entry}
     → HasEntries old new input entries → must_return new ≡ false
-    → NoRecordStops old.stops (records_from old.used entries)
+    → NoRecordStops old.stop_kinds (records_from old.data_used entries)
 no_record_stops-not_returning {old} {new} {input} {entries} has_entries not_returning =
     let has_stopped : new.has_stopped ≡ false = grind (arith, nat_tests) in
-    no_kind_stops-none old.stops (records_from old.used entries)
-    (or_parts old.has_stopped (any_of_kinds old.stops (records_from old.used entries))
+    no_kind_stops-none old.stop_kinds (records_from old.data_used entries)
+    (or_parts old.has_stopped (any_of_kinds old.stop_kinds (records_from old.data_used entries))
     (sym (ap (λ (held : Buffers). held.has_stopped) has_entries.written) ∙ has_stopped)).1
 
 readable-append : (input : List ℕ) (front back : List Entry) → AreReadable input front → AreReadable input back
     → AreReadable input (front ++ back)
-readable-append input [] back front_are back_are = back_are
-readable-append input (Single event ∷ front) back front_are back_are =
-    (front_are.0, readable-append input front back front_are.1 back_are)
-readable-append input (InInput run start size ∷ front) back front_are back_are =
-    (front_are.0, readable-append input front back front_are.1 back_are)
+readable-append input [] back front_readable back_readable = back_readable
+readable-append input (Single event ∷ front) back front_readable back_readable =
+    (front_readable.0, readable-append input front back front_readable.1 back_readable)
+readable-append input (InInput run start size ∷ front) back front_readable back_readable =
+    (front_readable.0, readable-append input front back front_readable.1 back_readable)
 
 -- At most two records may all be the last ones: one that stops, and one after it.
-follows_stop-two : (stops offset : ℕ) (entries : List Entry) → length entries ≤ 2
-    → AtMostOneFollowsStop stops (kinds_of (records_from offset entries))
-follows_stop-two stops offset entries at_most =
-    let count = length-map (records_from offset entries) (λ (event : VteEvent). event.kind) in
+follows_stop-two : (stop_kinds offset : ℕ) (entries : List Entry) → length entries ≤ 2
+    → AtMostOneFollowsStop stop_kinds (kinds_of (records_from offset entries))
+follows_stop-two stop_kinds offset entries at_most =
+    let count = length-map (records_from offset entries) (λ (vte_record : VteEvent). vte_record.kind) in
     record {
       before = [];
       last = kinds_of (records_from offset entries);
       parts = refl;
-      others = tt;
-      at_most = omega (arith, count, length-records offset entries);
+      no_stop_before = tt;
+      at_most_two = omega (arith, count, length-records offset entries);
     }
 
 pub entries-nothing : (buffers : Buffers) (input : List ℕ) → HasEntries buffers buffers input []
@@ -125,16 +125,16 @@ entries-nothing buffers input =
     record {
       readable = tt;
       written = simp (append-nil, add-zero, or-false) refl;
-      at_most_one_follows = follows_stop-two buffers.stops buffers.used [] (omega arith);
+      at_most_one_follows = follows_stop-two buffers.stop_kinds buffers.data_used [] (omega arith);
     }
 
 pub entries-then : {old mid new : Buffers} {input : List ℕ} {front back : List Entry} → HasEntries old mid input front
     → must_return mid ≡ false
     → HasEntries mid new input back → HasEntries old new input (front ++ back)
 entries-then {old} {mid} {new} {input} {front} {back} has_front not_returning has_back =
-    let before = records_from old.used front in
-    let soon =
-    subst (λ (held : Buffers). AtMostOneFollowsStop held.stops (kinds_of (records_from held.used back)))
+    let before = records_from old.data_used front in
+    let back_stops =
+    subst (λ (held : Buffers). AtMostOneFollowsStop held.stop_kinds (kinds_of (records_from held.data_used back)))
     has_front.written has_back.at_most_one_follows in
     record {
       readable = readable-append input front back has_front.readable has_back.readable;
@@ -142,24 +142,26 @@ entries-then {old} {mid} {new} {input} {front} {back} has_front not_returning ha
           has_back.written ∙ ap (λ (held : Buffers). with_entries held back) has_front.written
           ∙ with_entries-append old front back;
       at_most_one_follows = record {
-        before = kinds_of before ++ soon.before;
-        last = soon.last;
-        parts = rw (records-append old.used front back, map-append, append_assoc (kinds_of before), ← soon.parts) refl;
-        others =
-            no_kind_stops-append old.stops (kinds_of before) soon.before
+        before = kinds_of before ++ back_stops.before;
+        last = back_stops.last;
+        parts =
+            rw (records-append old.data_used front back, map-append, append_assoc (kinds_of before), ← back_stops.parts)
+            refl;
+        no_stop_before =
+            no_kind_stops-append old.stop_kinds (kinds_of before) back_stops.before
             (no_record_stops-not_returning has_front not_returning)
-            soon.others;
-        at_most = soon.at_most;
+            back_stops.no_stop_before;
+        at_most_two = back_stops.at_most_two;
       };
     }
 
 -- ---- before a write the area holds no data of the event
 
-pub holds-nothing : (events : EventWriter) → AreaHolds (buffers_of events) events events.used []
-holds-nothing events = record {
-  same = refl;
-  ends = omega (arith, events.used_limit, events.size_limit);
-  held = λ within. sym (append-nil (take events.used events.area.now));
+pub holds-nothing : (writer : EventWriter) → AreaHolds (buffers_of writer) writer writer.data_used []
+holds-nothing writer = record {
+  same_buffers = refl;
+  end_is = omega (arith, writer.data_fits, writer.data_capacity_is);
+  data_is = λ within. sym (append-nil (take writer.data_used writer.area.now));
 }
 
 -- ---- a run of the input
@@ -193,24 +195,24 @@ pub entries-run : {old new : Buffers} (input : List ℕ) (run : InputRunKind) (s
     → HasEntries old new input (InInput run start size ∷ [])
 unfolding with_record_alone
 entries-run {old} {new} input run start size not_returning is_run recorded =
-    let has_record_room : nat_lt old.count old.capacity ≡ true = grind (arith, nat_tests) in
+    let has_record_room : nat_lt old.record_count old.record_capacity ≡ true = grind (arith, nat_tests) in
     record {
       readable = (is_run, tt);
       written = rw (recorded, has_record_room, run-without_loss run start size) (simp (append-nil, add-zero, or-false));
-      at_most_one_follows = follows_stop-two old.stops old.used (InInput run start size ∷ []) (omega arith);
+      at_most_one_follows = follows_stop-two old.stop_kinds old.data_used (InInput run start size ∷ []) (omega arith);
     }
 
 -- ---- a pause, apart from which an event is written the same (`resumed`)
 
-pub resumed-same : (buffers : Buffers) → buffers.paused ≡ false → resumed buffers ≡ buffers
-resumed-same buffers unpaused = ap (λ (paused : Bool). record buffers { paused = paused }) (sym unpaused)
+pub resumed-same : (buffers : Buffers) → buffers.is_paused ≡ false → resumed buffers ≡ buffers
+resumed-same buffers not_paused = ap (λ (is_paused : Bool). record buffers { is_paused = is_paused }) (sym not_paused)
 
-pub not_returning-unpaused : (buffers : Buffers) → must_return buffers ≡ false → buffers.paused ≡ false
-not_returning-unpaused buffers not_returning = grind (arith, nat_tests)
+pub not_returning-not_paused : (buffers : Buffers) → must_return buffers ≡ false → buffers.is_paused ≡ false
+not_returning-not_paused buffers not_returning = grind (arith, nat_tests)
 
 pub resumed-not_returning : (buffers : Buffers) → must_return buffers ≡ false → must_return (resumed buffers) ≡ false
 resumed-not_returning buffers not_returning =
-    ap must_return (resumed-same buffers (not_returning-unpaused buffers not_returning)) ∙ not_returning
+    ap must_return (resumed-same buffers (not_returning-not_paused buffers not_returning)) ∙ not_returning
 
 choice-resumed : (choice : Bool) (first second other_first other_second : Buffers)
     → resumed first ≡ resumed other_first → resumed second ≡ resumed other_second
@@ -218,10 +220,11 @@ choice-resumed : (choice : Bool) (first second other_first other_second : Buffer
 choice-resumed true first second other_first other_second same_first same_second = same_first
 choice-resumed false first second other_first other_second same_first same_second = same_second
 
-choice-paused : (choice paused : Bool) (first second : Buffers) → first.paused ≡ paused → second.paused ≡ paused
-    → (if choice then first else second).paused ≡ paused
-choice-paused true paused first second first_is second_is = first_is
-choice-paused false paused first second first_is second_is = second_is
+choice-paused : (choice is_paused : Bool) (first second : Buffers) → first.is_paused ≡ is_paused
+    → second.is_paused ≡ is_paused
+    → (if choice then first else second).is_paused ≡ is_paused
+choice-paused true is_paused first second first_is second_is = first_is
+choice-paused false is_paused first second first_is second_is = second_is
 
 -- An event is written in the same way after a pause.
 event-resumed : (buffers : Buffers) (event : Event)
@@ -229,67 +232,68 @@ event-resumed : (buffers : Buffers) (event : Event)
 unfolding with_record_alone with_record
 event-resumed buffers event =
     choice-resumed (contains_kind buffers.kinds (event_kind event)) _ _ _ _
-    (choice-resumed (has_room_for buffers (length (data_of event))) _ _ _ _
-    (choice-resumed (nat_lt buffers.count buffers.capacity) _ _ _ _ refl refl) refl) refl
+    (choice-resumed (has_room_for_record buffers (length (data_of event))) _ _ _ _
+    (choice-resumed (nat_lt buffers.record_count buffers.record_capacity) _ _ _ _ refl refl) refl) refl
 
 pub paused-after_event : (buffers : Buffers) (event : Event) → may_have_lost event ≡ false
-    → (buffers_with_event buffers event).paused ≡ buffers.paused
+    → (buffers_with_event buffers event).is_paused ≡ buffers.is_paused
 unfolding with_record_alone with_record
 paused-after_event buffers event kept =
-    choice-paused (contains_kind buffers.kinds (event_kind event)) buffers.paused _ _
+    choice-paused (contains_kind buffers.kinds (event_kind event)) buffers.is_paused _ _
     (rw kept
-    (choice-paused (has_room_for buffers (length (data_of event))) buffers.paused _ _
-    (choice-paused (nat_lt buffers.count buffers.capacity) buffers.paused _ _ refl refl) refl)) refl
+    (choice-paused (has_room_for_record buffers (length (data_of event))) buffers.is_paused _ _
+    (choice-paused (nat_lt buffers.record_count buffers.record_capacity) buffers.is_paused _ _ refl refl) refl)) refl
 
 -- ---- events of the parser
 
 -- There is room for `count` events and `size` bytes of data.
 pub record HasRoomFor (buffers : Buffers) (count size : ℕ) : Type 0 where
-  pub events : buffers.count + count ≤ buffers.capacity
-  pub data_fits : buffers.used + size ≤ buffers.size
+  pub records_fit : buffers.record_count + count ≤ buffers.record_capacity
+  pub data_fits : buffers.data_used + size ≤ buffers.data_capacity
 
 -- Buffers that aren't full have room for what one byte adds.
 not_returning-has_room : (buffers : Buffers) → must_return buffers ≡ false → HasRoomFor buffers 2 max_data_per_byte
 not_returning-has_room buffers not_returning = record {
-  events = grind (arith, nat_tests);
+  records_fit = grind (arith, nat_tests);
   data_fits = grind (arith, nat_tests);
 }
 
-pub event-written : (buffers : Buffers) (event : Event) → buffers.paused ≡ false
+pub event-written : (buffers : Buffers) (event : Event) → buffers.is_paused ≡ false
     → HasRoomFor buffers 1 (length (data_of event))
     → contains_kind buffers.kinds (event_kind event) ≡ true
     → resumed (buffers_with_event buffers event) ≡ with_entries buffers (Single event ∷ [])
 unfolding with_record_alone with_record
-event-written buffers event unpaused room_for wanted =
-    let has_both : has_room_for buffers (length (data_of event)) ≡ true = grind (arith, nat_tests) in
-    let has_record_room : nat_lt buffers.count buffers.capacity ≡ true = grind (arith, nat_tests) in
-    rw (wanted, has_both, has_record_room, single-without_loss buffers.used event, unpaused)
+event-written buffers event not_paused room_for wanted =
+    let has_both : has_room_for_record buffers (length (data_of event)) ≡ true = grind (arith, nat_tests) in
+    let has_record_room : nat_lt buffers.record_count buffers.record_capacity ≡ true = grind (arith, nat_tests) in
+    rw (wanted, has_both, has_record_room, single-without_loss buffers.data_used event, not_paused)
     (simp (append-nil, or-false))
 
 -- An event that isn't reported leaves the buffers as they are.
-pub event-passed : (buffers : Buffers) (event : Event) → buffers.paused ≡ false
+pub event-passed : (buffers : Buffers) (event : Event) → buffers.is_paused ≡ false
     → contains_kind buffers.kinds (event_kind event) ≡ false
     → resumed (buffers_with_event buffers event) ≡ buffers
-event-passed buffers event unpaused other = rw other (resumed-same buffers unpaused)
+event-passed buffers event not_paused other = rw other (resumed-same buffers not_paused)
 
 -- Each event that is reported has an entry.
 abbrev pub entries_of : Buffers → List Event → List Entry
 entries_of buffers events = map Single (wanted_events buffers.kinds events)
 
 entries-event : (input : List ℕ) (buffers : Buffers) (event : Event) → IsBounded default_limit event
-    → buffers.paused ≡ false
+    → buffers.is_paused ≡ false
     → HasRoomFor buffers 1 (length (data_of event))
     → HasEntries buffers (resumed (buffers_with_event buffers event)) input (entries_of buffers (event ∷ []))
-entries-event input buffers event bounded unpaused room_for =
+entries-event input buffers event bounded not_paused room_for =
     elim (cases_Bool (contains_kind buffers.kinds (event_kind event))) [
       | inl wanted ↦
-          rw (event-written buffers event unpaused room_for wanted, wanted)
+          rw (event-written buffers event not_paused room_for wanted, wanted)
           (record {
             readable = (bounded, tt);
             written = refl;
-            at_most_one_follows = follows_stop-two buffers.stops buffers.used (Single event ∷ []) (omega arith);
+            at_most_one_follows =
+                follows_stop-two buffers.stop_kinds buffers.data_used (Single event ∷ []) (omega arith);
           })
-      | inr other ↦ rw (event-passed buffers event unpaused other, other) (entries-nothing buffers input)
+      | inr other ↦ rw (event-passed buffers event not_paused other, other) (entries-nothing buffers input)
     ]
 
 -- One event has at most one entry, with no more data.
@@ -308,12 +312,12 @@ entries-unit : (input : List ℕ) (buffers : Buffers) (unit : List Event) → Ar
     → must_return buffers ≡ false
     → HasEntries buffers (resumed (after buffers_with_event buffers unit)) input (entries_of buffers unit)
 entries-unit input buffers [] brief not_returning =
-    rw (resumed-same buffers (not_returning-unpaused buffers not_returning)) (entries-nothing buffers input)
+    rw (resumed-same buffers (not_returning-not_paused buffers not_returning)) (entries-nothing buffers input)
 entries-unit input buffers (event ∷ []) brief not_returning =
     let room_for = not_returning-has_room buffers not_returning in
     let size = data_of-at_most event brief in
-    entries-event input buffers event brief (not_returning-unpaused buffers not_returning)
-    (record { events = omega (arith, room_for.events); data_fits = omega (arith, room_for.data_fits) })
+    entries-event input buffers event brief (not_returning-not_paused buffers not_returning)
+    (record { records_fit = omega (arith, room_for.records_fit); data_fits = omega (arith, room_for.data_fits) })
 entries-unit input buffers (event ∷ last ∷ []) brief not_returning =
     let room_for = not_returning-has_room buffers not_returning in
     -- The first event has at most 1,088 bytes of data, and the last one at most four.
@@ -325,17 +329,17 @@ entries-unit input buffers (event ∷ last ∷ []) brief not_returning =
     let next : Buffers = resumed (buffers_with_event buffers event) in
     -- The buffers aren't full, so they have room for the first event.
     let first =
-    entries-event input buffers event brief.0 (not_returning-unpaused buffers not_returning)
-    (record { events = omega (arith, room_for.events); data_fits = omega (arith, room_for.data_fits) }) in
+    entries-event input buffers event brief.0 (not_returning-not_paused buffers not_returning)
+    (record { records_fit = omega (arith, room_for.records_fit); data_fits = omega (arith, room_for.data_fits) }) in
     -- After that event, the buffers differ from the old ones by the entry alone.
     let kinds : next.kinds ≡ buffers.kinds = ap (λ (held : Buffers). held.kinds) first.written in
-    let count = ap (λ (held : Buffers). held.count) first.written in
-    let same_capacity = ap (λ (held : Buffers). held.capacity) first.written in
-    let used = ap (λ (held : Buffers). held.used) first.written in
-    let same_size = ap (λ (held : Buffers). held.size) first.written in
+    let count = ap (λ (held : Buffers). held.record_count) first.written in
+    let same_capacity = ap (λ (held : Buffers). held.record_capacity) first.written in
+    let used = ap (λ (held : Buffers). held.data_used) first.written in
+    let same_size = ap (λ (held : Buffers). held.data_capacity) first.written in
     -- So what is left is enough for the last event.
     let room_for_last : HasRoomFor next 1 (length (data_of last)) = record {
-      events = omega (arith, room_for.events, first_few.count, count, same_capacity);
+      records_fit = omega (arith, room_for.records_fit, first_few.count, count, same_capacity);
       data_fits = omega (arith, room_for.data_fits, first_few.size, size, short, used, same_size);
     } in
     -- The last event is written into these buffers, which report the same kinds.
@@ -356,7 +360,7 @@ entries-unit input buffers (event ∷ last ∷ []) brief not_returning =
       written =
           second.written ∙ ap (λ (held : Buffers). with_entries held (entries_of buffers (last ∷ []))) first.written
           ∙ with_entries-append buffers _ _;
-      at_most_one_follows = follows_stop-two buffers.stops buffers.used
+      at_most_one_follows = follows_stop-two buffers.stop_kinds buffers.data_used
           (entries_of buffers (event ∷ []) ++ entries_of buffers (last ∷ []))
           (omega (
             arith,
@@ -375,7 +379,7 @@ pub entries-unit_more : {old : Buffers} (input : List ℕ) (buffers : Buffers) (
 entries-unit_more {old} input buffers before unit has_entries not_returning brief =
     let mid : Buffers = after buffers_with_event buffers before in
     -- The buffers before the unit aren't full, so they aren't paused either.
-    let same : resumed mid ≡ mid = resumed-same mid (not_returning-unpaused mid not_returning) in
+    let same : resumed mid ≡ mid = resumed-same mid (not_returning-not_paused mid not_returning) in
     let first : HasEntries old mid input (entries_of old before) = rw same at has_entries in
     let kinds : mid.kinds ≡ old.kinds = ap (λ (held : Buffers). held.kinds) first.written in
     -- The unit is written into these buffers, which report the kinds of the old ones.

@@ -7,20 +7,20 @@ use Rattle.vte_core.proofs.lemmas.shapes.BrokenCharacters.{breaks-next}
 
 -- ---- some events are the first of others (`IsPrefix`)
 
-first-same : {events all : List Event} → all ≡ events → IsPrefix events all
-first-same {events} same = record { others = []; parts = same ∙ sym (append-nil events) }
+prefix-same : {events all : List Event} → all ≡ events → IsPrefix events all
+prefix-same {events} same = record { others = []; parts = same ∙ sym (append-nil events) }
 
-first-then : {front events all : List Event} → IsPrefix front events → IsPrefix events all → IsPrefix front all
-first-then {front} first later = record {
+prefix-then : {front events all : List Event} → IsPrefix front events → IsPrefix events all → IsPrefix front all
+prefix-then {front} first later = record {
   others = first.others ++ later.others;
   parts =
       later.parts ∙ ap (λ (events : List Event). events ++ later.others) first.parts
       ∙ append_assoc front first.others later.others;
 }
 
-first-after : {events all : List Event} (before : List Event) → IsPrefix events all
+prefix-after : {events all : List Event} (before : List Event) → IsPrefix events all
     → IsPrefix (before ++ events) (before ++ all)
-first-after {events} before first = record {
+prefix-after {events} before first = record {
   others = first.others;
   parts = ap (λ (events : List Event). before ++ events) first.parts ∙ sym (append_assoc before events first.others);
 }
@@ -29,22 +29,23 @@ first-after {events} before first = record {
 
 pub continues-nothing : (already_read bytes : List ℕ) → Continues already_read already_read bytes 0 []
 continues-nothing already_read bytes = record {
-  goes_on = λ more. refl;
+  added_parts = λ more. refl;
   prefixes =
-      λ k within. first-same (rw zero-add refl);
+      λ k within. prefix-same (rw zero-add refl);
 }
 
 pub continues-then : {already_read next last bytes : List ℕ} {n m : ℕ} {given given_next : List Event}
     → Continues already_read next bytes n given → Continues next last (drop n bytes) m given_next
     → n ≤ length bytes → Continues already_read last bytes (n + m) (given ++ given_next)
 continues-then {bytes} {n} {m} {given} {given_next} continues continues_on within = record {
-  goes_on =
+  added_parts =
       λ unread.
-      rw (append_assoc given, ← drop-drop m n bytes, continues.goes_on unread, continues_on.goes_on unread) refl;
+      rw (append_assoc given, ← drop-drop m n bytes, continues.added_parts unread, continues_on.added_parts unread)
+      refl;
   prefixes = λ k below.
       rw (append_assoc given, ← drop-drop m n bytes, add_assoc n m k)
-      (first-then (continues.prefixes (m + k) (omega arith))
-      (first-after given (continues_on.prefixes k (omega (arith, length-drop n bytes)))));
+      (prefix-then (continues.prefixes (m + k) (omega arith))
+      (prefix-after given (continues_on.prefixes k (omega (arith, length-drop n bytes)))));
 }
 
 -- ---- bytes that report what they add
@@ -52,36 +53,36 @@ continues-then {bytes} {n} {m} {given} {given_next} continues continues_on withi
 pub continues-added : (already_read bytes : List ℕ) (n : ℕ)
     → Continues already_read (already_read ++ take n bytes) bytes n (added default_limit already_read (take n bytes))
 continues-added already_read bytes n = record {
-  goes_on = λ more.
+  added_parts = λ more.
       let parts = added-append default_limit already_read (take n bytes) (drop n bytes ++ more) in
       rw (← parts, ← append_assoc (take n bytes), take-append-drop) refl;
-  prefixes = λ k within. first-same (rw (take-add n k bytes, added-append) refl);
+  prefixes = λ k within. prefix-same (rw (take-add n k bytes, added-append) refl);
 }
 
 -- ---- a call of the parser
 
 -- A call that stops before that byte has given U+FFFD, which no byte has added so far.
-broken-first : GoesOnFromPositions default_limit → (stream unread : List ℕ) (k : ℕ)
+broken-prefix : GoesOnFromPositions default_limit → (stream unread : List ℕ) (k : ℕ)
     → breaks (open_character stream) unread ≡ true
     → IsPrefix (added default_limit stream (take k unread)) (Print replacement ∷ added default_limit [] (take k unread))
 unfolding reported_before resumed_stream breaks_at
-broken-first goes_on stream unread zero broken =
+broken-prefix goes_on stream unread zero broken =
     record {
       others = Print replacement ∷ added default_limit [] [];
       parts =
           rw (added-nothing default_limit stream) refl;
     }
-broken-first goes_on stream [] (suc k) broken =
+broken-prefix goes_on stream [] (suc k) broken =
     record {
       others = Print replacement ∷ added default_limit [] [];
       parts =
           rw (added-nothing default_limit stream) refl;
     }
-broken-first goes_on stream (byte ∷ unread) (suc k) broken =
+broken-prefix goes_on stream (byte ∷ unread) (suc k) broken =
     let front : List ℕ = byte ∷ take k unread in
     let breaks_it : breaks_at stream front 0 ≡ true =
     rw (append-nil stream) (breaks-next (open_character stream) byte (take k unread) unread ∙ broken) in
-    first-same
+    prefix-same
     (sym
     (rw (append-nil front, reported_before, resumed_stream, breaks_it, added-nothing default_limit stream) at
     (goes_on stream front [] 0)))
@@ -92,11 +93,11 @@ pub continues-call : GoesOnFromPositions default_limit → (already_read bytes :
 unfolding reported_before resumed_stream breaks_at
 continues-call goes_on already_read bytes n = elim (cases_Bool (breaks_at already_read bytes n)) [
   | inl broken ↦ rw broken (record {
-    goes_on = λ more. rw broken at (goes_on already_read bytes more n);
+    added_parts = λ more. rw broken at (goes_on already_read bytes more n);
     prefixes = λ k within.
         rw (take-add n k bytes, added-append, append_assoc (added default_limit already_read (take n bytes)))
-        (first-after (added default_limit already_read (take n bytes))
-        (broken-first goes_on (already_read ++ take n bytes) (drop n bytes) k broken));
+        (prefix-after (added default_limit already_read (take n bytes))
+        (broken-prefix goes_on (already_read ++ take n bytes) (drop n bytes) k broken));
   })
   | inr unbroken ↦ rw (unbroken, append-nil (added default_limit already_read (take n bytes)))
       (continues-added already_read bytes n)
@@ -104,76 +105,79 @@ continues-call goes_on already_read bytes n = elim (cases_Bool (breaks_at alread
 
 -- ---- records of kinds that do not stop
 
-pub no_kind_stops-none : (stops : ℕ) (records : List VteEvent) → any_of_kinds stops records ≡ false
-    → NoRecordStops stops records
-no_kind_stops-none stops [] none_of_kinds = tt
-no_kind_stops-none stops (event ∷ records) none_of_kinds =
-    let apart = or_parts (contains_kind stops event.kind) (any_of_kinds stops records) none_of_kinds in
-    (apart.0, no_kind_stops-none stops records apart.1)
+pub no_kind_stops-none : (stop_kinds : ℕ) (records : List VteEvent) → any_of_kinds stop_kinds records ≡ false
+    → NoRecordStops stop_kinds records
+no_kind_stops-none stop_kinds [] none_of_kinds = tt
+no_kind_stops-none stop_kinds (vte_record ∷ records) none_of_kinds =
+    let apart = or_parts (contains_kind stop_kinds vte_record.kind) (any_of_kinds stop_kinds records) none_of_kinds in
+    (apart.0, no_kind_stops-none stop_kinds records apart.1)
 
-pub no_kind_stops-append : (stops : ℕ) (front back : List ℕ) → NoKindStops stops front → NoKindStops stops back
-    → NoKindStops stops (front ++ back)
-no_kind_stops-append stops [] back none_stops none_after = none_after
-no_kind_stops-append stops (kind ∷ front) back none_stops none_after =
-    (none_stops.0, no_kind_stops-append stops front back none_stops.1 none_after)
+pub no_kind_stops-append : (stop_kinds : ℕ) (front back : List ℕ) → NoKindStops stop_kinds front
+    → NoKindStops stop_kinds back
+    → NoKindStops stop_kinds (front ++ back)
+no_kind_stops-append stop_kinds [] back none_stops none_after = none_after
+no_kind_stops-append stop_kinds (kind ∷ front) back none_stops none_after =
+    (none_stops.0, no_kind_stops-append stop_kinds front back none_stops.1 none_after)
 
 -- ---- events that do not stop (`NoEventStops`): of lists, runs and entries, and of fewer bytes
 
-pub no_event_stops-front : (stop : ℕ → Bool) (front back : List Event) → NoEventStops stop (front ++ back)
-    → NoEventStops stop front
-no_event_stops-front stop [] back none_stops = tt
-no_event_stops-front stop (event ∷ front) back none_stops =
-    (none_stops.0, no_event_stops-front stop front back none_stops.1)
+pub no_event_stops-front : (does_stop : ℕ → Bool) (front back : List Event) → NoEventStops does_stop (front ++ back)
+    → NoEventStops does_stop front
+no_event_stops-front does_stop [] back none_stops = tt
+no_event_stops-front does_stop (event ∷ front) back none_stops =
+    (none_stops.0, no_event_stops-front does_stop front back none_stops.1)
 
-pub no_event_stops-append : (stop : ℕ → Bool) (front back : List Event) → NoEventStops stop front
-    → NoEventStops stop back → NoEventStops stop (front ++ back)
-no_event_stops-append stop [] back none_stops none_after = none_after
-no_event_stops-append stop (event ∷ front) back none_stops none_after =
-    (none_stops.0, no_event_stops-append stop front back none_stops.1 none_after)
+pub no_event_stops-append : (does_stop : ℕ → Bool) (front back : List Event) → NoEventStops does_stop front
+    → NoEventStops does_stop back → NoEventStops does_stop (front ++ back)
+no_event_stops-append does_stop [] back none_stops none_after = none_after
+no_event_stops-append does_stop (event ∷ front) back none_stops none_after =
+    (none_stops.0, no_event_stops-append does_stop front back none_stops.1 none_after)
 
-no_event_stops-each : (stop : ℕ → Bool) (call : ℕ → Event) → ((n : ℕ) → stop (event_kind (call n)) ≡ false)
-    → (ns : List ℕ) → NoEventStops stop (map call ns)
-no_event_stops-each stop call kind_goes_on [] = tt
-no_event_stops-each stop call kind_goes_on (n ∷ ns) = (kind_goes_on n, no_event_stops-each stop call kind_goes_on ns)
+no_event_stops-each : (does_stop : ℕ → Bool) (call : ℕ → Event) → ((n : ℕ) → does_stop (event_kind (call n)) ≡ false)
+    → (ns : List ℕ) → NoEventStops does_stop (map call ns)
+no_event_stops-each does_stop call no_stop [] = tt
+no_event_stops-each does_stop call no_stop (n ∷ ns) = (no_stop n, no_event_stops-each does_stop call no_stop ns)
 
-pub no_event_stops-run : (stop : ℕ → Bool) (run : InputRunKind) (bytes : List ℕ) → stop (run_kind run) ≡ false
-    → NoEventStops stop (events_of_run run bytes)
-no_event_stops-run stop TextRun bytes kind_goes_on = no_event_stops-each stop Print (λ c. kind_goes_on) (chars bytes)
-no_event_stops-run stop DataRun bytes kind_goes_on = no_event_stops-each stop Put (λ b. kind_goes_on) bytes
+pub no_event_stops-run : (does_stop : ℕ → Bool) (run : InputRunKind) (bytes : List ℕ) → does_stop (run_kind run) ≡ false
+    → NoEventStops does_stop (events_of_run run bytes)
+no_event_stops-run does_stop TextRun bytes no_stop = no_event_stops-each does_stop Print (λ c. no_stop) (chars bytes)
+no_event_stops-run does_stop DataRun bytes no_stop = no_event_stops-each does_stop Put (λ b. no_stop) bytes
 
 -- The events of records that don't stop don't stop either.
-pub no_event_stops-entries : (stops : ℕ) (input : List ℕ) (place : ℕ) (entries : List Entry)
-    → NoRecordStops stops (records_from place entries)
-    → NoEventStops (contains_kind stops) (flat_map (entry_events input) entries)
-no_event_stops-entries stops input place [] none_stops = tt
-no_event_stops-entries stops input place (Single event ∷ entries) none_stops =
-    (none_stops.0, no_event_stops-entries stops input (place + length (entry_data (Single event))) entries none_stops.1)
-no_event_stops-entries stops input place (InInput run start size ∷ entries) none_stops =
+pub no_event_stops-entries : (stop_kinds : ℕ) (input : List ℕ) (place : ℕ) (entries : List Entry)
+    → NoRecordStops stop_kinds (records_from place entries)
+    → NoEventStops (contains_kind stop_kinds) (flat_map (entry_events input) entries)
+no_event_stops-entries stop_kinds input place [] none_stops = tt
+no_event_stops-entries stop_kinds input place (Single event ∷ entries) none_stops = (
+  none_stops.0,
+  no_event_stops-entries stop_kinds input (place + length (entry_data (Single event))) entries none_stops.1,
+)
+no_event_stops-entries stop_kinds input place (InInput run start size ∷ entries) none_stops =
     let bytes : List ℕ = take size (drop start input) in
-    no_event_stops-append (contains_kind stops) (events_of_run run bytes) (flat_map (entry_events input) entries)
-    (no_event_stops-run (contains_kind stops) run bytes none_stops.0)
-    (no_event_stops-entries stops input (place + 0) entries none_stops.1)
+    no_event_stops-append (contains_kind stop_kinds) (events_of_run run bytes) (flat_map (entry_events input) entries)
+    (no_event_stops-run (contains_kind stop_kinds) run bytes none_stops.0)
+    (no_event_stops-entries stop_kinds input (place + 0) entries none_stops.1)
 
 -- An event that isn't reported doesn't stop.
-pub no_event_stops-reported : (kinds stops : ℕ) (events : List Event)
-    → NoEventStops (contains_kind stops) (wanted_events kinds events)
-    → NoEventStops (is_stop kinds stops) events
-no_event_stops-reported kinds stops [] none_stops = tt
-no_event_stops-reported kinds stops (event ∷ events) none_stops =
+pub no_event_stops-reported : (kinds stop_kinds : ℕ) (events : List Event)
+    → NoEventStops (contains_kind stop_kinds) (wanted_events kinds events)
+    → NoEventStops (is_stop kinds stop_kinds) events
+no_event_stops-reported kinds stop_kinds [] none_stops = tt
+no_event_stops-reported kinds stop_kinds (event ∷ events) none_stops =
     elim (cases_Bool (contains_kind kinds (event_kind event))) [
       | inl wanted ↦
           let rest = rw wanted at none_stops in
-          (rw wanted rest.0, no_event_stops-reported kinds stops events rest.1)
-      | inr other ↦ (rw other refl, no_event_stops-reported kinds stops events (rw other at none_stops))
+          (rw wanted rest.0, no_event_stops-reported kinds stop_kinds events rest.1)
+      | inr other ↦ (rw other refl, no_event_stops-reported kinds stop_kinds events (rw other at none_stops))
     ]
 
 -- If nothing that bytes add stops, nothing that fewer of them add does.
-pub no_event_stops-earlier : (stop : ℕ → Bool) (stream bytes : List ℕ) (i n : ℕ) → i ≤ n
-    → NoEventStops stop (added default_limit stream (take n bytes))
-    → NoEventStops stop (added default_limit stream (take i bytes))
-no_event_stops-earlier stop stream bytes i n earlier none_stops =
+pub no_event_stops-earlier : (does_stop : ℕ → Bool) (stream bytes : List ℕ) (i n : ℕ) → i ≤ n
+    → NoEventStops does_stop (added default_limit stream (take n bytes))
+    → NoEventStops does_stop (added default_limit stream (take i bytes))
+no_event_stops-earlier does_stop stream bytes i n earlier none_stops =
     let parts : i + (n - i) ≡ n = omega arith in
-    no_event_stops-front stop (added default_limit stream (take i bytes))
+    no_event_stops-front does_stop (added default_limit stream (take i bytes))
     (added default_limit (stream ++ take i bytes) (take (n - i) (drop i bytes)))
     (rw (← parts, take-add i (n - i) bytes, added-append) at none_stops)
 
@@ -182,20 +186,21 @@ no_event_stops-earlier stop stream bytes i n earlier none_stops =
 -- No event that stops is given before the last byte that a call reads: a byte before that ends at a start, where the
 -- call would have stopped, or adds nothing that stops.
 
-module _ (stop : ℕ → Bool) (no_text : stop 0 ≡ false) (stream bytes : List ℕ) (n : ℕ) (within : n ≤ length bytes)
+module _ (does_stop : ℕ → Bool) (no_text : does_stop 0 ≡ false) (stream bytes : List ℕ) (n : ℕ)
+    (within : n ≤ length bytes)
     (silent : OpensSilently default_limit)
     (asked : (i : ℕ) → i < n → IsStart stream bytes i
-    → NoEventStops stop (reported_before default_limit stream bytes i)) where
+    → NoEventStops does_stop (reported_before default_limit stream bytes i)) where
   no_event_stops-at_start : (i : ℕ) → i < n → open_character (stream ++ take i bytes) ≡ []
-      → NoEventStops stop (added default_limit stream (take i bytes))
+      → NoEventStops does_stop (added default_limit stream (take i bytes))
   unfolding reported_before
   no_event_stops-at_start i earlier closed =
-      no_event_stops-front stop (added default_limit stream (take i bytes))
+      no_event_stops-front does_stop (added default_limit stream (take i bytes))
       (if breaks_at stream bytes i then Print replacement ∷ [] else [])
-      (asked i earlier (record { within = omega arith; starts = inl closed }))
+      (asked i earlier (record { before_end = omega arith; starts = inl closed }))
 
   -- A byte after which no character is open ends at a start, and any other adds nothing that stops.
-  pub no_event_stops-before : (i : ℕ) → i < n → NoEventStops stop (added default_limit stream (take i bytes))
+  pub no_event_stops-before : (i : ℕ) → i < n → NoEventStops does_stop (added default_limit stream (take i bytes))
   no_event_stops-before zero earlier = rw (added-nothing default_limit stream) tt
   no_event_stops-before (suc i) earlier =
       let byte : ℕ = get_or bytes i 0 in
@@ -206,7 +211,7 @@ module _ (stop : ℕ → Bool) (no_text : stop 0 ≡ false) (stream bytes : List
       elim (silent here byte) [
         | inl closed ↦ no_event_stops-at_start (suc i) earlier (rw (one_more, ← append_assoc) closed)
         | inr opens ↦ rw (one_more, added-append default_limit stream (take i bytes) (byte ∷ []))
-            (no_event_stops-append stop (added default_limit stream (take i bytes))
+            (no_event_stops-append does_stop (added default_limit stream (take i bytes))
             (added default_limit here (byte ∷ [])) before (elim opens [
               | inl nothing ↦ rw nothing tt
               | inr broken ↦ rw broken (no_text, tt)

@@ -1,6 +1,6 @@
 -- A caller finds in its buffers the records and data of the entries that a call wrote, and reads their events back from
 -- them (`entries-read`, `fed`). More bytes after the input change nothing (`entry_events-later`).
-use Rattle.vte_c.proofs.Common.{add-zero, added, all_kinds, ap, append-nil, append_assoc, AreEmptyBuffers, AreEncoded, AreGroups, AreReadable, arith, Bool, Buffers, buffers_of, cases_Bool, concat, contains_kind, count_byte, count_of, CsiDispatch, data_of, DataRun, default_limit, drop, drop-append-le, drop-append_seam, drop-drop, Entry, entry_data, entry_events, eqb-true, EscDispatch, Event, event_in, event_kind, events, events_in, events_of, events_of_run, EventWriter, Execute, false, filter-append, flag_byte, flat_map, get_or, group_bytes, groups_in, HasEntries, HasFed, HasGiven, HasRead, HasReadOn, HasReadSaved, HasReported, Hook, InInput, inl, InputRunKind, inr, intermediates_in, IsBounded, IsRunAt, kinds_of, length, length-append, length-drop, length-map, length-take, List, map, map-set_same, min, nat_tests, no_room, NoRecordStops, numbers_in, osc_kind, OscDispatch, Parser, piece_bytes, pieces_in, Print, Put, read_count, record_at, records_from, refl, run_kind, run_record, Saved, set, Single, sum_by-cons, sym, take, take-append-drop, take-append-le, take-append_seam, take-map, TextRun, true, two_bytes, Unhook, VteEvent, wanted_events, with_intermediates, with_loss, without_loss, ℕ, [], ◌%◌, ◌*◌, ◌++◌, ◌+◌, ◌/◌, ◌<◌, ◌==◌, ◌∙◌, ◌∷◌, ◌≡◌, ◌≤◌}
+use Rattle.vte_c.proofs.Common.{add-zero, added, all_kinds, ap, append-nil, append_assoc, AreEmptyBuffers, AreEncoded, AreGroups, AreReadable, arith, Bool, Buffers, buffers_of, bytes_read, cases_Bool, concat, contains_kind, count_byte, count_of, CsiDispatch, data_of, DataRun, default_limit, drop, drop-append-le, drop-append_seam, drop-drop, Entry, entry_data, entry_events, eqb-true, EscDispatch, Event, event_in, event_kind, events, events_in, events_of, events_of_run, EventWriter, Execute, false, filter-append, flag_byte, flat_map, get_or, group_bytes, groups_in, HasEntries, HasFed, HasGiven, HasRead, HasReadOn, HasReadSaved, HasReported, Hook, InInput, inl, InputRunKind, inr, intermediates_in, IsBounded, IsRunAt, kinds_of, length, length-append, length-drop, length-map, length-take, List, map, map-set_same, min, nat_tests, no_room, NoRecordStops, numbers_in, osc_kind, OscDispatch, Parser, piece_bytes, pieces_in, Print, Put, record_at, records_from, refl, run_kind, run_record, Saved, set, Single, sum_by-cons, sym, take, take-append-drop, take-append-le, take-append_seam, take-map, TextRun, true, two_bytes, Unhook, VteEvent, wanted_events, with_intermediates, with_loss, without_loss, ℕ, [], ◌%◌, ◌*◌, ◌++◌, ◌+◌, ◌/◌, ◌<◌, ◌==◌, ◌∙◌, ◌∷◌, ◌≡◌, ◌≤◌}
 use Rattle.std.specs.Char.{encode_utf8}
 use Rattle.vte_core.proofs.lemmas.bytes.Runs.{chars-encode}
 use Rattle.vte_c.proofs.lemmas.Buffers.{length-groups, length-records, length-two_bytes}
@@ -61,12 +61,12 @@ bell-read : (bell : Bool) → (flag_byte bell % 2 == 1) ≡ bell
 bell-read true = refl
 bell-read false = refl
 
-intermediates-read : (event : VteEvent) (intermediates : List ℕ) → length intermediates ≤ 2
-    → intermediates_in (with_intermediates event intermediates) ≡ intermediates
-intermediates-read event [] at_most = refl
-intermediates-read event (a ∷ []) at_most = refl
-intermediates-read event (a ∷ b ∷ []) at_most = refl
-intermediates-read event (a ∷ b ∷ c ∷ later) at_most = absurd (omega arith)
+intermediates-read : (vte_record : VteEvent) (intermediates : List ℕ) → length intermediates ≤ 2
+    → intermediates_in (with_intermediates vte_record intermediates) ≡ intermediates
+intermediates-read vte_record [] at_most = refl
+intermediates-read vte_record (a ∷ []) at_most = refl
+intermediates-read vte_record (a ∷ b ∷ []) at_most = refl
+intermediates-read vte_record (a ∷ b ∷ c ∷ later) at_most = absurd (omega arith)
 
 -- An event is read back if its data is at its offset in the area.
 single-read : (input area back : List ℕ) (offset : ℕ) (event : Event) → IsBounded default_limit event
@@ -113,29 +113,30 @@ entries-read_from input area back offset (Single event ∷ entries) readable is_
     rw (single-read input area rest offset event readable.0 (rw parts at is_there), others) refl
 
 -- Whether a command lost data isn't read.
-events-without_loss : (input area : List ℕ) (event : VteEvent)
-    → events_of input area (without_loss event) ≡ events_of input area event
+events-without_loss : (input area : List ℕ) (vte_record : VteEvent)
+    → events_of input area (without_loss vte_record) ≡ events_of input area vte_record
 unfolding events_of event_in without_loss
-events-without_loss input area event = elim (cases_Bool (event.kind == osc_kind)) [
+events-without_loss input area vte_record = elim (cases_Bool (vte_record.kind == osc_kind)) [
   | inl command ↦
-      let kind : event.kind ≡ osc_kind = eqb-true event.kind osc_kind command in
-      let flag : event.flag % 2 % 2 ≡ event.flag % 2 = omega arith in
+      let kind : vte_record.kind ≡ osc_kind = eqb-true vte_record.kind osc_kind command in
+      let flag : vte_record.flag % 2 % 2 ≡ vte_record.flag % 2 = omega arith in
       rw (kind, flag) refl
   | inr other ↦
-      let same : without_loss event ≡ event = rw other refl in
+      let same : without_loss vte_record ≡ vte_record = rw other refl in
       ap (events_of input area) same
 ]
 
 records-without_loss : (input area : List ℕ) (records : List VteEvent)
     → flat_map (events_of input area) (map without_loss records) ≡ flat_map (events_of input area) records
 records-without_loss input area [] = refl
-records-without_loss input area (event ∷ records) =
-    rw (events-without_loss input area event, records-without_loss input area records) refl
+records-without_loss input area (vte_record ∷ records) =
+    rw (events-without_loss input area vte_record, records-without_loss input area records) refl
 
-record-without_loss : (event : VteEvent) → event.kind ≡ osc_kind → without_loss (with_loss event) ≡ without_loss event
+record-without_loss : (vte_record : VteEvent) → vte_record.kind ≡ osc_kind
+    → without_loss (with_loss vte_record) ≡ without_loss vte_record
 unfolding without_loss
-record-without_loss event command =
-    let flag : (event.flag % 2 + 2) % 2 ≡ event.flag % 2 = omega arith in
+record-without_loss vte_record command =
+    let flag : (vte_record.flag % 2 + 2) % 2 ≡ vte_record.flag % 2 = omega arith in
     rw (command, flag) refl
 
 -- Writing whether a command lost data later doesn't change what is read.
@@ -144,20 +145,20 @@ pub records-same_without_loss : (records : List VteEvent) (count offset : ℕ) (
     → map without_loss (take count (set records offset (with_loss (get_or records offset default))))
     ≡ map without_loss (take count records)
 records-same_without_loss records count offset default command =
-    let event : VteEvent = get_or records offset default in
-    sym (take-map without_loss count (set records offset (with_loss event)))
+    let vte_record : VteEvent = get_or records offset default in
+    sym (take-map without_loss count (set records offset (with_loss vte_record)))
     ∙ ap (take count)
-    (map-set_same without_loss records offset (with_loss event) default (record-without_loss event command))
+    (map-set_same without_loss records offset (with_loss vte_record) default (record-without_loss vte_record command))
     ∙ take-map without_loss count records
 
-kind-without_loss : (event : VteEvent) → (without_loss event).kind ≡ event.kind
+kind-without_loss : (vte_record : VteEvent) → (without_loss vte_record).kind ≡ vte_record.kind
 unfolding without_loss
-kind-without_loss event =
-    elim (cases_Bool (event.kind == osc_kind)) [ inl command ↦ rw command refl | inr other ↦ rw other refl ]
+kind-without_loss vte_record =
+    elim (cases_Bool (vte_record.kind == osc_kind)) [ inl command ↦ rw command refl | inr other ↦ rw other refl ]
 
 kinds-without_loss : (records : List VteEvent) → kinds_of (map without_loss records) ≡ kinds_of records
 kinds-without_loss [] = refl
-kinds-without_loss (event ∷ records) = rw (kind-without_loss event, kinds-without_loss records) refl
+kinds-without_loss (vte_record ∷ records) = rw (kind-without_loss vte_record, kinds-without_loss records) refl
 
 -- In an area whose first bytes are the data of all entries, their records report their events.
 entries-read : (input area : List ℕ) (used : ℕ) (entries : List Entry) → AreReadable input entries
@@ -172,8 +173,8 @@ entries-read input area used entries readable is_there =
 -- What a call gives comes after what was given, and once nothing is unread, all is given.
 
 -- A call that isn't short of room returns what it has read.
-pub read_count-with_room : (n : ℕ) → n < no_room → read_count n ≡ n
-read_count-with_room n small = grind (arith, nat_tests)
+pub bytes_read-with_room : (n : ℕ) → n < no_room → bytes_read n ≡ n
+bytes_read-with_room n small = grind (arith, nat_tests)
 
 -- Every event has one of eight kinds.
 event-reported : (event : Event) → contains_kind all_kinds (event_kind event) ≡ true
@@ -194,7 +195,11 @@ events-reported (event ∷ events) = rw (event-reported event, events-reported e
 module _ {A : Type 0} {of : List Event → List A} where
   pub given-nothing : {parser : Saved} → events default_limit [] ≡ [] → HasReadSaved parser []
       → HasGiven of parser [] [] []
-  given-nothing no_events has_read = record { already_read = []; reads = has_read; goes_on = λ more. rw no_events refl }
+  given-nothing no_events has_read = record {
+    already_read = [];
+    reads = has_read;
+    total_is = λ more. rw no_events refl;
+  }
 
   pub given-before : (parser : Saved) (given : List A) (stream unread bytes : List ℕ)
       → HasGiven of parser given stream unread
@@ -202,7 +207,7 @@ module _ {A : Type 0} {of : List Event → List A} where
   given-before parser given stream unread bytes has_given = record {
     already_read = has_given.already_read;
     reads = has_given.reads;
-    goes_on = λ more. rw (append_assoc unread, append_assoc stream) (has_given.goes_on (bytes ++ more));
+    total_is = λ more. rw (append_assoc unread, append_assoc stream) (has_given.total_is (bytes ++ more));
   }
 
   -- What a call gives comes next, and the parser goes on from where it stopped.
@@ -213,19 +218,19 @@ module _ {A : Type 0} {of : List Event → List A} where
       → now ++ of (added default_limit next (drop n bytes ++ more))
       ≡ of (added default_limit has_given.already_read (bytes ++ more)))
       → HasGiven of new (before ++ now) stream (drop n bytes ++ rest)
-  given-more {before} {next} now bytes rest n has_given reads goes_on = record {
+  given-more {before} {next} now bytes rest n has_given reads now_is = record {
     already_read = next;
     reads = reads;
-    goes_on =
-        λ more. rw (append_assoc before, append_assoc (drop n bytes), goes_on (rest ++ more), ← append_assoc bytes)
-        (has_given.goes_on more);
+    total_is =
+        λ more. rw (append_assoc before, append_assoc (drop n bytes), now_is (rest ++ more), ← append_assoc bytes)
+        (has_given.total_is more);
   }
 
   pub given-all : of [] ≡ [] → (parser : Saved) (given : List A) (stream : List ℕ) → HasGiven of parser given stream []
       → given ≡ of (events default_limit stream)
   given-all none_of_none parser given stream has_given =
       rw (added-nothing default_limit has_given.already_read, none_of_none, append-nil given, append-nil stream) at
-      (has_given.goes_on [])
+      (has_given.total_is [])
 
 -- ---- entries of an input, if more bytes follow it
 
@@ -242,7 +247,7 @@ run-later input more run start size is_run =
     let same = run-same input more start size is_run.within in
     record {
       within = omega (arith, is_run.within, length-append input more);
-      some = is_run.some;
+      not_empty = is_run.not_empty;
       is_of_kind = rw same is_run.is_of_kind;
     }
 
@@ -267,25 +272,27 @@ entry_events-later input more (InInput run start size ∷ entries) readable =
 
 module _ (old new : EventWriter) (input : List ℕ) (entries : List Entry) (are_empty : AreEmptyBuffers (buffers_of old))
     (has_entries : HasEntries (buffers_of old) (buffers_of new) input entries) (more : List ℕ) where
-  abbrev events-encoded : AreEncoded (flat_map (entry_events (input ++ more)) entries) new.count new.used new.events.now
+  abbrev events-encoded : AreEncoded (flat_map (entry_events (input ++ more)) entries) new.record_count new.data_used
+      new.records.now
       (input ++ more) new.area.now
   events-encoded = record {
     entries = entries;
-    given = refl;
+    events_are = refl;
     readable = readable-later input more entries has_entries.readable;
-    number = omega (arith, ap (λ (held : Buffers). held.count) has_entries.written, are_empty.count);
-    recorded = rw (are_empty.events, are_empty.used) at (ap (λ (held : Buffers). held.events) has_entries.written);
-    size = omega (arith, ap (λ (held : Buffers). held.used) has_entries.written, are_empty.used);
-    held = rw are_empty.area at (ap (λ (held : Buffers). held.area) has_entries.written);
+    count_is = omega (arith, ap (λ (held : Buffers). held.record_count) has_entries.written, are_empty.record_count);
+    records_are =
+        rw (are_empty.records, are_empty.data_used) at (ap (λ (held : Buffers). held.records) has_entries.written);
+    used_is = omega (arith, ap (λ (held : Buffers). held.data_used) has_entries.written, are_empty.data_used);
+    data_is = rw are_empty.area at (ap (λ (held : Buffers). held.area) has_entries.written);
   }
 
   -- A caller finds the events.
-  events-found : events_in new.count new.events.now (input ++ more) new.area.now
+  events-found : events_in new.record_count new.records.now (input ++ more) new.area.now
       ≡ flat_map (entry_events (input ++ more)) entries
-  events-found = sym (records-without_loss (input ++ more) new.area.now (take new.count new.events.now))
-      ∙ rw events-encoded.recorded
-      (entries-read (input ++ more) new.area.now new.used entries
-      (readable-later input more entries has_entries.readable) events-encoded.held)
+  events-found = sym (records-without_loss (input ++ more) new.area.now (take new.record_count new.records.now))
+      ∙ rw events-encoded.records_are
+      (entries-read (input ++ more) new.area.now new.data_used entries
+      (readable-later input more entries has_entries.readable) events-encoded.data_is)
 
 -- ---- what a call ensures, and the counts that its caller gets
 
@@ -295,49 +302,56 @@ pub call-fed : {old new : EventWriter} {parser : Parser 1024} {saved : Saved} {g
     → {before : Saved} (has_reported : HasReported (buffers_of old).kinds before given stream (bytes ++ rest))
     → HasReadOn (buffers_of old) (buffers_of new) parser has_reported.already_read bytes 0 n
     → ((already_read : List ℕ) → HasRead parser already_read → HasReadSaved saved already_read)
-    → (NoRecordStops (buffers_of old).stops (buffers_of new).events → 0 < length bytes → 0 < n)
+    → (NoRecordStops (buffers_of old).stop_kinds (buffers_of new).records → 0 < length bytes → 0 < n)
     → HasFed old new saved given stream bytes rest n
 call-fed {old} {new} {given} {stream} {bytes} {rest} {n} are_empty has_reported has_read_on saves further =
-    let there = events-encoded old new bytes has_read_on.goes.entries are_empty has_read_on.goes.holds in
-    let finds = events-found old new bytes has_read_on.goes.entries are_empty has_read_on.goes.holds in
+    let reads_on = has_read_on.reads_on in
+    let there = events-encoded old new bytes reads_on.entries are_empty reads_on.holds in
+    let finds = events-found old new bytes reads_on.entries are_empty reads_on.holds in
     record {
-      events_name = ap (λ (held : Buffers). held.events_name) has_read_on.goes.holds.written;
-      area_name = ap (λ (held : Buffers). held.area_name) has_read_on.goes.holds.written;
-      reads_some = λ no_stops. further (rw (kinds-without_loss (take new.count new.events.now)) no_stops);
+      same_records_name = ap (λ (held : Buffers). held.records_name) reads_on.holds.written;
+      same_area_name = ap (λ (held : Buffers). held.area_name) reads_on.holds.written;
+      reads_some = λ no_stops. further (rw (kinds-without_loss (take new.record_count new.records.now)) no_stops);
       at_most_one_follows =
-          rw (← kinds-without_loss (take new.count new.events.now), (there []).recorded, ← are_empty.used)
-          has_read_on.goes.holds.at_most_one_follows;
+          rw (
+            ← kinds-without_loss (take new.record_count new.records.now),
+            (there []).records_are,
+            ← are_empty.data_used,
+          )
+          reads_on.holds.at_most_one_follows;
       encodes = λ more. rw (finds more) (there more);
       reports = λ more.
-          rw (finds more, entry_events-later bytes more has_read_on.goes.entries has_read_on.goes.holds.readable)
-          (given-more (flat_map (entry_events bytes) has_read_on.goes.entries) bytes rest n has_reported
+          rw (finds more, entry_events-later bytes more reads_on.entries reads_on.holds.readable)
+          (given-more (flat_map (entry_events bytes) reads_on.entries) bytes rest n has_reported
           (saves has_read_on.next has_read_on.reads)
-          (λ later. rw (has_read_on.goes.continues.goes_on later, filter-append, has_read_on.goes.shows) refl));
+          (λ later. rw (reads_on.continues.added_parts later, filter-append, reads_on.events_are) refl));
     }
 
 -- The caller's counts, and what its slices hold, are those of the writer.
-pub record AreOfBuffers (writer : EventWriter) (count used : ℕ) (records : List VteEvent) (area : List ℕ) : Type 0 where
-  pub same_count : count ≡ writer.count
-  pub same_used : used ≡ writer.used
-  pub same_records : records ≡ writer.events.now
+pub record AreOfBuffers (writer : EventWriter) (record_count data_used : ℕ) (records : List VteEvent)
+    (area : List ℕ) : Type 0 where
+  pub same_count : record_count ≡ writer.record_count
+  pub same_used : data_used ≡ writer.data_used
+  pub same_records : records ≡ writer.records.now
   pub same_area : area ≡ writer.area.now
 
 -- A count is at most the length of its slice, which a call leaves as it is.
 pub counts-of_writer : {events : List Event} {input area : List ℕ} {records : List VteEvent} (writer : EventWriter)
-    (count used : ℕ)
-    → AreEncoded events writer.count writer.used writer.events.now input writer.area.now → records ≡ writer.events.now
+    (record_count data_used : ℕ)
+    → AreEncoded events writer.record_count writer.data_used writer.records.now input writer.area.now
+    → records ≡ writer.records.now
     → area ≡ writer.area.now
-    → count ≡ min writer.count (length records) → used ≡ min writer.used (length area)
-    → AreOfBuffers writer count used records area
-counts-of_writer writer count used encoded records area count_is used_is =
-    let at_most = length-take writer.count writer.events.now in
-    let small = length-take writer.used writer.area.now in
-    let same_length = length-map (take writer.count writer.events.now) without_loss in
+    → record_count ≡ min writer.record_count (length records) → data_used ≡ min writer.data_used (length area)
+    → AreOfBuffers writer record_count data_used records area
+counts-of_writer writer record_count data_used encoded records area count_is used_is =
+    let at_most = length-take writer.record_count writer.records.now in
+    let small = length-take writer.data_used writer.area.now in
+    let same_length = length-map (take writer.record_count writer.records.now) without_loss in
     let entry_count = length-records 0 encoded.entries in
     record {
       same_count =
-          omega (arith, encoded.number, entry_count, ap length encoded.recorded, same_length, ap length records);
-      same_used = omega (arith, encoded.size, ap length encoded.held, ap length area);
+          omega (arith, encoded.count_is, entry_count, ap length encoded.records_are, same_length, ap length records);
+      same_used = omega (arith, encoded.used_is, ap length encoded.data_is, ap length area);
       same_records = records;
       same_area = area;
     }

@@ -16,13 +16,13 @@ with_all-append : (buffer : WrittenText) (front back : List ℕ)
 with_all-append buffer front back = rw (append_assoc buffer.text, add_assoc buffer.used, length-append front back) refl
 
 events-written_in_full : (buffer : WrittenText) (events : List Event) → buffer.fits ≡ true
-    → buffer.used + length (plain_text events) ≤ buffer.size
+    → buffer.used + length (plain_text events) ≤ buffer.capacity
     → after text_with_event buffer events ≡ with_all buffer (plain_text events)
 unfolding text_with
 events-written_in_full buffer [] has_fitted fits = simp (append-nil, add-zero)
 events-written_in_full buffer (event ∷ events) has_fitted fits =
     let all = length-append (plain_text_of event) (plain_text events) in
-    let first : (buffer.fits && nat_le (buffer.used + length (plain_text_of event)) buffer.size) ≡ true =
+    let first : (buffer.fits && nat_le (buffer.used + length (plain_text_of event)) buffer.capacity) ≡ true =
     rw has_fitted (le-leb _ _ (omega arith)) in
     rw first
     (events-written_in_full (with_all buffer (plain_text_of event)) events has_fitted (omega arith)
@@ -34,10 +34,10 @@ text_with-append : (buffer : WrittenText) (front back : List ℕ)
     → text_with (text_with buffer front) back ≡ text_with buffer (front ++ back)
 unfolding text_with
 text_with-append buffer front back =
-    elim (cases_Bool (buffer.fits && nat_le (buffer.used + length front) buffer.size)) [
+    elim (cases_Bool (buffer.fits && nat_le (buffer.used + length front) buffer.capacity)) [
       | inl has_room ↦ rw (has_room, append_assoc buffer.text, add_assoc buffer.used, length-append front back) refl
       | inr full ↦
-          let both_full : (buffer.fits && nat_le (buffer.used + length (front ++ back)) buffer.size) ≡ false =
+          let both_full : (buffer.fits && nat_le (buffer.used + length (front ++ back)) buffer.capacity) ≡ false =
           grind (arith, nat_tests, length-append) in
           rw (full, both_full) refl
     ]
@@ -83,18 +83,19 @@ pub has_text-more : {old new later : WrittenText} {stream bytes : List ℕ} {n :
     (chunk : List ℕ) → old.fits ≡ true
     → length (plain_text (added default_limit (stream ++ take n bytes) chunk)) ≤ 8 * length chunk
     → HasTextOf old new stream bytes n parser
-    → take (n + length chunk) bytes ≡ take n bytes ++ chunk → new.used + 8 * length chunk ≤ new.size
+    → take (n + length chunk) bytes ≡ take n bytes ++ chunk → new.used + 8 * length chunk ≤ new.capacity
     → later ≡ after text_with_event new (added default_limit (stream ++ take n bytes) chunk)
     → HasRead parser_later ((stream ++ take n bytes) ++ chunk)
     → HasTextOf old later stream bytes (n + length chunk) parser_later
-has_text-more {old} {new} {stream} {bytes} {n} chunk kept slow has_text parts fits performed parsed =
+has_text-more {old} {new} {stream} {bytes} {n} chunk has_fitted slow has_text parts fits performed parsed =
     let before = added default_limit stream (take n bytes) in
     let more = added default_limit (stream ++ take n bytes) chunk in
     record {
       parsed = rw (parts, ← append_assoc) parsed;
       holds =
           rw (parts, added-append default_limit stream (take n bytes) chunk, flat_map-append plain_text_of before more)
-          (performed ∙ events-written_in_full new more (ap (λ (held : WrittenText). held.fits) has_text.holds ∙ kept)
+          (performed
+          ∙ events-written_in_full new more (ap (λ (held : WrittenText). held.fits) has_text.holds ∙ has_fitted)
           (omega (arith, fits, slow))
           ∙ ap (λ (held : WrittenText). with_all held (plain_text more)) has_text.holds
           ∙ with_all-append old (plain_text before) (plain_text more));

@@ -12,71 +12,73 @@ use Rattle.vte_c.specs.Record.{contains_kind, data_kind, data_of, event_kind, ma
 -- What was written, how much that is, how much fits, which kinds to write and after which to stop.
 -- It is paused after a command that may have lost data. The names identify the caller's slices.
 pub record Buffers : Type 0 where
-  pub events : List VteEvent
-  pub count : ℕ
-  pub capacity : ℕ
+  pub records : List VteEvent
+  pub record_count : ℕ
+  pub record_capacity : ℕ
   pub area : List ℕ
-  pub used : ℕ
-  pub size : ℕ
+  pub data_used : ℕ
+  pub data_capacity : ℕ
   pub kinds : ℕ
-  pub stops : ℕ
+  pub stop_kinds : ℕ
   pub has_stopped : Bool
-  pub paused : Bool
-  pub events_name : ℕ
+  pub is_paused : Bool
+  pub records_name : ℕ
   pub area_name : ℕ
 
 abbrev pub buffers_of : EventWriter → Buffers
 buffers_of writer = record {
-  events = map without_loss (take writer.count writer.events.now);
-  count = writer.count;
-  capacity = length writer.events.now;
-  area = take writer.used writer.area.now;
-  used = writer.used;
-  size = writer.size;
+  records = map without_loss (take writer.record_count writer.records.now);
+  record_count = writer.record_count;
+  record_capacity = length writer.records.now;
+  area = take writer.data_used writer.area.now;
+  data_used = writer.data_used;
+  data_capacity = writer.data_capacity;
   kinds = writer.kinds;
-  stops = writer.stops;
+  stop_kinds = writer.stop_kinds;
   has_stopped = writer.has_stopped;
-  paused = writer.paused;
-  events_name = writer.events.ghost_name;
+  is_paused = writer.is_paused;
+  records_name = writer.records.ghost_name;
   area_name = writer.area.ghost_name;
 }
 
 -- A record is written if there is room for it.
 unfoldable pub with_record_alone : Buffers → VteEvent → Buffers
-with_record_alone buffers event =
-    if nat_lt buffers.count buffers.capacity then record buffers {
-      events = buffers.events ++ without_loss event ∷ [];
-      count = buffers.count + 1;
-      has_stopped = buffers.has_stopped || contains_kind buffers.stops event.kind;
+with_record_alone buffers vte_record =
+    if nat_lt buffers.record_count buffers.record_capacity then record buffers {
+      records = buffers.records ++ without_loss vte_record ∷ [];
+      record_count = buffers.record_count + 1;
+      has_stopped = buffers.has_stopped || contains_kind buffers.stop_kinds vte_record.kind;
     }
     else buffers
 
--- There is room for an event with this many data bytes.
-abbrev pub has_room_for : Buffers → ℕ → Bool
-has_room_for buffers more =
-    nat_lt buffers.count buffers.capacity && nat_le (buffers.used + more) buffers.size
+-- There is room for a record with this many data bytes.
+abbrev pub has_room_for_record : Buffers → ℕ → Bool
+has_room_for_record buffers more =
+    nat_lt buffers.record_count buffers.record_capacity
+    && nat_le (buffers.data_used + more) buffers.data_capacity
 
 -- A record is written with its data, which follows that of the others, if there is room for both.
 unfoldable pub with_record : Buffers → VteEvent → List ℕ → Buffers
-with_record buffers event bytes =
+with_record buffers vte_record bytes =
     let written = record buffers {
       area = buffers.area ++ bytes;
-      used = buffers.used + length bytes;
+      data_used = buffers.data_used + length bytes;
     } in
-    if has_room_for buffers (length bytes)
-    then with_record_alone written (record event { start = buffers.used })
+    if has_room_for_record buffers (length bytes)
+    then with_record_alone written (record vte_record { start = buffers.data_used })
     else buffers
 
--- A record of the kinds is written.
-abbrev pub with_reported : Buffers → VteEvent → List ℕ → Buffers
-with_reported buffers event bytes =
-    if contains_kind buffers.kinds event.kind then with_record buffers event bytes else buffers
+-- A record of the kinds is written, with its data.
+abbrev pub with_wanted_record : Buffers → VteEvent → List ℕ → Buffers
+with_wanted_record buffers vte_record bytes =
+    if contains_kind buffers.kinds vte_record.kind
+    then with_record buffers vte_record bytes else buffers
 
 abbrev pub paused_if : Bool → Buffers → Buffers
-paused_if pauses buffers = record buffers { paused = pauses || buffers.paused }
+paused_if pauses buffers = record buffers { is_paused = pauses || buffers.is_paused }
 
 abbrev pub resumed : Buffers → Buffers
-resumed buffers = record buffers { paused = false }
+resumed buffers = record buffers { is_paused = false }
 
 abbrev pub buffers_with_event : Buffers → Event → Buffers
 buffers_with_event buffers event =
@@ -87,14 +89,15 @@ buffers_with_event buffers event =
 -- After what was written, the area holds a text up to `end`, or has no room for it.
 pub record AreaHolds (buffers : Buffers) (writer : EventWriter) (end : ℕ)
     (text : List ℕ) : Type 0 where
-  pub same : buffers_of writer ≡ buffers
-  pub ends : end ≡ min (buffers.used + length text) (2 ^ 64 - 1)
-  pub held : end ≤ buffers.size → take end writer.area.now ≡ buffers.area ++ text
+  pub same_buffers : buffers_of writer ≡ buffers
+  pub end_is : end ≡ min (buffers.data_used + length text) (2 ^ 64 - 1)
+  pub data_is : end ≤ buffers.data_capacity → take end writer.area.now ≡ buffers.area ++ text
 
 -- A run of the kinds is written.
 abbrev pub with_run_record : Buffers → VteEvent → Buffers
-with_run_record buffers event =
-    if contains_kind buffers.kinds event.kind then with_record_alone buffers event else buffers
+with_run_record buffers vte_record =
+    if contains_kind buffers.kinds vte_record.kind
+    then with_record_alone buffers vte_record else buffers
 
 -- The record of a run that the parser returned for the bytes from an offset on. Without a run a
 -- pause ends.
@@ -116,16 +119,17 @@ AreCharacters _ = ⊤
 -- There may be no room for what one byte adds, or a stop or a pause has come.
 abbrev pub must_return : Buffers → Bool
 must_return buffers =
-    buffers.has_stopped || buffers.paused || nat_lt (buffers.capacity - buffers.count) 2
-    || nat_lt (buffers.size - buffers.used) max_data_per_byte
+    buffers.has_stopped || buffers.is_paused
+    || nat_lt (buffers.record_capacity - buffers.record_count) 2
+    || nat_lt (buffers.data_capacity - buffers.data_used) max_data_per_byte
 
 -- Empty buffers, large enough for what two bytes add.
 pub record AreEmptyBuffers (buffers : Buffers) : Type 0 where
-  pub events : buffers.events ≡ []
+  pub records : buffers.records ≡ []
   pub area : buffers.area ≡ []
-  pub count : buffers.count ≡ 0
-  pub used : buffers.used ≡ 0
-  pub has_stopped : buffers.has_stopped ≡ false
-  pub paused : buffers.paused ≡ false
-  pub capacity : min_events ≤ buffers.capacity
-  pub size : min_data ≤ buffers.size
+  pub record_count : buffers.record_count ≡ 0
+  pub data_used : buffers.data_used ≡ 0
+  pub not_stopped : buffers.has_stopped ≡ false
+  pub not_paused : buffers.is_paused ≡ false
+  pub enough_records : min_events ≤ buffers.record_capacity
+  pub enough_data : min_data ≤ buffers.data_capacity

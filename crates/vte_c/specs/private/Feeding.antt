@@ -20,7 +20,7 @@ pub record IsPrefix (events all : List Event) : Type 0 where
 -- After n of the bytes these events were reported, and a parser that had read one stream continues
 -- as one that has read another.
 pub record Continues (already_read next bytes : List ℕ) (n : ℕ) (given : List Event) : Type 0 where
-  pub goes_on : (more : List ℕ) →
+  pub added_parts : (more : List ℕ) →
       added default_limit already_read (bytes ++ more)
       ≡ given ++ added default_limit next (drop n bytes ++ more)
   -- what a prefix of the bytes adds, beyond the first n
@@ -30,31 +30,31 @@ pub record Continues (already_read next bytes : List ℕ) (n : ℕ) (given : Lis
 
 -- Whether a record is of the kinds.
 abbrev pub any_of_kinds : ℕ → List VteEvent → Bool
-any_of_kinds kinds records = list_any (λ vte_event. contains_kind kinds vte_event.kind) records
+any_of_kinds kinds records = list_any (λ vte_record. contains_kind kinds vte_record.kind) records
 
 -- No record is of the kinds.
 abbrev pub NoRecordStops : ℕ → List VteEvent → Type 0
-NoRecordStops stops records = NoKindStops stops (kinds_of records)
+NoRecordStops stop_kinds records = NoKindStops stop_kinds (kinds_of records)
 
 -- No event stops a call into these buffers.
 abbrev pub NoEventStopsIn : Buffers → List Event → Type 0
-NoEventStopsIn buffers events = NoEventStops (is_stop buffers.kinds buffers.stops) events
+NoEventStopsIn buffers events = NoEventStops (is_stop buffers.kinds buffers.stop_kinds) events
 
 -- Neither text nor data stop a call into these buffers.
 abbrev pub NoRunStops : Buffers → Type 0
 NoRunStops buffers =
-    (is_stop buffers.kinds buffers.stops text_kind ≡ false)
-    × (is_stop buffers.kinds buffers.stops data_kind ≡ false)
+    (is_stop buffers.kinds buffers.stop_kinds text_kind ≡ false)
+    × (is_stop buffers.kinds buffers.stop_kinds data_kind ≡ false)
 
 -- The buffers with the records of these entries, and their data.
 abbrev pub with_entries : Buffers → List Entry → Buffers
 with_entries buffers entries = record buffers {
-  events = buffers.events ++ records_from buffers.used entries;
-  count = buffers.count + length entries;
+  records = buffers.records ++ records_from buffers.data_used entries;
+  record_count = buffers.record_count + length entries;
   area = buffers.area ++ flat_map entry_data entries;
-  used = buffers.used + length (flat_map entry_data entries);
-  has_stopped = buffers.has_stopped || any_of_kinds buffers.stops
-      (records_from buffers.used entries);
+  data_used = buffers.data_used + length (flat_map entry_data entries);
+  has_stopped = buffers.has_stopped || any_of_kinds buffers.stop_kinds
+      (records_from buffers.data_used entries);
 }
 
 -- These entries were written: the buffers hold their records and their data, and at most two of
@@ -62,8 +62,8 @@ with_entries buffers entries = record buffers {
 pub record HasEntries (old new : Buffers) (input : List ℕ) (entries : List Entry) : Type 0 where
   pub readable : AreReadable input entries
   pub written : new ≡ with_entries old entries
-  pub at_most_one_follows : AtMostOneFollowsStop old.stops
-      (kinds_of (records_from old.used entries))
+  pub at_most_one_follows : AtMostOneFollowsStop old.stop_kinds
+      (kinds_of (records_from old.data_used entries))
 
 -- After bytes up to an offset n more were read: their events of the kinds are those of entries,
 -- which were written, and the parser goes on as if it had read `next`.
@@ -72,9 +72,9 @@ pub record ReadsOn (old new : Buffers) (already_read next bytes : List ℕ)
   pub given : List Event
   pub entries : List Entry
   pub continues : Continues already_read next (drop from bytes) n given
-  pub shows : flat_map (entry_events bytes) entries ≡ wanted_events old.kinds given
+  pub events_are : flat_map (entry_events bytes) entries ≡ wanted_events old.kinds given
   pub holds : HasEntries old new bytes entries
-  pub before : NoRunStops old → (i : ℕ) → i < n →
+  pub no_stop_before : NoRunStops old → (i : ℕ) → i < n →
       NoEventStopsIn old (added default_limit already_read (take i (drop from bytes)))
 
 -- A call that had read bytes up to an offset has read n more.
@@ -82,22 +82,23 @@ pub record HasReadOn (old new : Buffers) (parser : Parser 1024) (already_read by
     (from n : ℕ) : Type 0 where
   pub next : List ℕ
   pub reads : HasRead parser next
-  pub goes : ReadsOn old new already_read next bytes from n
+  pub reads_on : ReadsOn old new already_read next bytes from n
 
 -- A call read the first n bytes and wrote their events into the caller's buffers, where they are
 -- found whatever follows the bytes.
 pub record HasFed (old new : EventWriter) (parser : Saved) (given : List Event)
     (stream bytes rest : List ℕ) (n : ℕ) : Type 0 where
-  pub events_name : new.events.ghost_name ≡ old.events.ghost_name
-  pub area_name : new.area.ghost_name ≡ old.area.ghost_name
-  pub reads_some : NoKindStops (buffers_of old).stops (kinds_of (take new.count new.events.now)) →
+  pub same_records_name : new.records.ghost_name ≡ old.records.ghost_name
+  pub same_area_name : new.area.ghost_name ≡ old.area.ghost_name
+  pub reads_some :
+      NoKindStops (buffers_of old).stop_kinds (kinds_of (take new.record_count new.records.now)) →
       0 < length bytes → 0 < n
-  pub at_most_one_follows : AtMostOneFollowsStop (buffers_of old).stops
-      (kinds_of (take new.count new.events.now))
+  pub at_most_one_follows : AtMostOneFollowsStop (buffers_of old).stop_kinds
+      (kinds_of (take new.record_count new.records.now))
   pub encodes : (more : List ℕ) →
-      AreEncoded (events_in new.count new.events.now (bytes ++ more) new.area.now)
-      new.count new.used new.events.now (bytes ++ more) new.area.now
+      AreEncoded (events_in new.record_count new.records.now (bytes ++ more) new.area.now)
+      new.record_count new.data_used new.records.now (bytes ++ more) new.area.now
   pub reports : (more : List ℕ) →
       HasReported (buffers_of old).kinds parser
-      (given ++ events_in new.count new.events.now (bytes ++ more) new.area.now)
+      (given ++ events_in new.record_count new.records.now (bytes ++ more) new.area.now)
       stream (drop n bytes ++ rest)

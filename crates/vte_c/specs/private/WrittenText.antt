@@ -12,7 +12,7 @@ use Rattle.vte_c.specs.declared.text.TextWriter.{TextWriter}
 pub record WrittenText : Type 0 where
   pub text : List ℕ
   pub used : ℕ
-  pub size : ℕ
+  pub capacity : ℕ
   pub fits : Bool
   pub name : ℕ
 
@@ -20,7 +20,7 @@ abbrev pub written_text_of : TextWriter → WrittenText
 written_text_of writer = record {
   text = take writer.used writer.bytes.now;
   used = writer.used;
-  size = length writer.bytes.now;
+  capacity = length writer.bytes.now;
   fits = writer.fits;
   name = writer.bytes.ghost_name;
 }
@@ -28,7 +28,7 @@ written_text_of writer = record {
 -- A text is written if there is room for it, and was for all before; otherwise nothing is kept.
 unfoldable pub text_with : WrittenText → List ℕ → WrittenText
 text_with buffer text =
-    if buffer.fits && nat_le (buffer.used + length text) buffer.size
+    if buffer.fits && nat_le (buffer.used + length text) buffer.capacity
     then record buffer { text = buffer.text ++ text; used = buffer.used + length text }
     else record buffer { text = []; used = 0; fits = false }
 
@@ -39,13 +39,13 @@ text_with_event buffer event = text_with buffer (plain_text_of event)
 pub record IsEmptyBuffer (buffer : WrittenText) : Type 0 where
   pub text : buffer.text ≡ []
   pub used : buffer.used ≡ 0
-  pub size : min_text ≤ buffer.size
+  pub enough_room : min_text ≤ buffer.capacity
   pub fits : buffer.fits ≡ true
 
 -- A call read the first n bytes and wrote their text into the caller's buffer.
 pub record StripsMore (old new : TextWriter) (parser : Saved) (text stream bytes rest : List ℕ)
     (n : ℕ) : Type 0 where
-  pub name : new.bytes.ghost_name ≡ old.bytes.ghost_name
-  pub number : new.used ≡ length (take new.used new.bytes.now)
+  pub same_name : new.bytes.ghost_name ≡ old.bytes.ghost_name
+  pub used_is : new.used ≡ length (take new.used new.bytes.now)
   pub strips :
       HasStripped parser (text ++ take new.used new.bytes.now) stream (drop n bytes ++ rest)

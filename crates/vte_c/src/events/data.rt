@@ -5,7 +5,7 @@ ghost use Rattle.std.specs.List.{flat_map};
 ghost use Rattle.vte_c.specs.private.Buffers.{AreaHolds, Buffers, buffers_of};
 ghost use Rattle.vte_c.specs.Record.{group_bytes, piece_bytes};
 
-use super::{EventWriter, bytes_of_one};
+use super::{EventWriter, encode_single_number};
 use crate::event::count_byte;
 use vte_core::Params;
 
@@ -15,7 +15,7 @@ impl EventWriter<'_> {
         ensures { AreaHolds (buffers_of self.old) self.new result
             (flat_map group_bytes params.now) }
     {
-        let mut end = self.used;
+        let mut end = self.data_used;
         for group in params {
             end = self.write_group(end, group);
         }
@@ -29,7 +29,7 @@ impl EventWriter<'_> {
     {
         // most groups have one number
         if let [number] = group {
-            return self.write(start, &bytes_of_one(*number));
+            return self.write(start, &encode_single_number(*number));
         }
         let mut end = self.write(start, &[count_byte(group.len())]);
         for number in group {
@@ -43,7 +43,7 @@ impl EventWriter<'_> {
         ensures { AreaHolds (buffers_of self.old) self.new result (flat_map piece_bytes (map
             (λ piece. piece.now) pieces.now)) }
     {
-        let mut end = self.used;
+        let mut end = self.data_used;
         for piece in pieces {
             end = self.write_piece(end, piece);
         }
@@ -75,7 +75,7 @@ impl EventWriter<'_> {
         ensures not_before_start { start ≤ result }
     {
         let end = start.saturating_add(bytes.len());
-        if end <= self.size {
+        if end <= self.data_capacity {
             self.area[start..end].copy_from_slice(bytes);
         }
         end

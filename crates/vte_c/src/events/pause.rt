@@ -11,7 +11,7 @@ impl EventWriter<'_> {
         ensures { buffers_of self.new ≡ paused_if may_have_lost (buffers_of self.old) }
     {
         if may_have_lost {
-            self.paused = true;
+            self.is_paused = true;
             self.command_index = command_index;
             self.full_at = 0;
         }
@@ -21,10 +21,10 @@ impl EventWriter<'_> {
     pub(super) fn resume(&mut self, lost_data: bool)
         ensures { buffers_of self.new ≡ resumed (buffers_of self.old) }
     {
-        if self.paused {
-            self.paused = false;
-            if !self.has_stopped && self.size - self.used >= MAX_DATA_PER_BYTE {
-                self.full_at = self.events.len().saturating_sub(1);
+        if self.is_paused {
+            self.is_paused = false;
+            if !self.has_stopped && self.data_capacity - self.data_used >= MAX_DATA_PER_BYTE {
+                self.full_at = self.records.len().saturating_sub(1);
             }
             if lost_data {
                 self.write_loss();
@@ -37,11 +37,11 @@ impl EventWriter<'_> {
         ensures { buffers_of self.new ≡ buffers_of self.old }
     {
         let index = self.command_index;
-        if index < self.count
-            && index < self.events.len()
-            && self.events[index].kind == event::OSC
+        if index < self.record_count
+            && index < self.records.len()
+            && self.records[index].kind == event::OSC
         {
-            self.events[index] = self.events[index].with_loss();
+            self.records[index] = self.records[index].with_loss();
         }
     }
 }

@@ -46,11 +46,11 @@ loop-preserved g c =
           omega (arith, length-take-le count c.read.new.buffer c.in-Ok.ensures.bound) in
           run-reads_more (take count c.read.new.buffer) (c.loop.invariant.reads_part input held input_known held_known)
           c.in-Ok.ensures.moves not_empty
-          (λ whole_text has_written. ok-without_error chunk.result works (chunk.ensures.writes whole_text has_written));
+          (λ total_text has_written. ok-without_error chunk.result works (chunk.ensures.writes total_text has_written));
     }
 
 -- The loop also ends after as many reads as there may be.
 pub returns-clause-texts : goal.returns-clause-texts
 returns-clause-texts g c = λ input held input_known held_known.
     let has_read = c.loop.invariant.reads_part input held input_known held_known in
-    run_ends-at_prefix has_read (rw has_read.left refl) (inr c.loop-test.false)
+    run_ends-at_prefix has_read (rw has_read.rest_is refl) (inr c.loop-test.false)

@@ -1,11 +1,11 @@
 -- After this many reads all that was read is written (`HasReadPart`), and the collector is empty.
-use Rattle.event_log.proofs.Common.{empty_text, HasReadSome, List, Some, ℕ, ◌≡◌}
+use Rattle.event_log.proofs.Common.{empty_text, HasReadStream, List, Some, ℕ, ◌≡◌}
 use Rattle.event_log.proofs.lemmas.Progress.{HasReadPart}
 use Rattle.event_log.proofs.pipeline.run_with.Given as goal
 
 abbrev pub invariant-loop : goal.invariant-loop
 invariant-loop g l = record {
-  reads : HasReadSome l.parser;
+  reads : HasReadStream l.parser;
   empty : g.C.Collector.held_text_of l.collector ≡ empty_text;
   reads_part : (input held : List ℕ) → g.R.Source.remaining l.fn.reader ≡ Some input
       → g.W.Sink.contents l.fn.writer ≡ Some held →

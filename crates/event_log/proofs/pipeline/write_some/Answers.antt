@@ -9,6 +9,6 @@ returns-clause-reads g c =
     record { already_read = adds_up.already_read; parsed = adds_up.parsed }
 
 pub returns-clause-writes : goal.returns-clause-writes
-returns-clause-writes g c = λ whole_text has_written.
+returns-clause-writes g c = λ total_text has_written.
     written-more has_written
     (λ part before. (c.collect-unread.ensures.collects part before).adds_up) c.in_ok-write_out.ensures.appends

@@ -1,7 +1,7 @@
 -- The caller's counts and slices are those of the writer (`counts-of_writer`). So what `read_into` ensures, of the
 -- bytes that 32 bits can count, holds for the caller.
-use Rattle.vte_c.proofs.Common.{append_assoc, arith, drop, drop-append-le, Event, HasReported, length, length-take, List, read_count, rules, sym, take, take-append-drop, take-take, ℕ, [], ◌++◌, ◌<◌, ◌∙◌, ◌≡◌, ◌≤◌}
-use Rattle.vte_c.proofs.lemmas.ReadBack.{counts-of_writer, read_count-with_room}
+use Rattle.vte_c.proofs.Common.{append_assoc, arith, bytes_read, drop, drop-append-le, Event, HasReported, length, length-take, List, rules, sym, take, take-append-drop, take-take, ℕ, [], ◌++◌, ◌<◌, ◌∙◌, ◌≡◌, ◌≤◌}
+use Rattle.vte_c.proofs.lemmas.ReadBack.{bytes_read-with_room, counts-of_writer}
 use Rattle.vte_c.proofs.feed.feed.Goals as goal
 
 pub returns : goal.returns
@@ -11,13 +11,13 @@ returns c =
     let read = c.read_into-read in
     let writer = read.new.writer in
     let kinds = c.new-writer.ensures.kinds in
-    let stops = c.new-writer.ensures.stops in
+    let stop_kinds = c.new-writer.ensures.stop_kinds in
     -- The call reads from the first m bytes: all of them, or as many as 32 bits can count.
     let parts : take minimum bytes ++ drop minimum bytes ≡ bytes = take-append-drop minimum bytes in
     let within : read.result ≤ length (take minimum bytes) = read.ensures.within in
     -- So the count that it returns isn't that of a call without room.
-    let count : read_count read.result ≡ read.result =
-    read_count-with_room read.result (omega (arith, within, length-take minimum bytes, c.min-end.ensures)) in
+    let count : bytes_read read.result ≡ read.result =
+    bytes_read-with_room read.result (omega (arith, within, length-take minimum bytes, c.min-end.ensures)) in
     -- `read_into` ensures this of the first m bytes, whatever follows: here the other bytes, and `rest`.
     let feeds =
     λ (given : List Event) (stream rest : List ℕ)
@@ -30,12 +30,12 @@ returns c =
     (has_reported : HasReported c.args.kinds c.args.parser.now given stream (bytes ++ rest)).
     let fed = feeds given stream rest has_reported in
     counts-of_writer writer c.min.result c.min-2.result (fed.encodes [])
-    (c.events-1.given.1.1 (sym (fed.events_name ∙ c.new-writer.ensures.same_events)))
-    (c.area-1.given.1.1 (sym (fed.area_name ∙ c.new-writer.ensures.same_area)))
-    (omega (arith, c.min.ensures, c.count.ensures, c.events-1.given.1.0))
-    (omega (arith, c.min-2.ensures, c.used.ensures, c.area-1.given.1.0)) in
+    (c.records-1.given.1.1 (sym (fed.same_records_name ∙ c.new-writer.ensures.same_records_name)))
+    (c.area-1.given.1.1 (sym (fed.same_area_name ∙ c.new-writer.ensures.same_area_name)))
+    (omega (arith, c.min.ensures, c.record_count.ensures, c.records-1.given.1.0))
+    (omega (arith, c.min-2.ensures, c.data_used.ensures, c.area-1.given.1.0)) in
     record {
-      enough = λ most size. sym count;
+      returns_bytes_read = λ most size. sym count;
       within = omega (arith, count, within, length-take minimum bytes);
       -- What was reported of the first m bytes is reported of all, of which the others are still unread.
       exact = λ given stream rest has_reported.
@@ -48,20 +48,20 @@ returns c =
           let same = of_writer given stream rest has_reported in
           rw (same.same_count, same.same_used, same.same_records, same.same_area)
           (rw parts at ((feeds given stream rest has_reported).encodes (drop minimum bytes)));
-      fits = (omega (arith, c.min.ensures, c.events-1.given.1.0), omega (arith, c.min-2.ensures, c.area-1.given.1.0));
+      fits = (omega (arith, c.min.ensures, c.records-1.given.1.0), omega (arith, c.min-2.ensures, c.area-1.given.1.0));
       -- On this path there is enough room, so neither of these two cases is possible.
       too_few = λ few. record {
         returns_no_room = search rules;
-        events = search rules;
-        bytes = search rules;
-        same = search rules;
+        no_events = search rules;
+        no_bytes = search rules;
+        same_parser = search rules;
         unwritten = search rules;
       };
       too_little = λ little. record {
         returns_no_room = search rules;
-        events = search rules;
-        bytes = search rules;
-        same = search rules;
+        no_events = search rules;
+        no_bytes = search rules;
+        same_parser = search rules;
         unwritten = search rules;
       };
       -- If there is a byte and no record stops, at least one byte is read.
@@ -70,13 +70,14 @@ returns c =
           let there : 0 < length (take minimum bytes) =
           omega (arith, c.min-end.ensures, length-take minimum bytes, not_empty) in
           (feeds given stream rest has_reported).reads_some
-          (rw (stops, ← same.same_count, ← same.same_records) no_stops) there;
+          (rw (stop_kinds, ← same.same_count, ← same.same_records) no_stops) there;
       at_most_one_follows = λ given stream rest has_reported.
           let same = of_writer given stream rest has_reported in
-          rw (same.same_count, same.same_records, ← stops) (feeds given stream rest has_reported).at_most_one_follows;
+          rw (same.same_count, same.same_records, ← stop_kinds)
+          (feeds given stream rest has_reported).at_most_one_follows;
       -- A prefix of the bytes that were read is also one of the first m bytes.
       stops_at_once = λ stream reads not_text not_data i earlier.
           let front = take-take i minimum bytes (omega (arith, count, within, length-take minimum bytes)) in
-          rw (kinds, stops, front) at (read.ensures.stops stream reads
-          (rw (kinds, stops) (not_text, not_data)) i (rw count at earlier));
+          rw (kinds, stop_kinds, front) at (read.ensures.stops_at_once stream reads
+          (rw (kinds, stop_kinds) (not_text, not_data)) i (rw count at earlier));
     }

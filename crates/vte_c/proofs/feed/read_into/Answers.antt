@@ -3,10 +3,11 @@
 use Rattle.vte_c.proofs.lemmas.ReadBack.{call-fed}
 use Rattle.vte_c.proofs.feed.read_into.Goals as goal
 
-pub returns-clause-stops : goal.returns-clause-stops
-returns-clause-stops c =
+pub returns-clause-stops_at_once : goal.returns-clause-stops_at_once
+returns-clause-stops_at_once c =
     λ stream reads no_run_stops i earlier.
-    (c.read_until_full-read.ensures.reads_on stream (c.restore.ensures stream reads)).goes.before no_run_stops i earlier
+    let has_read_on = c.read_until_full-read.ensures.reads_on stream (c.restore.ensures stream reads) in
+    has_read_on.reads_on.no_stop_before no_run_stops i earlier
 
 pub returns-clause-feeds : goal.returns-clause-feeds
 returns-clause-feeds c = λ before stream rest has_reported.

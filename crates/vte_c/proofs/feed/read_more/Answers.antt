@@ -1,8 +1,8 @@
--- A call of the parser goes on to the run that it returns, and by this run (`goes-to-run`), and reads a byte if it can
--- (`goes-further`).
+-- A call of the parser goes on to the run that it returns, and by this run (`reads_on-to_run`), and reads a byte if it
+-- can (`call-reads_some`).
 use Rattle.vte_c.proofs.Common.{arith, buffers_of, default_limit, drop, length, length-drop, List, resumed_stream, take, ℕ, ◌++◌, ◌-◌, ◌≡◌, ◌≤◌}
 use Rattle.vte_core.specs.AdvanceToRun.{run_bytes}
-use Rattle.vte_c.proofs.lemmas.CallSteps.{goes-further, goes-to-run, Laws}
+use Rattle.vte_c.proofs.lemmas.CallSteps.{call-reads_some, Laws, reads_on-to_run}
 use Rattle.vte_c.proofs.feed.read_more.Goals as goal
 use Rattle.std.proofs.lemmas.List.{take_rest}
 
@@ -20,7 +20,7 @@ returns c =
     -- The steps use these laws of `vte_core`.
     let laws : Laws = record {
       units = c.early_stops.ensures.units default_limit;
-      goes_on = c.early_stops.ensures.goes_on default_limit;
+      goes_on = c.early_stops.ensures.adds_up default_limit;
       silent = c.opens_silently.ensures default_limit;
     } in
     -- The record of the run is written after what the parser reported.
@@ -30,13 +30,13 @@ returns c =
       reads_on = λ already_read reads. record {
         next = resumed_stream already_read rest run.start ++ run_bytes run;
         reads = rw unread at (call.ensures.reads already_read reads);
-        goes =
-            goes-to-run (buffers_of c.args.writer.now) (buffers_of call.new.performer)
+        reads_on =
+            reads_on-to_run (buffers_of c.args.writer.now) (buffers_of call.new.performer)
             (buffers_of c.write_run.new.self) already_read bytes c.args.from run laws
             c.requires.has_room begins returned reads c.write_run.ensures.utf8 written;
       };
       reads_some =
-          λ already_read reads are_empty no_stops. goes-further (buffers_of c.args.writer.now)
+          λ already_read reads are_empty no_stops. call-reads_some (buffers_of c.args.writer.now)
           (buffers_of call.new.performer)
           (buffers_of c.write_run.new.self) already_read bytes c.args.from run laws
           c.requires.has_room begins returned reads are_empty c.requires.within written no_stops;

@@ -5,9 +5,9 @@ use Rattle.vte_c.proofs.feed.read_until_full.Given as goal
 abbrev pub invariant-loop-position : goal.invariant-loop-position
 invariant-loop-position l = record {
   within : l.position ≤ length l.bytes;
-  goes : (already_read : List ℕ) → HasRead l.fn.parser already_read
+  reads_on : (already_read : List ℕ) → HasRead l.fn.parser already_read
       → HasReadOn (buffers_of l.fn.writer) (buffers_of l.writer) l.parser already_read l.bytes 0 l.position;
-  first : l.position ≡ 0 → buffers_of l.writer ≡ buffers_of l.fn.writer;
+  nothing_read : l.position ≡ 0 → buffers_of l.writer ≡ buffers_of l.fn.writer;
 }
 
 abbrev pub decreases-loop-position : goal.decreases-loop-position

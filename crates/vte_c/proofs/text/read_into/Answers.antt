@@ -11,7 +11,7 @@ use Rattle.std.proofs.lemmas.List.{take_rest}
 pub loop-count-init : goal.loop-count-init
 loop-count-init c = record {
   within = omega arith;
-  begins = λ at_0. refl;
+  nothing_read = λ at_0. refl;
   written =
       λ stream reads. has_text-nothing (written_text_of c.args.writer.now) c.args.bytes.now
       (c.restore.ensures stream reads);
@@ -31,12 +31,13 @@ loop-count-preserved c =
     let size : length chunk ≡ minimum = rw unread (omega (arith, length-take minimum rest)) in
     let buffer = written_text_of c.loop-count.writer in
     -- The chunk isn't empty, and its text fits, with eight bytes for each of its own.
-    let not_empty : 0 < minimum = omega (arith, c.min-size.ensures, c.left.ensures, c.left-in-loop-count.ensures) in
-    let fits : buffer.used + 8 * length chunk ≤ buffer.size =
-    omega (arith, c.min-size.ensures, c.left.ensures, c.left-in-loop-count.ensures) in
+    let not_empty : 0 < minimum =
+    omega (arith, c.min-size.ensures, c.remaining_room.ensures, c.remaining_room-in-loop-count.ensures) in
+    let fits : buffer.used + 8 * length chunk ≤ buffer.capacity =
+    omega (arith, c.min-size.ensures, c.remaining_room.ensures, c.remaining_room-in-loop-count.ensures) in
     record {
       within = omega (arith, size, at_least);
-      begins = λ past_0. absurd (omega arith);
+      nothing_read = λ past_0. absurd (omega arith);
       -- So the text is written after that of the bytes before the chunk.
       written = λ stream reads.
           let has_text = c.loop-count.invariant.written stream reads in
@@ -56,12 +57,12 @@ returns-clause-strips c = λ before stream rest has_stripped.
     let held = rw c.requires.is_empty.text at (ap (λ (buffer : WrittenText). buffer.text) has_text.holds) in
     let continues = continues-added has_stripped.already_read bytes count in
     record {
-      name = ap (λ (buffer : WrittenText). buffer.name) has_text.holds;
-      number =
+      same_name = ap (λ (buffer : WrittenText). buffer.name) has_text.holds;
+      used_is =
           omega
           (arith, ap (λ (buffer : WrittenText). buffer.used) has_text.holds, ap length held, c.requires.is_empty.used);
       strips = rw held
           (given-more text bytes rest count has_stripped
           (c.save.ensures (has_stripped.already_read ++ take count bytes) has_text.parsed)
-          (λ more. sym (ap plain_text (continues.goes_on more) ∙ flat_map-append plain_text_of _ _)));
+          (λ more. sym (ap plain_text (continues.added_parts more) ∙ flat_map-append plain_text_of _ _)));
     }

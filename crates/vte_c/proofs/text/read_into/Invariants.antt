@@ -6,7 +6,7 @@ use Rattle.vte_c.proofs.text.read_into.Given as goal
 abbrev pub invariant-loop-count : goal.invariant-loop-count
 invariant-loop-count l = record {
   within : l.count ≤ length l.bytes;
-  begins : l.count ≡ 0 → written_text_of l.writer ≡ written_text_of l.fn.writer;
+  nothing_read : l.count ≡ 0 → written_text_of l.writer ≡ written_text_of l.fn.writer;
   written : (stream : List ℕ) → HasReadSaved l.fn.saved stream
       → HasTextOf (written_text_of l.fn.writer) (written_text_of l.writer) stream l.bytes l.count l.parser;
 }

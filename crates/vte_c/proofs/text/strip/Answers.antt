@@ -1,26 +1,26 @@
 -- The caller's slice and count are those of the writer, so what `read_into` ensures holds for the caller.
-use Rattle.vte_c.proofs.Common.{ap, arith, length, length-take, List, read_count, rules, sym, ℕ, ◌++◌, ◌≡◌, ◌≤◌}
+use Rattle.vte_c.proofs.Common.{ap, arith, bytes_read, length, length-take, List, rules, sym, ℕ, ◌++◌, ◌≡◌, ◌≤◌}
 use Rattle.vte_c.specs.Reported.{HasStripped}
-use Rattle.vte_c.proofs.lemmas.ReadBack.{read_count-with_room}
+use Rattle.vte_c.proofs.lemmas.ReadBack.{bytes_read-with_room}
 use Rattle.vte_c.proofs.text.strip.Goals as goal
 
 pub returns : goal.returns
 returns c =
     let read = c.read_into-read in
     let used : ℕ = read.new.writer.used in
-    let count : read_count read.result ≡ read.result = read_count-with_room read.result (omega arith) in
+    let count : bytes_read read.result ≡ read.result = bytes_read-with_room read.result (omega arith) in
     -- The slice holds what the writer's does, and all that was written is in it.
     let of_writer =
     λ (text stream rest : List ℕ) (has_stripped : HasStripped c.args.parser.now text stream (c.args.bytes.now ++ rest)).
     let strips = read.ensures.strips text stream rest has_stripped in
-    let held : c.text-1.given.0 ≡ read.new.writer.bytes.now = c.text-1.given.1.1 (sym strips.name) in
+    let held : c.text-1.given.0 ≡ read.new.writer.bytes.now = c.text-1.given.1.1 (sym strips.same_name) in
     let within : used ≤ length c.args.text.now =
     omega
-    (arith, strips.number, length-take used read.new.writer.bytes.now, ap length held, c.text-1.given.1.0) in
+    (arith, strips.used_is, length-take used read.new.writer.bytes.now, ap length held, c.text-1.given.1.0) in
     let both : (c.text-1.given.0 ≡ read.new.writer.bytes.now) × (used ≤ length c.args.text.now) = (held, within) in
     both in
     record {
-      enough = λ size. sym count;
+      returns_bytes_read = λ size. sym count;
       within = omega (arith, count, read.ensures.within);
       reads_some = search rules;
       fills = λ text stream rest has_stripped size less.

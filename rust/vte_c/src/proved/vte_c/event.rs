@@ -40,7 +40,7 @@ pub struct VteEvent {
 }
 
 impl VteEvent {
-    /// Creates an event with a kind and a character or byte.
+    /// Creates a record of a kind, with a code.
     #[inline(always)]
     pub(crate) fn new(kind: u8, code: u32) -> Self {
         VteEvent {
@@ -57,14 +57,14 @@ impl VteEvent {
     }
 
     /// Creates the record of a text or data in the input.
-    pub(crate) fn run(kind: u8, start: u32, size: u32) -> Self {
+    pub(crate) fn new_run(kind: u8, start: u32, size: u32) -> Self {
         VteEvent {
             start,
             ..VteEvent::new(kind, size)
         }
     }
 
-    /// Returns the event with the first two of these intermediates.
+    /// Returns the record with the first two of these intermediates.
     pub(crate) fn with_intermediates(self, intermediates: &[u8]) -> Self {
         let (count, first, second) = match intermediates {
             [] => (0, 0, 0),
@@ -79,7 +79,7 @@ impl VteEvent {
         }
     }
 
-    /// Returns the event with a flag.
+    /// Returns the record with a flag.
     pub(crate) fn with_flag(self, flag: bool) -> Self {
         VteEvent {
             flag: u8::from(flag),
@@ -95,7 +95,7 @@ impl VteEvent {
         }
     }
 
-    /// Returns the event with a count of groups or pieces.
+    /// Returns the record with a count of groups or pieces.
     pub(crate) fn with_count(self, count: usize) -> Self {
         VteEvent {
             count: count_byte(count),

@@ -26,7 +26,7 @@ fn is_at_limit(pieces: usize, size: usize) -> bool {
 }
 
 /// Returns the bytes of a group with one number.
-fn bytes_of_one(number: u16) -> [u8; 3] {
+fn encode_single_number(number: u16) -> [u8; 3] {
     [1, (number % 256) as u8, (number / 256) as u8]
 }
 
@@ -36,25 +36,25 @@ fn bytes_of_one(number: u16) -> [u8; 3] {
 /// and of a character. It is also terminated after an event of the kinds that stop, and after a
 /// command that may have lost data, so that the parser can be asked whether it has.
 pub(crate) struct EventWriter<'a> {
-    events: &'a mut [VteEvent],
+    records: &'a mut [VteEvent],
     area: &'a mut [u8],
     // how many data bytes there is room for, at offsets of 32 bits
-    size: usize,
-    // how many events were written
-    count: usize,
+    data_capacity: usize,
+    // how many records were written
+    record_count: usize,
     // how many data bytes were written
-    used: usize,
+    data_used: usize,
     // the kinds of events to write
     kinds: u32,
     // the kinds of events after which to stop
-    stops: u32,
-    // whether an event after which to stop was written
+    stop_kinds: u32,
+    // whether a record of these kinds was written
     has_stopped: bool,
     // whether a command came about which the parser wasn't asked yet
-    paused: bool,
+    is_paused: bool,
     // the index of that command's record
     command_index: usize,
-    // the number of events at which the buffers are full: 0 once an event that stops was written,
+    // the number of records at which the buffers are full: 0 once a record that stops was written,
     // in a pause, and if the area has little room left
     full_at: usize,
 }
@@ -62,23 +62,23 @@ pub(crate) struct EventWriter<'a> {
 impl<'a> EventWriter<'a> {
     /// Creates a performer that has written nothing, and writes into these buffers.
     pub(crate) fn new(
-        events: &'a mut [VteEvent],
+        records: &'a mut [VteEvent],
         area: &'a mut [u8],
         kinds: u32,
-        stops: u32,
+        stop_kinds: u32,
     ) -> Self {
-        let full_at = events.len() - 1;
-        let size = area.len().min(u32::MAX as usize);
+        let full_at = records.len() - 1;
+        let data_capacity = area.len().min(u32::MAX as usize);
         EventWriter {
-            events,
+            records,
             area,
-            size,
-            count: 0,
-            used: 0,
+            data_capacity,
+            record_count: 0,
+            data_used: 0,
             kinds,
-            stops,
+            stop_kinds,
             has_stopped: false,
-            paused: false,
+            is_paused: false,
             command_index: 0,
             full_at,
         }
@@ -92,49 +92,49 @@ impl<'a> EventWriter<'a> {
 
     /// Returns whether there may be no room for what one byte adds, or a stop or a pause has come.
     pub(crate) fn must_return(&self) -> bool {
-        self.count >= self.full_at
+        self.record_count >= self.full_at
     }
 
-    /// Returns how many events were written.
-    pub(crate) fn count(&self) -> usize {
-        self.count
+    /// Returns how many records were written.
+    pub(crate) fn record_count(&self) -> usize {
+        self.record_count
     }
 
     /// Returns how many data bytes were written.
-    pub(crate) fn used(&self) -> usize {
-        self.used
+    pub(crate) fn data_used(&self) -> usize {
+        self.data_used
     }
 
     /// Writes a record, if there is room for it.
     #[inline(always)]
-    fn write_record(&mut self, event: VteEvent) {
-        let count = self.count;
-        if count < self.events.len() {
-            self.events[count] = event;
-            self.count = count + 1;
-            if contains_kind(self.stops, event.kind) {
+    fn write_record(&mut self, record: VteEvent) {
+        let count = self.record_count;
+        if count < self.records.len() {
+            self.records[count] = record;
+            self.record_count = count + 1;
+            if contains_kind(self.stop_kinds, record.kind) {
                 self.has_stopped = true;
                 self.full_at = 0;
             }
         }
     }
 
-    /// Writes an event without data.
+    /// Writes the record of an event without data.
     #[inline(always)]
-    fn write_without_data(&mut self, event: VteEvent) {
-        if self.is_wanted(event.kind) {
+    fn write_without_data(&mut self, record: VteEvent) {
+        if self.is_wanted(record.kind) {
             self.write_record(VteEvent {
-                start: self.used as u32,
-                ..event
+                start: self.data_used as u32,
+                ..record
             });
         }
     }
 
-    /// Writes an event and its data, if there is room for both.
+    /// Writes the record and the data of an event, if there is room for both.
     #[inline(always)]
-    fn add(&mut self, event: VteEvent, bytes: &[u8]) {
-        let end = self.write(self.used, bytes);
-        self.finish_event(event, end);
+    fn add(&mut self, record: VteEvent, bytes: &[u8]) {
+        let end = self.write(self.data_used, bytes);
+        self.finish_event(record, end);
     }
 
     /// Writes a run that is in the input. The parser returned it for the bytes from an offset on.
@@ -145,12 +145,12 @@ impl<'a> EventWriter<'a> {
         match run.taken {
             Taken::Text(text) => {
                 if self.is_wanted(event::TEXT) {
-                    self.write_record(VteEvent::run(event::TEXT, start, text.len() as u32));
+                    self.write_record(VteEvent::new_run(event::TEXT, start, text.len() as u32));
                 }
             }
             Taken::Data(data) => {
                 if self.is_wanted(event::DATA) {
-                    self.write_record(VteEvent::run(event::DATA, start, data.len() as u32));
+                    self.write_record(VteEvent::new_run(event::DATA, start, data.len() as u32));
                 }
             }
             Taken::Nothing => self.resume(lost_data),
@@ -163,8 +163,8 @@ impl<'a> EventWriter<'a> {
         if self.is_wanted(event::TEXT) {
             let mut bytes = [0; 4];
             let text = c.encode_utf8(&mut bytes).as_bytes();
-            let event = VteEvent::new(event::TEXT, text.len() as u32).with_flag(true);
-            self.add(event, text);
+            let record = VteEvent::new(event::TEXT, text.len() as u32).with_flag(true);
+            self.add(record, text);
         }
     }
 
@@ -181,7 +181,7 @@ impl<'a> EventWriter<'a> {
         let mut groups = params.iter();
         match (groups.next(), groups.next(), intermediates) {
             (Some([number]), None, []) => {
-                self.write_sequence_with_one(kind, *number, ignore, action);
+                self.write_single_number_sequence(kind, *number, ignore, action);
             }
             _ => self.write_any_sequence(kind, params, intermediates, ignore, action),
         }
@@ -189,12 +189,12 @@ impl<'a> EventWriter<'a> {
 
     /// Writes a sequence with one number.
     #[inline(always)]
-    fn write_sequence_with_one(&mut self, kind: u8, number: u16, ignore: bool, action: char) {
+    fn write_single_number_sequence(&mut self, kind: u8, number: u16, ignore: bool, action: char) {
         if self.is_wanted(kind) {
-            let event = VteEvent::new(kind, action as u32)
+            let record = VteEvent::new(kind, action as u32)
                 .with_flag(ignore)
                 .with_count(1);
-            self.add(event, &bytes_of_one(number));
+            self.add(record, &encode_single_number(number));
         }
     }
 
@@ -210,37 +210,37 @@ impl<'a> EventWriter<'a> {
     ) {
         if self.is_wanted(kind) {
             let end = self.write_groups(params);
-            let event = VteEvent::new(kind, action as u32)
+            let record = VteEvent::new(kind, action as u32)
                 .with_intermediates(intermediates)
                 .with_flag(ignore)
                 .with_count(params.iter().size_hint().0);
-            self.finish_event(event, end);
+            self.finish_event(record, end);
         }
     }
 
     /// Writes an operating system command.
     fn write_command(&mut self, pieces: &[&[u8]], bell_terminated: bool) {
         if self.is_wanted(event::OSC) {
-            let (command_index, start) = (self.count, self.used);
+            let (command_index, start) = (self.record_count, self.data_used);
             let end = self.write_pieces(pieces);
-            let event = VteEvent::new(event::OSC, 0)
+            let record = VteEvent::new(event::OSC, 0)
                 .with_flag(bell_terminated)
                 .with_count(pieces.len());
-            self.finish_event(event, end);
+            self.finish_event(record, end);
             self.pause_if(is_at_limit(pieces.len(), end - start), command_index);
         }
     }
 
     /// Writes the record of an event whose data was written up to `end`, if that is in the area.
     #[inline(always)]
-    fn finish_event(&mut self, event: VteEvent, end: usize) {
-        if end <= self.size && self.count < self.events.len() {
-            let start = self.used as u32;
-            self.used = end;
-            if self.size - self.used < MAX_DATA_PER_BYTE {
+    fn finish_event(&mut self, record: VteEvent, end: usize) {
+        if end <= self.data_capacity && self.record_count < self.records.len() {
+            let start = self.data_used as u32;
+            self.data_used = end;
+            if self.data_capacity - self.data_used < MAX_DATA_PER_BYTE {
                 self.full_at = 0;
             }
-            self.write_record(VteEvent { start, ..event });
+            self.write_record(VteEvent { start, ..record });
         }
     }
 }
@@ -287,10 +287,10 @@ impl Perform for EventWriter<'_> {
     }
 
     fn esc_dispatch(&mut self, intermediates: &[u8], ignore: bool, byte: u8) {
-        let event = VteEvent::new(event::ESC, u32::from(byte))
+        let record = VteEvent::new(event::ESC, u32::from(byte))
             .with_intermediates(intermediates)
             .with_flag(ignore);
-        self.write_without_data(event);
+        self.write_without_data(record);
     }
 
     fn terminated(&self) -> bool {

@@ -30,8 +30,8 @@ pub(crate) fn feed(
     parser: &mut Saved,
     bytes: &[u8],
     kinds: u32,
-    stops: u32,
-    events: &mut [VteEvent],
+    stop_kinds: u32,
+    records: &mut [VteEvent],
     area: &mut [u8],
     counts: &mut VteCounts,
 ) -> usize {
@@ -39,18 +39,18 @@ pub(crate) fn feed(
         events: 0,
         bytes: 0,
     };
-    if events.len() < MIN_EVENTS || area.len() < MIN_DATA {
+    if records.len() < MIN_EVENTS || area.len() < MIN_DATA {
         return NO_ROOM;
     }
-    let (capacity, size) = (events.len(), area.len());
+    let (record_capacity, data_capacity) = (records.len(), area.len());
     // Records have 32 bits for positions in the input.
     let end = bytes.len().min(u32::MAX as usize);
     let bytes = &bytes[..end];
-    let mut writer = EventWriter::new(events, area, kinds, stops);
+    let mut writer = EventWriter::new(records, area, kinds, stop_kinds);
     let read = read_into(parser, bytes, &mut writer);
     *counts = VteCounts {
-        events: writer.count().min(capacity),
-        bytes: writer.used().min(size),
+        events: writer.record_count().min(record_capacity),
+        bytes: writer.data_used().min(data_capacity),
     };
     read
 }

@@ -20,7 +20,7 @@ struct TextWriter<'a> {
 
 impl TextWriter<'_> {
     /// Returns the number of bytes for which there is still room.
-    fn left(&self) -> usize {
+    fn remaining_room(&self) -> usize {
         self.bytes.len().saturating_sub(self.used)
     }
 
@@ -127,9 +127,11 @@ fn read_into(saved: &mut Saved, bytes: &[u8], writer: &mut TextWriter<'_>) -> us
     parser.restore(saved);
     let mut count = 0;
     // The text of a chunk fits whatever its bytes are, so no character needs a stop.
-    while count < bytes.len() && writer.left() >= MAX_TEXT_PER_BYTE {
+    while count < bytes.len() && writer.remaining_room() >= MAX_TEXT_PER_BYTE {
         let unread = &bytes[count..];
-        let size = unread.len().min(writer.left() / MAX_TEXT_PER_BYTE);
+        let size = unread
+            .len()
+            .min(writer.remaining_room() / MAX_TEXT_PER_BYTE);
         let chunk = &unread[..size];
         parser.advance_text(writer, chunk);
         count += chunk.len();

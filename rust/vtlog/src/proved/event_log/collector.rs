@@ -13,7 +13,7 @@ pub(crate) trait Collector {
     fn collect<'a>(&mut self, parser: &mut RunParser, bytes: &'a [u8]) -> &'a [u8];
 
     /// Returns the collected text.
-    fn texts(&self) -> &[u8];
+    fn collected_text(&self) -> &[u8];
 
     /// Clears the text, and forgets that any was lost.
     fn clear(&mut self);

@@ -2,10 +2,10 @@
 //! Lines of text, each appended whole or not at all.
 
 mod fields;
-mod short;
+mod hex;
 
 use crate::array_vec::ArrayVec;
-pub(crate) use short::{line_of_execute, line_of_put};
+pub(crate) use hex::{line_of_execute, line_of_put};
 
 /// The size of a buffer for lines.
 const CAPACITY: usize = 8192;

@@ -81,7 +81,7 @@ fn write_some<'a, C: Collector, W: Sink>(
 
 /// Writes and clears the collected text.
 fn write_out<C: Collector, W: Sink>(collector: &mut C, writer: &mut W) -> Result<(), ()> {
-    writer.write_all(collector.texts())?;
+    writer.write_all(collector.collected_text())?;
     collector.clear();
     Ok(())
 }

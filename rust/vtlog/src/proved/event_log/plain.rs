@@ -111,7 +111,7 @@ impl Collector for Plain {
         unread
     }
 
-    fn texts(&self) -> &[u8] {
+    fn collected_text(&self) -> &[u8] {
         self.bytes()
     }
 

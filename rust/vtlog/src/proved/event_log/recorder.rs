@@ -108,7 +108,7 @@ impl Collector for Recorder {
         &bytes[read..]
     }
 
-    fn texts(&self) -> &[u8] {
+    fn collected_text(&self) -> &[u8] {
         self.bytes()
     }
 

@@ -59,7 +59,7 @@ fn log_streams(rt: &HostRuntime) -> io::Result<u8> {
     let args: Vec<&str> = words.iter().map(|word| word.as_str()).collect(rt.alloc())?;
     let mut input = Device::new(rt.stdin());
     let mut output = Device::new(rt.stdout());
-    let (status, message) = log(&args, &mut input, &mut output);
+    let (status, message) = run_with_arguments(&args, &mut input, &mut output);
     if output.error().map(|error| error.kind()) == Some(ErrorKind::BrokenPipe) {
         // this ends the program silently, as it ends other filters
         return Ok(141);
@@ -91,13 +91,17 @@ fn find_unexpected<'a>(args: &[&'a str]) -> Option<&'a str> {
 /// Returns whether it could be the only argument.
 fn is_known(word: &str) -> bool {
     let args = [word];
-    page_of(&args).is_some() || choose(&args).is_some()
+    find_page(&args).is_some() || choose(&args).is_some()
 }
 
 /// Does what the arguments ask for. Returns the exit status and the message for standard error,
 /// which is empty if there is none.
-fn log<R: Source, W: Sink>(args: &[&str], reader: &mut R, writer: &mut W) -> (u8, &'static str) {
-    if let Some(page) = page_of(args) {
+fn run_with_arguments<R: Source, W: Sink>(
+    args: &[&str],
+    reader: &mut R,
+    writer: &mut W,
+) -> (u8, &'static str) {
+    if let Some(page) = find_page(args) {
         return end(&print(page, writer));
     }
     match choose(args) {
@@ -108,7 +112,7 @@ fn log<R: Source, W: Sink>(args: &[&str], reader: &mut R, writer: &mut W) -> (u8
 }
 
 /// Returns the help or the version, if the argument asks for it.
-fn page_of(args: &[&str]) -> Option<&'static str> {
+fn find_page(args: &[&str]) -> Option<&'static str> {
     match args {
         [arg] if *arg == "-h" || *arg == "--help" => Some(HELP),
         [arg] if *arg == "--version" => Some(VERSION),

@@ -14,8 +14,8 @@ loop-self-preserved c =
     record {
       within = omega arith;
       nothing_read = λ same_length. absurd (omega arith);
-      keeps = λ whole_text before.
-          let has_kept = c.loop-self.invariant.keeps whole_text before in
+      keeps = λ total_text before.
+          let has_kept = c.loop-self.invariant.keeps total_text before in
           text-kept chunk c.split_at.result.1.now (c.bytes_are_brief.ensures default_limit) has_kept
           (rw (c.split_at.ensures.front, c.split_at.ensures.back)
           (take-append-drop c.min.result c.loop-self.unread.now)) (omega arith)

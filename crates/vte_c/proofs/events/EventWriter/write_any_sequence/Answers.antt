@@ -7,5 +7,5 @@ returns-then-is_wanted c =
     let count : c.size_hint.result.0 ≡ length c.args.params.now =
     ap (λ p. p.0) c.size_hint.ensures.value ∙ ap length c.iter.ensures.value in
     rw (sym c.is_wanted.ensures ∙ c.if-is_wanted.true)
-    (rw (c.with_count-event.ensures, c.with_flag.ensures, c.with_intermediates.ensures, c.new.ensures, count) at
+    (rw (c.with_count-record.ensures, c.with_flag.ensures, c.with_intermediates.ensures, c.new.ensures, count) at
     (c.finish_event.ensures _ _ c.write_groups-end.ensures))

@@ -13,8 +13,8 @@ returns-then-is_wanted c =
     let size : ℕ = length (flat_map piece_bytes (map (λ piece. piece.now) c.args.pieces.now)) in
     let holds = c.write_pieces-end.ensures in
     let at_limit =
-    rw (holds.ends, size-without_saturation c.args.self.now.used size (omega arith)) at c.is_at_limit.ensures in
+    rw (holds.end_is, size-without_saturation c.args.self.now.data_used size (omega arith)) at c.is_at_limit.ensures in
     let written =
-    rw (c.with_count-event.ensures, c.with_flag.ensures, c.new.ensures) at (c.finish_event.ensures _ _ holds) in
+    rw (c.with_count-record.ensures, c.with_flag.ensures, c.new.ensures) at (c.finish_event.ensures _ _ holds) in
     rw (sym c.is_wanted.ensures ∙ c.if-is_wanted.true, c.pause_if.ensures, at_limit, length-map)
     (ap (λ (held : Buffers). paused_if (is_at_limit (length c.args.pieces.now) size) held) written)

@@ -10,7 +10,7 @@ group_bytes-one_number (number ∷ next ∷ later) is_one = absurd (omega (arith
 pub returns-in-len1 : goal.returns-in-len1
 returns-in-len1 c = λ buffers text holds.
     rw (group_bytes-one_number c.args.group.now (omega arith))
-    (rw c.bytes_of_one.ensures at (c.write.ensures.holds buffers text holds))
+    (rw c.encode_single_number.ensures at (c.write.ensures.holds buffers text holds))
 
 pub loop-number-preserved : goal.loop-number-preserved
 loop-number-preserved c = λ buffers text holds.

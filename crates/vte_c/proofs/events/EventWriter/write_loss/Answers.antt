@@ -6,10 +6,12 @@ use Rattle.vte_c.proofs.events.EventWriter.write_loss.Goals as goal
 pub returns-then-self-index-eq-OSC : goal.returns-then-self-index-eq-OSC
 returns-then-self-index-eq-OSC c =
     let writer = c.args.self.now in
-    let size : length (set writer.events.now writer.command_index c.with_loss.result) ≡ length writer.events.now =
-    length-set writer.events.now writer.command_index c.with_loss.result in
-    let written : map without_loss (take writer.count (set writer.events.now writer.command_index c.with_loss.result))
-    ≡ map without_loss (take writer.count writer.events.now) =
+    let size : length (set writer.records.now writer.command_index c.with_loss.result) ≡ length writer.records.now =
+    length-set writer.records.now writer.command_index c.with_loss.result in
+    let written : map without_loss
+    (take writer.record_count (set writer.records.now writer.command_index c.with_loss.result))
+    ≡ map without_loss (take writer.record_count writer.records.now) =
     rw c.with_loss.ensures
-    (records-same_without_loss writer.events.now writer.count writer.command_index _ c.if-self-index-eq-OSC.true) in
+    (records-same_without_loss writer.records.now writer.record_count writer.command_index _
+    c.if-self-index-eq-OSC.true) in
     rw (size, written) refl

@@ -2,14 +2,14 @@
 //! The data of events: the groups of a sequence and the pieces of a command, written into the
 //! caller's area.
 
-use super::{bytes_of_one, EventWriter};
+use super::{encode_single_number, EventWriter};
 use crate::proved::vte_c::event::count_byte;
 use vte::Params;
 
 impl EventWriter<'_> {
     /// Writes groups into the area. Returns where they end.
     pub(super) fn write_groups(&mut self, params: &Params) -> usize {
-        let mut end = self.used;
+        let mut end = self.data_used;
         for group in params {
             end = self.write_group(end, group);
         }
@@ -20,7 +20,7 @@ impl EventWriter<'_> {
     fn write_group(&mut self, start: usize, group: &[u16]) -> usize {
         // most groups have one number
         if let [number] = group {
-            return self.write(start, &bytes_of_one(*number));
+            return self.write(start, &encode_single_number(*number));
         }
         let mut end = self.write(start, &[count_byte(group.len())]);
         for number in group {
@@ -31,7 +31,7 @@ impl EventWriter<'_> {
 
     /// Writes the pieces of a command into the area. Returns where they end.
     pub(super) fn write_pieces(&mut self, pieces: &[&[u8]]) -> usize {
-        let mut end = self.used;
+        let mut end = self.data_used;
         for piece in pieces {
             end = self.write_piece(end, piece);
         }
@@ -55,7 +55,7 @@ impl EventWriter<'_> {
     #[inline(always)]
     pub(super) fn write(&mut self, start: usize, bytes: &[u8]) -> usize {
         let end = start.saturating_add(bytes.len());
-        if end <= self.size {
+        if end <= self.data_capacity {
             self.area[start..end].copy_from_slice(bytes);
         }
         end

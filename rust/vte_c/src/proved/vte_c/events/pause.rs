@@ -8,7 +8,7 @@ impl EventWriter<'_> {
     /// Pauses if a command may have lost data, and keeps the index of its record.
     pub(super) fn pause_if(&mut self, may_have_lost: bool, command_index: usize) {
         if may_have_lost {
-            self.paused = true;
+            self.is_paused = true;
             self.command_index = command_index;
             self.full_at = 0;
         }
@@ -16,10 +16,10 @@ impl EventWriter<'_> {
 
     /// Goes on after a pause, and says in the record of the command whether it lost data.
     pub(super) fn resume(&mut self, lost_data: bool) {
-        if self.paused {
-            self.paused = false;
-            if !self.has_stopped && self.size - self.used >= MAX_DATA_PER_BYTE {
-                self.full_at = self.events.len().saturating_sub(1);
+        if self.is_paused {
+            self.is_paused = false;
+            if !self.has_stopped && self.data_capacity - self.data_used >= MAX_DATA_PER_BYTE {
+                self.full_at = self.records.len().saturating_sub(1);
             }
             if lost_data {
                 self.write_loss();
@@ -30,9 +30,11 @@ impl EventWriter<'_> {
     /// Says in the record of the last command that it lost data, if it was written.
     fn write_loss(&mut self) {
         let index = self.command_index;
-        if index < self.count && index < self.events.len() && self.events[index].kind == event::OSC
+        if index < self.record_count
+            && index < self.records.len()
+            && self.records[index].kind == event::OSC
         {
-            self.events[index] = self.events[index].with_loss();
+            self.records[index] = self.records[index].with_loss();
         }
     }
 }

@@ -1,7 +1,7 @@
 // Written by tools/erase from crates/event_log/src/lines/fields.rt: edit that one.
 //! Fields of lines.
 
-use super::short::{hex_length, hex_pair, six_hex_digits};
+use super::hex::{hex_length, hex_pair, six_hex_digits};
 use super::Lines;
 use vte::Params;
 

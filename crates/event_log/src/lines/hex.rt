@@ -1,5 +1,8 @@
-// Written by tools/erase from crates/event_log/src/lines/short.rt: edit that one.
 //! Lines of characters and single bytes, and hex digits.
+ghost use Rattle.std.specs.Prelude.{◌≡◌, ◌≤◌};
+ghost use Rattle.vte_core.specs.Event.{Execute, Print, Put};
+ghost use Rattle.event_log.specs.HeldText.{held_text_of, held_with_text};
+ghost use Rattle.event_log.specs.Lines.{hex_byte, hex_length as hex_length_of, line_of, six_hex_digits as six_hex_digits_of};
 
 use super::Lines;
 
@@ -18,11 +21,14 @@ impl Lines {
     /// Appends the line of a character. Most lines of a log are these, so the length of each copy
     /// is a constant.
     #[inline(always)]
-    pub(crate) fn append_print(&mut self, c: char) {
+    pub(crate) fn append_print(&mut self, c: char)
+        ensures { held_text_of self.new
+            ≡ held_with_text (held_text_of self.old) (line_of (Print c)) }
+    {
         let number = c as u32;
         match number {
-            0..=0xff => self.append(&line_of_print(number as u8)),
-            0x100..=0xffff => {
+            0..0x100 => self.append(&line_of_print(number as u8)),
+            0x100..0x10000 => {
                 let [third, fourth] = hex_pair((number / 0x100) as u8);
                 let [fifth, sixth] = hex_pair((number % 0x100) as u8);
                 self.append(&[
@@ -35,10 +41,14 @@ impl Lines {
 
     /// Appends the line of a character of five or six digits.
     #[inline(never)]
-    fn append_long_print(&mut self, number: u32) {
+    fn append_long_print(&mut self, number: u32)
+        requires { 0x10000 ≤ number }
+        ensures { held_text_of self.new
+            ≡ held_with_text (held_text_of self.old) (line_of (Print number)) }
+    {
         let [first, second, third, fourth, fifth, sixth] = six_hex_digits(number);
         match number {
-            0x10000..=0xfffff => self.append(&[
+            0x10000..0x100000 => self.append(&[
                 b'p', b'r', b'i', b'n', b't', b' ', second, third, fourth, fifth, sixth, b'\n',
             ]),
             _ => self.append(&[
@@ -50,7 +60,9 @@ impl Lines {
 }
 
 /// The line of a character below U+0100.
-pub(super) fn line_of_print(byte: u8) -> [u8; 11] {
+pub(super) fn line_of_print(byte: u8) -> [u8; 11]
+    ensures { result ≡ line_of (Print byte) }
+{
     let [high, low] = hex_pair(byte);
     [
         b'p', b'r', b'i', b'n', b't', b' ', b'0', b'0', high, low, b'\n',
@@ -58,7 +70,10 @@ pub(super) fn line_of_print(byte: u8) -> [u8; 11] {
 }
 
 /// The line of an executed byte.
-pub(crate) fn line_of_execute(byte: u8) -> [u8; 11] {
+#[tactic(auto, unfolding(crate::specs::Lines::line_of, crate::specs::Lines::hex_byte))]
+pub(crate) fn line_of_execute(byte: u8) -> [u8; 11]
+    ensures { result ≡ line_of (Execute byte) }
+{
     let [high, low] = hex_pair(byte);
     [
         b'e', b'x', b'e', b'c', b'u', b't', b'e', b' ', high, low, b'\n',
@@ -66,31 +81,43 @@ pub(crate) fn line_of_execute(byte: u8) -> [u8; 11] {
 }
 
 /// The line of a data byte.
-pub(crate) fn line_of_put(byte: u8) -> [u8; 7] {
+#[tactic(auto, unfolding(crate::specs::Lines::line_of, crate::specs::Lines::hex_byte))]
+pub(crate) fn line_of_put(byte: u8) -> [u8; 7]
+    ensures { result ≡ line_of (Put byte) }
+{
     let [high, low] = hex_pair(byte);
     [b'p', b'u', b't', b' ', high, low, b'\n']
 }
 
 /// The two hex digits of a byte.
-pub(super) fn hex_pair(byte: u8) -> [u8; 2] {
+pub(super) fn hex_pair(byte: u8) -> [u8; 2]
+    ensures { result ≡ hex_byte byte }
+{
     let index = 2 * usize::from(byte);
     [HEX_PAIRS[index], HEX_PAIRS[index + 1]]
 }
 
 /// How many hex digits a number has, at least one and at most six.
-pub(super) fn hex_length(number: u32) -> usize {
+#[tactic(auto, unfolding(crate::specs::Lines::hex_length))]
+pub(super) fn hex_length(number: u32) -> usize
+    ensures value { result ≡ hex_length_of number }
+    ensures at_most_six { result ≤ 6 }
+{
     match number {
-        0..=0xf => 1,
-        0x10..=0xff => 2,
-        0x100..=0xfff => 3,
-        0x1000..=0xffff => 4,
-        0x10000..=0xfffff => 5,
+        0..0x10 => 1,
+        0x10..0x100 => 2,
+        0x100..0x1000 => 3,
+        0x1000..0x10000 => 4,
+        0x10000..0x100000 => 5,
         _ => 6,
     }
 }
 
 /// The last six hex digits of a number.
-pub(super) fn six_hex_digits(number: u32) -> [u8; 6] {
+#[tactic(auto, unfolding(crate::specs::Lines::six_hex_digits, crate::specs::Lines::hex_byte))]
+pub(super) fn six_hex_digits(number: u32) -> [u8; 6]
+    ensures { result ≡ six_hex_digits_of number }
+{
     let [first, second] = hex_pair((number / 0x10000 % 0x100) as u8);
     let [third, fourth] = hex_pair((number / 0x100 % 0x100) as u8);
     let [fifth, sixth] = hex_pair((number % 0x100) as u8);

@@ -1,7 +1,7 @@
 -- A number below 0x100 has two zeros, and then the hex digits of its byte (`Fields`).
 use Rattle.event_log.proofs.Common.{arith, hex_byte, hex_digit, refl, ◌%◌, ◌/◌, ◌≡◌}
 use Rattle.event_log.proofs.lemmas.Fields.{line_of-four_digits}
-use Rattle.event_log.proofs.lines.short.line_of_print.Goals as goal
+use Rattle.event_log.proofs.lines.hex.line_of_print.Goals as goal
 
 pub returns : goal.returns
 unfolding hex_byte hex_digit

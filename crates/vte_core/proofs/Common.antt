@@ -49,7 +49,7 @@ pub use Rattle.vte_core.specs.Text.{ends_run, HasNoRunAt, is_control_character, 
 unfoldable pub use Rattle.vte_core.specs.Text.{character_event, executed_events, malformed_event, segment_event, text_outcome}
 pub use Rattle.vte_core.specs.Utf8.{allowed_length, from_to, is_complete, is_in, Range, rows_after_byte, rows_after_bytes, scalar_of, segments, segments_after}
 unfoldable pub use Rattle.vte_core.specs.Utf8.{is_truncated, is_well_formed, trailing_count, utf8_rows}
-pub use Rattle.vte_core.specs.declared.head.Collected.{Collected}
+pub use Rattle.vte_core.specs.declared.head.CollectedHead.{CollectedHead}
 pub use Rattle.vte_core.specs.declared.head.HeadProgress.{HeadProgress}
 pub use Rattle.vte_core.specs.declared.head.HeadProgress.TheVariants.{Entry, IllShaped, Intermediates, Parameters}
 pub use Rattle.vte_core.specs.declared.parser.State.{State}
@@ -59,15 +59,17 @@ pub use Rattle.vte_core.specs.declared.parser.refused.Refused.{Refused}
 pub use Rattle.vte_core.specs.declared.utf8.Unfinished.{Unfinished}
 pub use Rattle.vte_core.specs.declared.utf8.Unfinished.TheVariants.{Empty, One, Three, Two}
 pub use Rattle.vte_core.specs.private.Scans.{AreIgnored, ArePositions, ArePrintedAscii, ArePut, IsIgnored, IsPrintedAscii, IsRun, IsUtf8Run, PrintsRun, Scans}
-pub use Rattle.vte_core.specs.private.Place.{AtEscape, BytesLead, closing_events_at, InControlSequence, InDeviceControl, InDeviceData, InEscape, InIgnoredString, InSystemCommand, InText, IsAfter, IsSettledPlace, Leads, left_at, Place, rest_outcome}
-pub use Rattle.vte_core.specs.private.Progress.{Advances, chunk_call, ChunkCall, IsAtPosition, IsInsidePosition, IsRefusedInCommand, IsSettled, MayGoOn, ProgressAt, ProgressInside, ReadsUntilRefused, ReadsUpTo}
-pub use Rattle.vte_core.specs.private.Costs.{ahead, seen, SpendsWithin}
-pub use Rattle.vte_core.specs.private.ParserFields.{bytes_of, CountsNumbers, Extends, HasReadHead, HasReadWithLimit, HoldsHead, HoldsIntermediates, HoldsNumbers, IsAtPlace, IsMarker, IsPlaceOfState, may_continue, numbers_from, ReadsHead, SameIntermediates, SameNumbers, StaysIllShaped}
+pub use Rattle.vte_core.specs.private.Place.{AtEscape, BytesLead, closing_events_at, InControlSequence, InDeviceControl, InDeviceData, InEscape, InIgnoredString, InSystemCommand, InText, IsAfter, IsSettledPlace, Leads, Place, rest_outcome, to_close_at}
+pub use Rattle.vte_core.specs.private.Progress.{Advances, any_events, chunk_call, ChunkCall, events_outside_runs, IsAtPosition, IsInsidePosition, IsRefusedInCommand, IsSettled, MayGoOn, ProgressAt, ProgressInside, ReadsUntilRefused, ReadsUpTo}
+pub use Rattle.vte_core.specs.private.Costs.{caller_looks, lookahead, SpendsWithin}
+pub use Rattle.vte_core.specs.private.AtPlace.{HasReadWithLimit, IsAtPlace, IsPlaceOfState}
+pub use Rattle.vte_core.specs.private.HeldHead.{CountsNumbers, HasReadHead, HoldsHead, HoldsIntermediates, HoldsNumbers, IsMarker, numbers_from, ReadsHead, SameIntermediates, SameNumbers, StaysIllShaped}
+pub use Rattle.vte_core.specs.private.OpenCharacter.{bytes_of, Extends, may_continue}
 unfoldable pub use Rattle.vte_core.specs.private.Place.{outcome_from}
-pub use Rattle.vte_core.specs.CommandMemory.{Stored}
+pub use Rattle.vte_core.specs.CommandMemory.{StoredCommand}
 pub use Rattle.vte_core.specs.private.Store.{cut_data, cut_pieces, ends_after, fitting, HoldsItems, pieces_from, PiecesEnd, SameItems}
 pub use Rattle.vte_core.specs.private.Takes.{TakesByte, TakesBytes}
-unfoldable pub use Rattle.vte_core.specs.private.ParserFields.{second_range}
+unfoldable pub use Rattle.vte_core.specs.private.OpenCharacter.{second_range}
 
 -- ---- words of proofs alone
 

@@ -10,7 +10,7 @@ pub mod dividing
 pub mod fields
 -- From a byte at a place to its events and the next place: `PlaceLeads` by cases, `steps` for all bytes.
 pub mod places
--- From a text or body to a stream (`after-reads`), and what follows a broken character.
+-- From a text or body to a stream (`after-leads`), and what follows a broken character.
 pub mod streams
 -- From places to what is reported before a position of a call (`goes_on_from`).
 pub mod EarlyStops

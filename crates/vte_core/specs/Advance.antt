@@ -1,13 +1,13 @@
 -- What calls that read bytes ensure.
 use Rattle.std.specs.Prelude.{Bool, length, List, ℕ, ◌*◌, ◌++◌, ◌+◌, ◌≡◌, ◌≤◌}
 use Rattle.vte_core.specs.Event.{after, Event}
-use Rattle.vte_core.specs.Parser.{Reading}
+use Rattle.vte_core.specs.Parser.{ParserFacts}
 use Rattle.vte_core.specs.Stream.{added}
 use Rattle.vte_core.specs.EarlyStop.{resumed_stream, StopsExactly}
 
--- `advance` and `advance_text`
+-- `advance` and `advance_text` perform what the bytes add to the stream.
 pub record ReadsBytes {V : Type 0} (step : V → Event → V) (old new : V) (bytes : List ℕ)
-    (parser next : Reading) : Type 0 where
+    (parser next : ParserFacts) : Type 0 where
   -- Whatever the parser has read, the performer takes what the bytes add to it.
   pub performs : (stream : List ℕ) → parser.has_read stream
       → new ≡ after step old (added parser.limit stream bytes)
@@ -19,7 +19,7 @@ pub record ReadsBytes {V : Type 0} (step : V → Event → V) (old new : V) (byt
 
 -- `advance_until_terminated` and `advance_text_until_terminated`, which read n of the bytes
 pub record ReadsUntilTerminated {V : Type 0} (step : V → Event → V) (is_terminated : V → Bool)
-    (n : ℕ) (old new : V) (bytes : List ℕ) (parser next : Reading) : Type 0 where
+    (n : ℕ) (old new : V) (bytes : List ℕ) (parser next : ParserFacts) : Type 0 where
   pub within : n ≤ length bytes
   -- The call ends at the first start where the performer is terminated, or else after all bytes.
   pub stops : (stream : List ℕ) → parser.has_read stream

@@ -8,7 +8,7 @@ use Rattle.vte_core.specs.Class.{IsDeviceData}
 use Rattle.vte_core.specs.EarlyStop.{ComesTo, resumed_stream}
 use Rattle.vte_core.specs.Event.{Event, Print, Put}
 use Rattle.vte_core.specs.OutsideRuns.{ReportsOutsideRuns}
-use Rattle.vte_core.specs.Parser.{Reading}
+use Rattle.vte_core.specs.Parser.{ParserFacts}
 use Rattle.vte_core.specs.Stream.{added}
 use Rattle.vte_core.specs.Text.{HasNoControls, HasNoRunAt}
 
@@ -44,7 +44,7 @@ pub record IsRunIn (bytes : List ℕ) (run : Run) : Type 0 where
   pub end : run.end ≡ run.start + length (run_bytes run)
   pub within : run.end ≤ length bytes
   pub bytes_are : run_bytes run ≡ take (length (run_bytes run)) (drop run.start bytes)
-  pub whole : IsLongestRun bytes run.end run.taken
+  pub longest : IsLongestRun bytes run.end run.taken
 
 -- A call returned the run. `HasReadBefore` says which streams the parser had read.
 pub record ReturnsRun {V : Type 0} (step : V → Event → V) (is_terminated : V → Bool) (old new : V)
@@ -62,9 +62,9 @@ pub record ReturnsRun {V : Type 0} (step : V → Event → V) (is_terminated : V
   -- If there is no run, the performer is terminated or all bytes were read.
   pub stops : run.end ≡ run.start → run.start < length bytes → is_terminated new ≡ true
 
--- `advance_to_run`
+-- `advance_to_run` performs what comes before the first run, and returns this.
 pub record ReadsToRun {V : Type 0} (step : V → Event → V) (is_terminated : V → Bool)
-    (run : Run) (old new : V) (bytes : List ℕ) (parser next : Reading) : Type 0 where
+    (run : Run) (old new : V) (bytes : List ℕ) (parser next : ParserFacts) : Type 0 where
   pub returns : ReturnsRun step is_terminated old new parser.limit parser.has_read bytes run
   -- The parser goes on after the run.
   pub reads : (stream : List ℕ) → parser.has_read stream

@@ -4,14 +4,14 @@ use Rattle.vte_core.specs.SystemCommand.{IsCommandData}
 
 -- The capacity for data bytes, the data bytes, where the first 16 pieces end, and whether data
 -- bytes were dropped.
-pub record Stored : Type 0 where
+pub record StoredCommand : Type 0 where
   pub capacity : ℕ
   pub bytes : List ℕ
   pub ends : List ℕ
   pub lost : Bool
 
 -- The memory doesn't suffice for what is held and the data bytes that begin at `from`.
-pub record LacksMemoryAt (held : Stored) (bytes : List ℕ) (from : ℕ) : Type 0 where
+pub record LacksMemoryAt (held : StoredCommand) (bytes : List ℕ) (from : ℕ) : Type 0 where
   pub to : ℕ
   pub within : to ≤ length bytes
   pub are_data : (k : ℕ) → from ≤ k → k < to → IsCommandData (slice_index bytes k)

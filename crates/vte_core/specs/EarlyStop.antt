@@ -21,7 +21,7 @@ breaks_at stream bytes i = breaks (open_character (stream ++ take i bytes)) (dro
 -- A start is a position before one of the bytes where no character is open, or where that byte
 -- breaks the open one.
 pub record IsStart (stream bytes : List ℕ) (i : ℕ) : Type 0 where
-  pub within : i < length bytes
+  pub before_end : i < length bytes
   pub starts : (open_character (stream ++ take i bytes) ≡ []) ⊎ (breaks_at stream bytes i ≡ true)
 
 -- The events reported before position i: those that the first i bytes add, and U+FFFD if the next
@@ -60,7 +60,7 @@ module _ {V : Type 0} (step : V → Event → V) (is_terminated : V → Bool) (o
     pub starts : n < length bytes → IsStart stream bytes n
     -- The bytes from there on in a further call leave the performer as one call with all bytes
     -- would.
-    pub goes_on : after step new (added limit (resumed_stream stream bytes n) (drop n bytes))
+    pub rest_completes : after step new (added limit (resumed_stream stream bytes n) (drop n bytes))
         ≡ after step old (added limit stream bytes)
 
   -- The call stopped at n: at the first start where the performer was terminated or, if there was

@@ -28,7 +28,7 @@ pub record ReportsUnit (limit : Option ℕ) (stream bytes : List ℕ) (i : ℕ) 
   pub unit : List Event
   pub parts : reported_before limit stream bytes i ≡ before ++ unit
   pub brief : AreBrief limit unit
-  pub begun : (before ≡ []) ⊎ AreReportedAtStart limit stream bytes i before
+  pub at_start : (before ≡ []) ⊎ AreReportedAtStart limit stream bytes i before
 
 -- `ReportsUnit` for each position: a performer that is asked at each start is asked after each
 -- unit.

@@ -50,6 +50,7 @@ IsShort (Print c) = IsPrintable c
 IsShort (Execute byte) = IsExecuted byte
 IsShort _ = ⊥
 
+-- At most two events, which are bounded, and the second is short.
 abbrev pub AreBrief : Option ℕ → List Event → Type 0
 AreBrief limit [] = ⊤
 AreBrief limit (event ∷ []) = IsBounded limit event

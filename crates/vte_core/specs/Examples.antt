@@ -176,22 +176,24 @@ buffer_of_two_examples =
 
 pub record CommandExample : Type 0 where
   pub stream : List ℕ
-  pub left : ToClose
+  pub to_close : ToClose
 
 abbrev pub keeps : List ℕ → List (List ℕ) → CommandExample
 keeps items pieces = record {
-  stream = codes "\u{1b}]"
-      ++ items;
-  left = CommandToClose pieces false;
+  stream = codes "\u{1b}]" ++ items;
+  to_close = CommandToClose pieces false;
 }
 
 abbrev pub loses : List ℕ → List (List ℕ) → CommandExample
-loses items pieces = record { stream = codes "\u{1b}]" ++ items; left = CommandToClose pieces true }
+loses items pieces = record {
+  stream = codes "\u{1b}]" ++ items;
+  to_close = CommandToClose pieces true;
+}
 
 abbrev pub LeaveCommands : Option ℕ → List CommandExample → Type 0
 LeaveCommands limit examples =
-    map (λ example. (outcome limit example.stream).left) examples
-    ≡ map (λ example. example.left) examples
+    map (λ example. (outcome limit example.stream).to_close) examples
+    ≡ map (λ example. example.to_close) examples
 
 -- With a buffer of 2 bytes: open commands, and whether they lost data. A `;` that is dropped isn't
 -- data.

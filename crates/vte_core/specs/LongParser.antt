@@ -1,13 +1,13 @@
 -- What a `LongParser` has read, and before which bytes it may be refused memory.
 use Rattle.std.specs.Prelude.{Bool, Err, length, List, None, Ok, Result, ℕ, [], ◌++◌, ◌+◌, ◌<◌, ◌∷◌, ◌≡◌}
 use Rattle.std.specs.List.{concat}
-use Rattle.vte_core.specs.declared.parser.long.LongParser.{LongParser}
+use Rattle.vte_core.specs.declared.parser.long_parser.LongParser.{LongParser}
 use Rattle.vte_core.specs.declared.parser.refused.Refused.{Refused}
 use Rattle.vte_core.specs.CommandMemory.{LacksMemoryAt}
 use Rattle.vte_core.specs.Looks.{total_looks}
-use Rattle.vte_core.specs.private.ParserFields.{HasReadWithLimit}
+use Rattle.vte_core.specs.private.AtPlace.{HasReadWithLimit}
 use Rattle.vte_core.specs.Outcome.{CommandToClose, ToClose}
-use Rattle.vte_core.specs.Parser.{Reading, reading}
+use Rattle.vte_core.specs.Parser.{machine_facts, ParserFacts}
 use Rattle.vte_core.specs.Stream.{outcome}
 use Rattle.vte_core.specs.SystemCommand.{IsCommandData, max_pieces}
 
@@ -19,8 +19,8 @@ HasReadLong parser stream = HasReadWithLimit None parser.machine stream
 abbrev pub lost_data_long : {A : Type 0} → LongParser A → Bool
 lost_data_long parser = parser.machine.command.lost
 
-abbrev pub reading_of_long : {A : Type 0} → LongParser A → Reading
-reading_of_long parser = reading None parser.machine (total_looks parser.looks)
+abbrev pub long_parser_facts : {A : Type 0} → LongParser A → ParserFacts
+long_parser_facts parser = machine_facts None parser.machine (total_looks parser.looks)
 
 -- How many data bytes fit into the memory that a parser has allocated.
 abbrev pub memory_of : {A : Type 0} → LongParser A → ℕ
@@ -45,13 +45,13 @@ open_data_count (CommandToClose pieces lost) = length (concat pieces)
 open_data_count _ = 0
 
 abbrev pub open_command_size : List ℕ → ℕ
-open_command_size stream = open_data_count (outcome None stream).left
+open_command_size stream = open_data_count (outcome None stream).to_close
 
 -- If an operating system command is open, as many bytes are stored as its first 16 pieces have.
 abbrev pub StoresPieces : {A : Type 0} → LongParser A → List ℕ → Type 0
 StoresPieces parser stream =
     (pieces : List (List ℕ)) (lost : Bool)
-    → (outcome None stream).left ≡ CommandToClose pieces lost
+    → (outcome None stream).to_close ≡ CommandToClose pieces lost
     → length parser.machine.command.bytes ≡ length (concat pieces)
 
 -- The stream ends in an open operating system command with fewer than 16 `;`, and the byte is data
@@ -61,7 +61,7 @@ pub record IsDataOfOpenCommand (stream : List ℕ) (byte : ℕ) : Type 0 where
   pub last : List ℕ
   pub lost : Bool
   pub at_most : length pieces < max_pieces
-  pub is_open : (outcome None stream).left ≡ CommandToClose (pieces ++ last ∷ []) lost
+  pub is_open : (outcome None stream).to_close ≡ CommandToClose (pieces ++ last ∷ []) lost
   pub is_data : IsCommandData byte
-  pub joins : (outcome None (stream ++ byte ∷ [])).left
+  pub joins : (outcome None (stream ++ byte ∷ [])).to_close
       ≡ CommandToClose (pieces ++ (last ++ byte ∷ []) ∷ []) lost

@@ -1,19 +1,19 @@
 -- What the calls of a `LongParser` ensure: the same as those of a `Parser`, unless memory is
 -- refused.
 use Rattle.std.specs.Prelude.{Bool, false, IfErr, IfOk, length, List, None, Result, slice_index, take, ℕ, ◌*◌, ◌++◌, ◌+◌, ◌<◌, ◌≡◌, ◌≤◌}
-use Rattle.vte_core.specs.declared.parser.long.LongParser.{LongParser}
+use Rattle.vte_core.specs.declared.parser.long_parser.LongParser.{LongParser}
 use Rattle.vte_core.specs.declared.parser.refused.Refused.{Refused}
 use Rattle.vte_core.specs.EarlyStop.{HasPassedBytes}
 use Rattle.vte_core.specs.Event.{Event}
-use Rattle.vte_core.specs.LongParser.{HasReadLong, IsDataOfOpenCommand, LacksMemory, memory_of, open_command_size, reading_of_long, StoresPieces}
+use Rattle.vte_core.specs.LongParser.{HasReadLong, IsDataOfOpenCommand, LacksMemory, long_parser_facts, memory_of, open_command_size, StoresPieces}
 use Rattle.vte_core.specs.Looks.{total_looks}
-use Rattle.vte_core.specs.Parser.{Reading}
+use Rattle.vte_core.specs.Parser.{ParserFacts}
 
 -- Memory was refused to a call after n of its bytes.
 pub record IsRefusedMemory {V A : Type 0} (rate : ℕ) (step : V → Event → V)
     (is_terminated : V → Bool) (old new : V) (bytes : List ℕ) (parser next : LongParser A)
     (n : ℕ) : Type 0 where
-  pub within : n < length bytes
+  pub before_end : n < length bytes
   -- The performer has what the bytes read add, and was terminated at no start up to there.
   pub passes : (stream : List ℕ) → HasReadLong parser stream
       → HasPassedBytes step is_terminated old None stream bytes new n
@@ -37,12 +37,12 @@ pub record IsRefusedMemory {V A : Type 0} (rate : ℕ) (step : V → Event → V
 pub record ReadsLong {V A Answer : Type 0} (rate : ℕ) (step : V → Event → V)
     (is_terminated : V → Bool) (old new : V) (bytes : List ℕ) (parser next : LongParser A)
     (result : Result Answer Refused)
-    (Reads : Answer → V → V → List ℕ → Reading → Reading → Type 0) : Type 0 where
+    (Reads : Answer → V → V → List ℕ → ParserFacts → ParserFacts → Type 0) : Type 0 where
   pub reads : IfOk result (λ answer.
-      Reads answer old new bytes (reading_of_long parser) (reading_of_long next))
+      Reads answer old new bytes (long_parser_facts parser) (long_parser_facts next))
   pub refuses : IfErr result (λ refused.
       IsRefusedMemory rate step is_terminated old new bytes parser next refused.read)
   -- Memory that was there stays.
-  pub memory : memory_of parser ≤ memory_of next
+  pub keeps_memory : memory_of parser ≤ memory_of next
   -- Of a command that is open then, the parser stores the bytes of its pieces and no others.
   pub stores : (stream : List ℕ) → HasReadLong next stream → StoresPieces next stream

@@ -18,7 +18,7 @@ kind_to_close IgnoredStringToClose = IgnoredString
 -- What the last body of the stream leaves open, or its text if it has no ESC. What is kept of
 -- operating system commands has no effect on it.
 unfoldable pub open_at_end : List ℕ → Open
-open_at_end stream = kind_to_close (outcome None stream).left
+open_at_end stream = kind_to_close (outcome None stream).to_close
 
 -- `open` of a parser that has read these streams
 pub record SaysOpen (limit : Option ℕ) (HasRead : List ℕ → Type 0) (result : Open) : Type 0 where

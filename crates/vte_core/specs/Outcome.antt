@@ -39,16 +39,16 @@ pub record Outcome : Type 0 where
   -- the events, whatever follows
   pub reported : List Event
   -- what an ESC at the end would close
-  pub left : ToClose
+  pub to_close : ToClose
 
 -- An outcome without events, which leaves this to close.
 abbrev pub leaves : ToClose → Outcome
-leaves left = record { reported = []; left = left }
+leaves to_close = record { reported = []; to_close = to_close }
 
 -- An outcome with these events before its own.
 abbrev pub report : List Event → Outcome → Outcome
-report events rest = record { reported = events ++ rest.reported; left = rest.left }
+report events rest = record { reported = events ++ rest.reported; to_close = rest.to_close }
 
 -- All events if an ESC follows.
 abbrev pub events_before_escape : Outcome → List Event
-events_before_escape outcome = outcome.reported ++ closing_events outcome.left
+events_before_escape outcome = outcome.reported ++ closing_events outcome.to_close

@@ -3,7 +3,7 @@ use Rattle.std.specs.Prelude.{Bool, List, Option, Some, ℕ, ◌≡◌}
 use Rattle.vte_core.specs.declared.parser.machine.Machine.{Machine}
 use Rattle.vte_core.specs.declared.parser.Parser.{Parser}
 use Rattle.vte_core.specs.Looks.{total_looks}
-use Rattle.vte_core.specs.private.ParserFields.{HasReadWithLimit}
+use Rattle.vte_core.specs.private.AtPlace.{HasReadWithLimit}
 
 -- The parser continues as one that has read the stream: more bytes give the events that they add to
 -- it. A new parser has read the empty stream, and each call preserves the relation. Callers need to
@@ -17,24 +17,24 @@ lost_data parser = parser.machine.command.lost
 
 -- What contracts know of a parser with a limit or without one: this limit, which streams it has
 -- read, whether it lost data, and its looks.
-pub record Reading : Type 1 where
+pub record ParserFacts : Type 1 where
   pub limit : Option ℕ
   pub has_read : List ℕ → Type 0
   pub lost : Bool
   pub looks : ℕ
 
-abbrev pub reading : {B : Type 0} → Option ℕ → Machine B → ℕ → Reading
-reading limit machine looks = record {
+abbrev pub machine_facts : {B : Type 0} → Option ℕ → Machine B → ℕ → ParserFacts
+machine_facts limit machine looks = record {
   limit = limit;
   has_read = HasReadWithLimit limit machine;
   lost = machine.command.lost;
   looks = looks;
 }
 
-abbrev pub reading_of : {N : ℕ} → Parser N → Reading
-reading_of {N} parser = reading (Some N) parser.machine (total_looks parser.looks)
+abbrev pub parser_facts : {N : ℕ} → Parser N → ParserFacts
+parser_facts {N} parser = machine_facts (Some N) parser.machine (total_looks parser.looks)
 
 -- The copy continues as the parser does: it has read the same, and lost data of the same command.
-pub record IsCloneOfParser (parser clone : Reading) : Type 0 where
+pub record IsCloneOfParser (parser clone : ParserFacts) : Type 0 where
   pub reads : (stream : List ℕ) → parser.has_read stream → clone.has_read stream
   pub lost : clone.lost ≡ parser.lost

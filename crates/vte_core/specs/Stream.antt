@@ -57,4 +57,4 @@ IsUnfinished limit stream = added limit stream (0x30 ∷ []) ≢ Print 0x30 ∷ 
 -- The bytes of an unfinished character at the end of the stream. They are in text, so no limit
 -- affects them.
 unfoldable pub open_character : List ℕ → List ℕ
-open_character stream = open_bytes (outcome None stream).left
+open_character stream = open_bytes (outcome None stream).to_close

@@ -5,7 +5,9 @@ pub mod Place
 -- What the fields hold: of a command and of groups; of a character, numbers and a head; and the
 -- place that they say.
 pub mod Store
-pub mod ParserFields
+pub mod OpenCharacter
+pub mod HeldHead
+pub mod AtPlace
 -- What a byte does to the performer and to the parser.
 pub mod Takes
 -- How far a call has come; what each function requires, reads and costs.

@@ -1,6 +1,6 @@
 //! The buffer for the data bytes of an operating system command.
 ghost use Rattle.std.specs.Prelude.{drop, false, length, List, None, not, Option, option_map, Some, take, true, unwrap_or, vec_capacity, ℕ, [], ◌++◌, ◌+◌, ◌-◌, ◌<◌, ◌≡◌, ◌≤◌};
-ghost use Rattle.vte_core.specs.private.Prelude.{ArePositions, fitting, has_room, HasCapacity, LooksAtMost, ReservesCapacity};
+ghost use Rattle.vte_core.specs.private.Prelude.{ArePositions, fitting, has_room, HasCapacity, LooksWithin, ReservesCapacity};
 
 use crate::reader::{Input, Reader};
 use arrayvec::ArrayVec;
@@ -26,7 +26,7 @@ pub(crate) trait Buffer {
     /// Drops the held bytes. Their memory stays.
     fn clear(&mut self)
         ensures holds_nothing { held self.new ≡ [] }
-        ensures memory { capacity self.new ≡ capacity self.old };
+        ensures same_capacity { capacity self.new ≡ capacity self.old };
 
     /// Returns whether the limit is reached.
     fn is_full(&self) -> bool
@@ -42,14 +42,14 @@ pub(crate) trait Buffer {
     /// Adds the bytes of an input from one position to another, up to the limit.
     fn append(&mut self, reader: &mut Reader, input: Input<'_>, from: usize, to: usize)
         requires range { ArePositions input.bytes.now from to }
-        requires memory { HasCapacity limit (capacity self.old) (length (held self.old))
+        requires has_memory { HasCapacity limit (capacity self.old) (length (held self.old))
             (to - from) }
         ensures appended { held self.new
             ≡ held self.old
             ++ fitting limit (length (held self.old))
             (take (to - from) (drop from input.entry.bytes.now)) }
-        ensures memory { capacity self.old ≤ capacity self.new }
-        ensures looks_at_most { LooksAtMost (to - from) reader.old reader.new };
+        ensures keeps_memory { capacity self.old ≤ capacity self.new }
+        ensures looks_at_most { LooksWithin (to - from) reader.old reader.new };
 }
 
 /// An array that is made when the first byte comes: clearing one takes time, and a parser that C
@@ -88,7 +88,7 @@ impl<const N: usize> Buffer for Option<ArrayVec<u8, N>> {
         }
         if let Some(bytes) = self {
             let kept = (to - from).min(bytes.remaining_capacity());
-            // It fits.
+            // No more bytes than there is room for are copied, so all fit.
             let _ = reader.copy_to_array(input, from, from + kept, bytes);
         }
     }
@@ -119,7 +119,7 @@ impl<A: Allocator> Buffer for Vec<u8, A> {
     }
 
     fn append(&mut self, reader: &mut Reader, input: Input<'_>, from: usize, to: usize) {
-        // There is room.
+        // The caller has reserved memory for these bytes, so all fit.
         let _ = reader.copy_to_vec(input, from, to, self);
     }
 }

@@ -20,7 +20,8 @@ pub(crate) fn is_plain_control(byte: u8) -> bool
     byte < 0x20 && byte != CANCEL && byte != SUBSTITUTE && byte != ESCAPE
 }
 
-/// Returns whether a byte is HT, LF or CR. `|` has no branch, so LLVM vectorizes `run_blocks`.
+/// Returns whether a byte is HT, LF or CR.
+// `|` has no branch, so LLVM vectorizes `run_blocks`.
 #[inline(always)]
 pub(crate) fn is_layout(byte: u8) -> bool
     ensures { result ≡ is_layout byte }
@@ -35,8 +36,8 @@ pub(crate) fn ends_sequence(byte: u8) -> bool
     byte == CANCEL || byte == SUBSTITUTE || byte == ESCAPE
 }
 
-/// Returns whether a byte is outside 18..1B, and so none of CAN, SUB and ESC. Compilers test this
-/// by one comparison.
+/// Returns whether a byte is outside 18..1B, and so none of CAN, SUB and ESC.
+// Compilers test this by one comparison.
 pub(crate) fn cannot_end(byte: u8) -> bool
     ensures { result ≡ true → ends_sequence (class_of byte) ≡ false }
 {

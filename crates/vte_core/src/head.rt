@@ -45,25 +45,26 @@ pub(crate) struct HeadEnd {
 
 /// What is collected of a sequence: intermediates and parameters.
 #[derive(Clone, Drop)]
-pub(crate) struct Collected {
+pub(crate) struct CollectedHead {
     // the first two, a marker among them
     pub(crate) intermediates: ArrayVec<u8, MAX_INTERMEDIATES>,
     // whether there were more
     pub(crate) too_many_intermediates: bool,
     // the first 32 numbers, without the one that is being read
     pub(crate) params: Params,
-    // the number that is being read, and whether it follows a colon
+    // the number that is being read
     pub(crate) number: u16,
+    // whether it follows a colon
     pub(crate) joined: bool,
 }
 
-impl Collected {
+impl CollectedHead {
     /// Creates an empty collection.
     // cargo instead: pub(crate) const fn new() -> Self
     pub(crate) fn new() -> Self
         ensures { HoldsIntermediates result [] }
     {
-        Collected {
+        CollectedHead {
             intermediates: ArrayVec::new(),
             too_many_intermediates: false,
             params: Params::new(),
@@ -134,7 +135,7 @@ impl Collected {
 
     /// Collects a digit or a separator.
     #[inline(always)]
-    fn collect_parameter_byte(&mut self, byte: u8)
+    pub(crate) fn collect_parameter_byte(&mut self, byte: u8)
         requires { is_parameter_byte (class_of byte) ≡ true }
         ensures counts { (text : List ℕ) → CountsNumbers self.old text
             → CountsNumbers self.new (text ++ byte ∷ []) }
@@ -188,7 +189,7 @@ impl Collected {
         input: Input<'_>,
         from: usize,
     ) -> HeadEnd
-        requires in_order { from ≤ length input.bytes.now }
+        requires within { from ≤ length input.bytes.now }
         requires may_have_parameters { reached ≡ HeadProgress.Entry
             ⊎ reached ≡ HeadProgress.Parameters }
         requires separators_only_if_not_joined { reads_separators ≡ true → self.old.joined ≡ false }

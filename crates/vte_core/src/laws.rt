@@ -92,7 +92,7 @@ pub fn opens_late()
 /// them is a character or an executed byte.
 #[tactic(auto, using(crate::proofs::lemmas::EarlyStops::goes_on_from, crate::proofs::lemmas::EarlyStops::reports_units))]
 pub fn early_stops()
-    ensures goes_on { (limit : Option ℕ) → GoesOnFromPositions limit }
+    ensures adds_up { (limit : Option ℕ) → GoesOnFromPositions limit }
     ensures units { (limit : Option ℕ) → ReportsUnits limit }
 {}
 
@@ -115,7 +115,7 @@ pub fn events_of_parts()
 /// there, else the longest truncated one, else one byte. No other division has this property.
 #[tactic(auto, using(crate::proofs::lemmas::dividing::Division::all_divided, crate::proofs::lemmas::dividing::Division::are_right_segments, crate::proofs::lemmas::dividing::Division::only_division))]
 pub fn maximal_subparts()
-    ensures all { (text : List ℕ) → SegmentsJoin text }
+    ensures segments_join { (text : List ℕ) → SegmentsJoin text }
     ensures segments_are_correct { (text : List ℕ) → AreCorrectSegments (segments text) }
     ensures unique_division { (division : List (List ℕ)) → AreCorrectSegments division
         → segments (concat division) ≡ division }
@@ -129,7 +129,7 @@ pub fn utf8_agrees()
     ensures character { (c : ℕ) → IsScalar c → IsDecoded c }
     ensures characters { (text : List ℕ) → IsUtf8 text
         → segments text ≡ map encode_utf8 (chars text) }
-    ensures whole { (text : List ℕ) → AreWellFormed (segments text) → IsUtf8 text }
+    ensures is_utf8 { (text : List ℕ) → AreWellFormed (segments text) → IsUtf8 text }
 {}
 
 /// A `str` without ESC gives one event for each of its characters.

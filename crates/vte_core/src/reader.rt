@@ -369,7 +369,7 @@ impl Reader {
         requires has_room { length vec.old.items + (to - from) ≤ vec_capacity vec.old }
         ensures appended { vec.new.items
             ≡ vec.old.items ++ take (to - from) (drop from input.entry.bytes.now) }
-        ensures memory { vec_capacity vec.old ≤ vec_capacity vec.new }
+        ensures keeps_memory { vec_capacity vec.old ≤ vec_capacity vec.new }
         ensures looks { looks_of self.new + from ≡ looks_of self.old + to }
     {
         self.count_looks(to - from);

@@ -1,7 +1,7 @@
 //! The store of an operating system command.
 ghost use Rattle.std.specs.Prelude.{All, drop, false, IsTrue, length, List, take, ℕ, [], ◌++◌, ◌+◌, ◌-◌, ◌<◌, ◌↔◌, ◌∷◌, ◌≡◌, ◌≢◌, ◌≤◌};
 ghost use Rattle.std.specs.List.Sorted.{IsNonDecreasing};
-ghost use Rattle.vte_core.specs.private.Prelude.{ArePieceEnds, ArePositions, cut_pieces, HasCapacity, HoldsItems, LooksAtMost, max_pieces, OscDispatch, Reports, ReservesCapacity, SameItems, Stored};
+ghost use Rattle.vte_core.specs.private.Prelude.{ArePieceEnds, ArePositions, cut_pieces, HasCapacity, HoldsItems, LooksWithin, max_pieces, OscDispatch, Reports, ReservesCapacity, SameItems, StoredCommand};
 
 use crate::buffer::Buffer;
 use crate::reader::{CountedPerform, Granularity, Input, Reader};
@@ -16,7 +16,7 @@ const MAX_PIECES: usize = 16;
 
 /// The items of a command, as far as they are kept.
 #[derive(Drop)]
-pub(crate) struct Store<B: Buffer> {
+pub(crate) struct CommandStore<B: Buffer> {
     // the data bytes, without the `;` between the pieces
     bytes: B,
     // the ends of the first 16 pieces in them
@@ -25,12 +25,12 @@ pub(crate) struct Store<B: Buffer> {
     lost: bool,
 }
 
-impl<B: Buffer> Model for Store<B> {
+impl<B: Buffer> Model for CommandStore<B> {
     ghost use Rattle.std.specs.Prelude.{◌≤◌, All, length};
     ghost use Rattle.std.specs.List.Sorted.{IsNonDecreasing};
-    ghost use Rattle.vte_core.specs.CommandMemory.{Stored};
+    ghost use Rattle.vte_core.specs.CommandMemory.{StoredCommand};
 
-    ghost Value = { Stored };
+    ghost Value = { StoredCommand };
 
     ghost view = { λ store. record {
       capacity = B.capacity store.bytes;
@@ -43,15 +43,15 @@ impl<B: Buffer> Model for Store<B> {
         × All (λ end. end ≤ length (B.held store.bytes)) store.ends.items };
 }
 
-impl<B: Buffer> Store<B> {
+impl<B: Buffer> CommandStore<B> {
     /// Creates a store without items, over a buffer.
     // cargo instead: pub(crate) const fn new(bytes: B) -> Self
     pub(crate) fn new(bytes: B) -> Self
         requires { B.held bytes ≡ [] }
         ensures holds { HoldsItems B.limit result [] }
-        ensures memory { result.capacity ≡ B.capacity bytes }
+        ensures capacity_is { result.capacity ≡ B.capacity bytes }
     {
-        Store {
+        CommandStore {
             bytes,
             ends: ArrayVec::new(),
             lost: false,
@@ -61,7 +61,7 @@ impl<B: Buffer> Store<B> {
     /// Removes all items. Their memory stays.
     pub(crate) fn clear(&mut self)
         ensures holds { HoldsItems B.limit self.new [] }
-        ensures memory { self.new.capacity ≡ self.old.capacity }
+        ensures same_capacity { self.new.capacity ≡ self.old.capacity }
     {
         // cargo instead: self.ends.clear();
         self.ends = ArrayVec::new();
@@ -74,7 +74,7 @@ impl<B: Buffer> Store<B> {
     pub(crate) fn remove_items(&mut self)
         ensures no_bytes { self.new.bytes ≡ [] }
         ensures lost { self.new.lost ≡ self.old.lost }
-        ensures memory { self.new.capacity ≡ self.old.capacity }
+        ensures same_capacity { self.new.capacity ≡ self.old.capacity }
     {
         // cargo instead: self.ends.clear();
         self.ends = ArrayVec::new();
@@ -101,7 +101,7 @@ impl<B: Buffer> Store<B> {
     /// ended. Returns whether it is there.
     pub(crate) fn reserve_if_kept(&mut self, more: usize) -> bool
         ensures same_items { SameItems self.old self.new }
-        ensures memory { self.old.capacity ≤ self.new.capacity }
+        ensures keeps_memory { self.old.capacity ≤ self.new.capacity }
         ensures at_most { result ≡ false → length self.new.ends < max_pieces }
         ensures reserves { length self.new.ends < max_pieces
             → ReservesCapacity B.limit
@@ -114,7 +114,7 @@ impl<B: Buffer> Store<B> {
     pub(crate) fn end_piece(&mut self)
         ensures holds { (items : List ℕ) → HoldsItems B.limit self.old items
             → HoldsItems B.limit self.new (items ++ 0x3b ∷ []) }
-        ensures memory { self.new.capacity ≡ self.old.capacity }
+        ensures same_capacity { self.new.capacity ≡ self.old.capacity }
     {
         if !self.ends.is_full() && !self.bytes.is_full() {
             self.ends.push(self.bytes.bytes().len());
@@ -132,12 +132,12 @@ impl<B: Buffer> Store<B> {
     )
         requires range { ArePositions input.bytes.now from to }
         requires data { All (λ b. b ≢ 0x3b) (take (to - from) (drop from input.bytes.now)) }
-        requires memory { length self.old.ends < max_pieces
+        requires has_memory { length self.old.ends < max_pieces
             → HasCapacity B.limit self.old.capacity (length self.old.bytes) (to - from) }
         ensures holds { (items : List ℕ) → HoldsItems B.limit self.old items → HoldsItems B.limit
             self.new (items ++ take (to - from) (drop from input.entry.bytes.now)) }
-        ensures memory { self.old.capacity ≤ self.new.capacity }
-        ensures looks_at_most { LooksAtMost (to - from) reader.old reader.new }
+        ensures keeps_memory { self.old.capacity ≤ self.new.capacity }
+        ensures looks_at_most { LooksWithin (to - from) reader.old reader.new }
     {
         let before = self.bytes.bytes().len();
         if !self.ends.is_full() {
@@ -184,7 +184,7 @@ impl<B: Buffer> Store<B> {
 }
 
 // cargo: #[cfg(feature = "__own")]
-impl<const N: usize> Store<Option<ArrayVec<u8, N>>> {
+impl<const N: usize> CommandStore<Option<ArrayVec<u8, N>>> {
     /// Returns the data bytes, the ends of the first 16 pieces in them, and whether data bytes were
     /// dropped.
     pub(crate) fn raw_parts(&self) -> (&[u8], &[usize], bool)
@@ -213,7 +213,7 @@ impl<const N: usize> Store<Option<ArrayVec<u8, N>>> {
         self.ends = ArrayVec::new();
         self.bytes = Some(ArrayVec::new());
         if let Some(array) = &mut self.bytes {
-            // They fit.
+            // A saved parser has at most N bytes, so all fit.
             let _ = array.try_extend_from_slice(bytes);
         }
         if are_piece_ends(ends, bytes.len()) {
@@ -224,7 +224,7 @@ impl<const N: usize> Store<Option<ArrayVec<u8, N>>> {
 }
 
 // cargo: #[cfg(any(feature = "std", feature = "ansi"))]
-impl<A: Allocator> Store<Vec<u8, A>> {
+impl<A: Allocator> CommandStore<Vec<u8, A>> {
     /// Returns the number of data bytes for which there is memory.
     // cargo lacks: not used
     pub(crate) fn capacity(&self) -> usize
@@ -245,20 +245,20 @@ impl<A: Allocator> Store<Vec<u8, A>> {
     pub(crate) fn shrink_to_fit(&mut self)
         ensures same_items { SameItems self.old self.new }
         ensures frees { length self.old.bytes ≡ 0 → self.new.capacity ≡ 0 }
-        ensures grows_no_memory { self.new.capacity ≤ self.old.capacity }
+        ensures allocates_nothing { self.new.capacity ≤ self.old.capacity }
     {
         self.bytes.shrink_to_fit();
     }
 }
 
-impl<A: Allocator + Clone> Clone for Store<Vec<u8, A>> {
+impl<A: Allocator + Clone> Clone for CommandStore<Vec<u8, A>> {
     ghost is_clone = { λ store clone. SameItems store clone × (store.capacity ≤ clone.capacity) };
 
     fn clone(&self) -> Result<Self, AllocError> {
         let mut bytes = self.bytes.clone()?;
         // a clone has as much memory
         bytes.reserve(self.bytes.capacity() - bytes.len())?;
-        Ok(Store {
+        Ok(CommandStore {
             bytes,
             ends: self.ends.clone()?,
             lost: self.lost,

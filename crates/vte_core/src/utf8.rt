@@ -18,7 +18,7 @@ pub(crate) enum Unfinished {
 
 /// What one more byte makes of an unfinished character.
 #[derive(Clone, Copy)]
-pub(crate) enum Extended {
+pub(crate) enum Extension {
     /// More bytes, and still no character.
     Truncated(Unfinished),
     /// The character is whole.
@@ -29,7 +29,7 @@ pub(crate) enum Extended {
 
 impl Unfinished {
     /// Returns whether no character is open.
-    pub(crate) fn is_nothing(self) -> bool
+    pub(crate) fn is_empty(self) -> bool
         ensures { IsTrue result ↔ (bytes_of self ≡ []) }
     {
         matches!(self, Unfinished::Empty)
@@ -38,7 +38,7 @@ impl Unfinished {
     /// Adds a byte to those of an open character.
     #[inline(always)]
     #[tactic(auto, unfolding(crate::specs::Utf8::is_truncated))]
-    pub(crate) fn extended_by(self, byte: u8) -> Extended
+    pub(crate) fn extend(self, byte: u8) -> Extension
         ensures { is_truncated (bytes_of self) ≡ true → Extends (bytes_of self) byte result }
     {
         match self {
@@ -46,24 +46,24 @@ impl Unfinished {
                 if first < 0xe0 {
                     return whole_character(code_point_of_two(first, byte));
                 }
-                Extended::Truncated(Unfinished::Two(first, byte))
+                Extension::Truncated(Unfinished::Two(first, byte))
             }
             Unfinished::Two(first, second) if is_continuation(byte) => {
                 if first < 0xf0 {
                     return whole_character(code_point_of_three(first, second, byte));
                 }
-                Extended::Truncated(Unfinished::Three(first, second, byte))
+                Extension::Truncated(Unfinished::Three(first, second, byte))
             }
             Unfinished::Three(first, second, third) if is_continuation(byte) => {
                 whole_character(code_point_of_four(first, second, third, byte))
             }
-            _ => Extended::Malformed,
+            _ => Extension::Malformed,
         }
     }
 }
 
 /// Returns whether a sequence that begins with `first` may go on with `byte`.
-#[tactic(auto, unfolding(crate::specs::private::ParserFields::second_range))]
+#[tactic(auto, unfolding(crate::specs::private::OpenCharacter::second_range))]
 fn may_be_second(first: u8, byte: u8) -> bool
     ensures { result ≡ is_in (second_range first) byte }
 {
@@ -77,7 +77,7 @@ fn may_be_second(first: u8, byte: u8) -> bool
 /// Returns whether a sequence of three bytes may begin with these two: the code point is neither
 /// overlong nor a surrogate.
 #[inline(always)]
-#[tactic(auto, unfolding(crate::specs::private::ParserFields::second_range))]
+#[tactic(auto, unfolding(crate::specs::private::OpenCharacter::second_range))]
 pub(crate) fn may_begin_three(first: u8, second: u8) -> bool
     requires { BeginsThree first }
     ensures { result ≡ is_in (second_range first) second }
@@ -89,7 +89,7 @@ pub(crate) fn may_begin_three(first: u8, second: u8) -> bool
 /// Returns whether a sequence of four bytes may begin with these two: the code point is neither
 /// overlong nor above U+10FFFF.
 #[inline(always)]
-#[tactic(auto, unfolding(crate::specs::private::ParserFields::second_range))]
+#[tactic(auto, unfolding(crate::specs::private::OpenCharacter::second_range))]
 pub(crate) fn may_begin_four(first: u8, second: u8) -> bool
     requires { BeginsFour first }
     ensures { result ≡ is_in (second_range first) second }
@@ -150,12 +150,12 @@ fn code_point_of_four(first: u8, second: u8, third: u8, fourth: u8) -> u32
 
 /// Returns the character with this number, or `Malformed` for the number of a surrogate, which no
 /// well-formed sequence has.
-fn whole_character(code: u32) -> Extended
-    ensures { InScalarRange code → result ≡ Extended.WellFormed code }
+fn whole_character(code: u32) -> Extension
+    ensures { InScalarRange code → result ≡ Extension.WellFormed code }
 {
     match char::from_u32(code) {
-        Some(c) => Extended::WellFormed(c),
-        None => Extended::Malformed,
+        Some(c) => Extension::WellFormed(c),
+        None => Extension::Malformed,
     }
 }
 

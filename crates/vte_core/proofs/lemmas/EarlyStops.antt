@@ -27,7 +27,7 @@ module _ {limit : Option ℕ} (P Q : List Event → Type 0) (stream bytes : List
   passed-below zero i below within asked = absurd (omega arith)
   passed-below (suc m) i below within asked =
       let reports : ReportsUnit limit stream bytes i = units stream bytes i within in
-      subst P (sym reports.parts) (elim reports.begun [
+      subst P (sym reports.parts) (elim reports.at_start [
         | inl nothing_before ↦
             kept reports.before reports.unit (subst P (sym nothing_before) at_first)
             (subst Q (sym nothing_before) asked_first) reports.brief
@@ -57,7 +57,8 @@ reports_little limit stream b some_open unbroken =
     let adds = added-byte limit stream b in
     let breaks_none : breaks (open_at adds.place) (b ∷ []) ≡ false =
     ap (λ u. breaks u (b ∷ [])) (sym adds.begun) ∙ unbroken in
-    elim (adds.step.little (text_at adds.place (λ none_open. some_open (adds.begun ∙ none_open))) breaks_none) [
+    elim
+    (adds.step.silent_or_settles (text_at adds.place (λ none_open. some_open (adds.begun ∙ none_open))) breaks_none) [
       | inl nothing ↦ (rw (adds.reported ∙ nothing) tt, inr (adds.reported ∙ nothing))
       | inr last ↦ (rw adds.reported last.1, inl (adds.ends ∙ last.0))
     ]
@@ -109,7 +110,7 @@ record Added (limit : Option ℕ) (stream bytes : List ℕ) (i : ℕ) : Type 0 w
   parts : added limit stream (take i bytes) ≡ before ++ unit
   brief : AreBrief limit unit
   one_short : (open_character (stream ++ take i bytes) ≡ [] → ⊥) → IsAtMostOneShort unit
-  begun : (before ≡ []) ⊎ AreReportedAtStart limit stream bytes i before
+  at_start : (before ≡ []) ⊎ AreReportedAtStart limit stream bytes i before
 
 one_short-opens : (limit : Option ℕ) (stream : List ℕ) (b : ℕ) → (open_character (stream ++ b ∷ []) ≡ [] → ⊥)
     → IsAtMostOneShort (added limit stream (b ∷ []))
@@ -120,7 +121,7 @@ is_empty_or_not [] = inl refl
 is_empty_or_not (b ∷ bytes) = inr (λ same. cc)
 
 -- From position i, one byte leads to the next position.
-module _ (limit : Option ℕ) (stream bytes : List ℕ) (i : ℕ) (within : i < length bytes) where
+module _ (limit : Option ℕ) (stream bytes : List ℕ) (i : ℕ) (before_end : i < length bytes) where
   abbrev here : List ℕ
   here = stream ++ take i bytes
 
@@ -128,7 +129,7 @@ module _ (limit : Option ℕ) (stream bytes : List ℕ) (i : ℕ) (within : i < 
   b = get_or bytes i 0
 
   take-next : take (i + 1) bytes ≡ take i bytes ++ b ∷ []
-  take-next = take_more bytes i 0 within
+  take-next = take_more bytes i 0 before_end
 
   open_character-next : open_character (stream ++ take (i + 1) bytes) ≡ open_character (here ++ b ∷ [])
   open_character-next =
@@ -136,7 +137,7 @@ module _ (limit : Option ℕ) (stream bytes : List ℕ) (i : ℕ) (within : i < 
       ∙ ap open_character (sym (append_assoc stream (take i bytes) (b ∷ [])))
 
   breaks_at-next : breaks_at stream bytes i ≡ breaks (open_character here) (b ∷ [])
-  breaks_at-next = breaks_at-byte stream bytes i within refl refl
+  breaks_at-next = breaks_at-byte stream bytes i before_end refl refl
 
   -- If the position is a start, the unit is what the byte adds.
   added-from_start : IsStart stream bytes i → Added limit stream bytes (i + 1)
@@ -157,7 +158,7 @@ module _ (limit : Option ℕ) (stream bytes : List ℕ) (i : ℕ) (within : i < 
             one_short-opens limit from b
             (λ same.
             some_open (open_character-next ∙ ends_from here (b ∷ []) (breaks_at stream bytes i) next_breaks ∙ same));
-        begun = inr (record { start = i; earlier = omega arith; starts = starts; events_are = refl });
+        at_start = inr (record { start = i; earlier = omega arith; starts = starts; events_are = refl });
       }
 
   -- If the byte belongs to an open character, the unit goes on.
@@ -179,7 +180,7 @@ module _ (limit : Option ℕ) (stream bytes : List ℕ) (i : ℕ) (within : i < 
               | inl settled ↦ absurd (open_there (open_character-next ∙ settled))
               | inr nothing ↦ rw (nothing, append-nil) (adds.one_short some_open)
             ];
-        begun = elim adds.begun [
+        at_start = elim adds.at_start [
           | inl settled ↦ inl settled
           | inr t ↦
               inr (record {
@@ -193,9 +194,9 @@ module _ (limit : Option ℕ) (stream bytes : List ℕ) (i : ℕ) (within : i < 
 
   added_further : Added limit stream bytes i → Added limit stream bytes (i + 1)
   added_further adds = elim (is_empty_or_not (open_character here)) [
-    | inl none_open ↦ added-from_start (starts-settled within none_open)
+    | inl none_open ↦ added-from_start (starts-settled before_end none_open)
     | inr some_open ↦ elim (cases_Bool (breaks (open_character here) (b ∷ []))) [
-      | inl broken ↦ added-from_start (starts-broken within (breaks_at-next ∙ broken))
+      | inl broken ↦ added-from_start (starts-broken before_end (breaks_at-next ∙ broken))
       | inr unbroken ↦ added-extended adds some_open unbroken
     ]
   ]
@@ -207,7 +208,7 @@ added_to limit stream bytes zero within = record {
   parts = added-nothing limit stream;
   brief = tt;
   one_short = λ _. tt;
-  begun = inl refl;
+  at_start = inl refl;
 }
 added_to limit stream bytes (suc i) within =
     let adds : Added limit stream bytes (i + 1) =
@@ -223,7 +224,7 @@ reports_units limit stream bytes i within = record {
       ap (λ (events : List Event). events ++ (if breaks_at stream bytes i then Print replacement ∷ [] else [])) a.parts
       ∙ append_assoc a.before a.unit _;
   brief = by_break (breaks_at stream bytes i) refl;
-  begun = a.begun;
+  at_start = a.at_start;
 }
   where
     a : Added limit stream bytes i

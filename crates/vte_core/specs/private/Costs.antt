@@ -22,56 +22,57 @@ use Rattle.vte_core.specs.private.Progress.{ChunkCall, IsRefusedInCommand, IsSet
 -- ---- bounds of functions
 
 -- What the numbers of a bound are: looks that the caller took, and looks at bytes left unread.
-abbrev pub seen : ℕ → ℕ
-seen looks = looks
+abbrev pub caller_looks : ℕ → ℕ
+caller_looks looks = looks
 
-abbrev pub ahead : ℕ → ℕ
-ahead looks = looks
+abbrev pub lookahead : ℕ → ℕ
+lookahead looks = looks
 
 -- The bounds of a function that may read nothing, from position i to position j. It takes at least
--- one look per byte, and at most `rate` and `ahead` more, at bytes left unread. The caller has
--- taken `seen` of them: those at the first bytes, by which it chose this function. It gives back no
--- memory.
-pub record SpendsWithin (rate seen ahead : ℕ) {B : Type 0} (bytes : List ℕ) (i j : ℕ)
-    (parser next : Machine B) (earlier later : Reader) : Type 0 where
-  pub low : i ≤ j
-  pub high : j ≤ length bytes
-  pub looks_at_most : looks_of later + rate * i + seen ≤ looks_of earlier + rate * j + ahead
-  pub looks_at_least : looks_of earlier + j ≤ looks_of later + i + seen
-  pub memory : parser.command.capacity ≤ next.command.capacity
+-- one look per byte, and at most `rate` and `lookahead` more, at bytes left unread. The caller has
+-- taken `caller_looks` of them: those at the first bytes, by which it chose this function. It gives
+-- back no memory.
+pub record SpendsWithin (rate caller_looks lookahead : ℕ) {B : Type 0} (bytes : List ℕ) (i j : ℕ)
+    (parser next : Machine B) (old_reader new_reader : Reader) : Type 0 where
+  pub in_order : i ≤ j
+  pub within : j ≤ length bytes
+  pub looks_at_most : looks_of new_reader + rate * i + caller_looks
+      ≤ looks_of old_reader + rate * j + lookahead
+  pub looks_at_least : looks_of old_reader + j ≤ looks_of new_reader + i + caller_looks
+  pub keeps_memory : parser.command.capacity ≤ next.command.capacity
 
 -- The bounds of each state's function, which reads a byte if there is one.
-pub record MovesWithin (rate seen : ℕ) {B : Type 0} (bytes : List ℕ) (i j : ℕ)
-    (parser next : Machine B) (earlier later : Reader) : Type 0 where
-  pub spends : SpendsWithin rate seen 0 bytes i j parser next earlier later
-  pub progress : i < length bytes → i < j
+pub record ReadsWithin (rate caller_looks : ℕ) {B : Type 0} (bytes : List ℕ) (i j : ℕ)
+    (parser next : Machine B) (old_reader new_reader : Reader) : Type 0 where
+  pub spends : SpendsWithin rate caller_looks 0 bytes i j parser next old_reader new_reader
+  pub reads_some : i < length bytes → i < j
 
 -- The bounds of a function that handles a byte at which its caller looked: no character is open
 -- afterwards, and it takes at most `most` looks.
-pub record HandlesByte (most : ℕ) {B : Type 0} (parser next : Machine B)
-    (earlier later : Reader) : Type 0 where
+pub record HandlesByteWithin (most : ℕ) {B : Type 0} (parser next : Machine B)
+    (old_reader new_reader : Reader) : Type 0 where
   pub settled : IsSettled next.state
-  pub looks_at_most : looks_of later ≤ looks_of earlier + most
-  pub looks_at_least : looks_of earlier ≤ looks_of later
-  pub memory : parser.command.capacity ≤ next.command.capacity
+  pub looks_at_most : looks_of new_reader ≤ looks_of old_reader + most
+  pub looks_at_least : looks_of old_reader ≤ looks_of new_reader
+  pub keeps_memory : parser.command.capacity ≤ next.command.capacity
 
 -- The bounds of a call with this result, which read n of its bytes: at most `rate` looks per byte
 -- read and 8 more. If memory was refused, the bytes left unread count too.
 pub record Costs (rate : ℕ) {Answer B : Type 0} (bytes : List ℕ) (result : Result Answer Refused)
-    (n : ℕ) (parser next : Machine B) (looks_before looks_after : ℕ) : Type 0 where
-  pub looks_at_most : looks_after ≤ looks_before + rate * length bytes + 8
-  pub looks_at_most_if_ok : IfOk result (λ _. looks_after ≤ looks_before + rate * n + 8)
-  pub looks_at_least : looks_before + n ≤ looks_after
-  pub memory : parser.command.capacity ≤ next.command.capacity
+    (n : ℕ) (parser next : Machine B) (old_looks new_looks : ℕ) : Type 0 where
+  pub looks_at_most : new_looks ≤ old_looks + rate * length bytes + 8
+  pub looks_at_most_if_ok : IfOk result (λ _. new_looks ≤ old_looks + rate * n + 8)
+  pub looks_at_least : old_looks + n ≤ new_looks
+  pub keeps_memory : parser.command.capacity ≤ next.command.capacity
 
 -- The bounds of a function that reads nothing at position i, because memory was refused. It
 -- searched for the end of the data: it took at least one look, and at most one for each byte from
 -- there on.
 pub record IsRefusedAt {V B : Type 0} (call : ChunkCall V) (value : V) (i read : ℕ)
-    (parser next : Machine B) (earlier later : Reader) : Type 0 where
+    (parser next : Machine B) (old_reader new_reader : Reader) : Type 0 where
   pub stays : read ≡ i
   pub refused : IsRefusedInCommand call.limit next.state next.command call.bytes read
   pub may_go_on : MayGoOn call value
-  pub looks_at_least : looks_of earlier < looks_of later
-  pub looks_at_most : looks_of later + i ≤ looks_of earlier + length call.bytes
-  pub memory : parser.command.capacity ≤ next.command.capacity
+  pub looks_at_least : looks_of old_reader < looks_of new_reader
+  pub looks_at_most : looks_of new_reader + i ≤ looks_of old_reader + length call.bytes
+  pub keeps_memory : parser.command.capacity ≤ next.command.capacity

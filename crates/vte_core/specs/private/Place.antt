@@ -78,21 +78,21 @@ rest_outcome limit (InSystemCommand items) rest = system_command_from limit item
 rest_outcome limit InIgnoredString rest = ignored_string_outcome rest
 
 -- What is open at the place.
-abbrev pub left_at : Option ℕ → Place → ToClose
-left_at limit (InText []) = NothingToClose
-left_at limit (InText (a ∷ bytes)) = CharacterToClose (a ∷ bytes)
-left_at limit AtEscape = EscapeToClose
-left_at limit (InEscape intermediates) = EscapeToClose
-left_at limit (InControlSequence head) = ControlSequenceToClose
-left_at limit (InDeviceControl head) = DeviceHeadToClose
-left_at limit InDeviceData = DeviceDataToClose
-left_at limit (InSystemCommand items) = CommandToClose (pieces_of limit items)
+abbrev pub to_close_at : Option ℕ → Place → ToClose
+to_close_at limit (InText []) = NothingToClose
+to_close_at limit (InText (a ∷ bytes)) = CharacterToClose (a ∷ bytes)
+to_close_at limit AtEscape = EscapeToClose
+to_close_at limit (InEscape intermediates) = EscapeToClose
+to_close_at limit (InControlSequence head) = ControlSequenceToClose
+to_close_at limit (InDeviceControl head) = DeviceHeadToClose
+to_close_at limit InDeviceData = DeviceDataToClose
+to_close_at limit (InSystemCommand items) = CommandToClose (pieces_of limit items)
     (loses_data limit items)
-left_at limit InIgnoredString = IgnoredStringToClose
+to_close_at limit InIgnoredString = IgnoredStringToClose
 
 -- The events of an ESC at the place.
 abbrev pub closing_events_at : Option ℕ → Place → List Event
-closing_events_at limit place = closing_events (left_at limit place)
+closing_events_at limit place = closing_events (to_close_at limit place)
 
 -- The outcome of more bytes, which may include ESC.
 unfoldable pub outcome_from : Option ℕ → Place → List ℕ → Outcome
@@ -102,7 +102,7 @@ outcome_from limit place more =
 
 -- What follows the stream gives what it gives after the place.
 pub record IsAfter (limit : Option ℕ) (stream : List ℕ) (place : Place) : Type 0 where
-  pub goes_on : (more : List ℕ)
+  pub same_outcomes : (more : List ℕ)
       → outcome limit (stream ++ more)
       ≡ report (events limit stream) (outcome_from limit place more)
 

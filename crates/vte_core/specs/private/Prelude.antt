@@ -12,16 +12,18 @@ pub use Rattle.vte_core.specs.Stream.{IsFinished, IsUnfinished}
 unfoldable pub use Rattle.vte_core.specs.Stream.{outcome}
 unfoldable pub use Rattle.vte_core.specs.SystemCommand.{loses_data}
 pub use Rattle.vte_core.specs.SystemCommand.{has_room, IsCommandData, max_pieces}
-pub use Rattle.vte_core.specs.Text.{character_event, HasNoRunAt, is_control_character, is_layout, malformed_event, run_event}
+pub use Rattle.vte_core.specs.Text.{character_event, HasNoRunAt, is_control_character, is_layout, IsRunText, malformed_event, run_event}
 pub use Rattle.vte_core.specs.Utf8.{from_to, is_in, is_truncated, scalar_of}
 pub use Rattle.vte_core.specs.declared.parser.State.TheVariants.{DeviceData, Escape, EscapeIntermediate, IgnoredString, SystemCommand, Text}
 pub use Rattle.vte_core.specs.declared.utf8.Unfinished.TheVariants.{Empty, One}
-pub use Rattle.vte_core.specs.private.Scans.{AreIgnored, ArePositions, ArePrintedAscii, ArePut, Each, FindsEnd, IsNonEmptyRun, IsPrintedAscii, IsRun, IsWindow, LooksAtMost, PrintsRun, Scans}
-pub use Rattle.vte_core.specs.private.Progress.{Advances, chunk_call, Completes, IsAtPosition, IsSettled, MayRead, MayReadAt, MayReadByte, ReadsUntilRefused, ReadsUpTo}
-pub use Rattle.vte_core.specs.private.Costs.{ahead, Costs, HandlesByte, IsRefusedAt, MovesWithin, seen, SpendsWithin}
-pub use Rattle.vte_core.specs.private.ParserFields.{BeginsFour, BeginsThree, BeginsTwo, bytes_of, CountsNumbers, Extends, HasReadHead, HasReadWithLimit, HoldsHead, HoldsIntermediates, HoldsNumbers, HoldsWholeHead, IsAtPlace, ReadsHeadUpTo, SameIntermediates, SameNumbers, second_range, with_open_number}
+pub use Rattle.vte_core.specs.private.Scans.{AreIgnored, ArePositions, ArePrintedAscii, ArePut, Each, FindsEnd, IsPrintedAscii, IsRun, IsWindow, LooksWithin, PrintsRun, Scans}
+pub use Rattle.vte_core.specs.private.Progress.{Advances, any_events, chunk_call, Completes, events_outside_runs, IsAtPosition, IsSettled, MayRead, MayReadAt, MayReadByte, ReadsUntilRefused, ReadsUpTo}
+pub use Rattle.vte_core.specs.private.Costs.{caller_looks, Costs, HandlesByteWithin, IsRefusedAt, lookahead, ReadsWithin, SpendsWithin}
+pub use Rattle.vte_core.specs.private.AtPlace.{HasReadWithLimit, IsAtPlace}
+pub use Rattle.vte_core.specs.private.HeldHead.{CountsNumbers, HasReadHead, HoldsHead, HoldsIntermediates, HoldsNumbers, HoldsWholeHead, ReadsHeadUpTo, SameIntermediates, SameNumbers, with_open_number}
+pub use Rattle.vte_core.specs.private.OpenCharacter.{BeginsFour, BeginsThree, BeginsTwo, bytes_of, Extends, IsLead, second_range}
 pub use Rattle.vte_core.specs.private.Place.{AtEscape, closing_events_at, InControlSequence, InDeviceControl, IsSettledPlace, Place}
-pub use Rattle.vte_core.specs.CommandMemory.{Stored}
+pub use Rattle.vte_core.specs.CommandMemory.{StoredCommand}
 pub use Rattle.vte_core.specs.private.Store.{ArePieceEnds, cut_pieces, fitting, HasCapacity, HoldsItems, ReservesCapacity, SameItems}
 pub use Rattle.vte_core.specs.private.Takes.{Dispatches, Reports, ReportsAll, TakesByte, TakesBytes}
 pub use Rattle.vte_core.specs.private.ToRun.{AreOfKind, ComesToRun, IsOutsideRunsInState, IsOutsideTextAndData, IsTaken, read_before_range, read_through_range}

@@ -42,11 +42,6 @@ pub record IsUtf8Run (layout : Bool) (bytes : List ℕ) : Type 0 where
   pub utf8 : IsUtf8 bytes
   pub plain : IsRunText layout bytes
 
--- The text of one run, which isn't empty.
-pub record IsNonEmptyRun (layout : Bool) (text : List ℕ) : Type 0 where
-  pub some : 0 < length text
-  pub plain : IsRunText layout text
-
 -- The bytes from `from` up to `to` are a run.
 abbrev pub IsRun : Bool → List ℕ → ℕ → ℕ → Type 0
 IsRun layout bytes from to = IsUtf8Run layout (take (to - from) (drop from bytes))
@@ -68,26 +63,26 @@ pub record ArePositions (bytes : List ℕ) (from to : ℕ) : Type 0 where
 -- A search from one position ends at another, takes at least one look for each byte between, and
 -- has found out what these are.
 pub record Scans (Holds : List ℕ → ℕ → ℕ → Type 0) (bytes : List ℕ) (from to : ℕ)
-    (earlier later : Reader) : Type 0 where
-  pub low : from ≤ to
-  pub high : to ≤ length bytes
+    (old_reader new_reader : Reader) : Type 0 where
+  pub in_order : from ≤ to
+  pub within : to ≤ length bytes
   pub passed : Holds bytes from to
-  pub looks_at_least : looks_of earlier + to ≤ looks_of later + from
+  pub looks_at_least : looks_of old_reader + to ≤ looks_of new_reader + from
 
 -- A search from one position ends at another: at the first byte of which `Holds` isn't true, or at
 -- the end of the bytes. It looks once at each byte up to there, and at the byte there.
 pub record FindsEnd (Holds : ℕ → Type 0) (bytes : List ℕ) (from to : ℕ)
-    (earlier later : Reader) : Type 0 where
-  pub low : from ≤ to
-  pub high : to ≤ length bytes
+    (old_reader new_reader : Reader) : Type 0 where
+  pub in_order : from ≤ to
+  pub within : to ≤ length bytes
   pub passed : Each Holds bytes from to
   pub ended : to < length bytes → Holds (slice_index bytes to) → ⊥
-  pub looks : looks_of later + from ≡ looks_of earlier + min (to + 1) (length bytes)
+  pub looks : looks_of new_reader + from ≡ looks_of old_reader + min (to + 1) (length bytes)
 
 -- The count of looks grew by at most `most`.
-pub record LooksAtMost (most : ℕ) (earlier later : Reader) : Type 0 where
-  pub looks_at_most : looks_of later ≤ looks_of earlier + most
-  pub looks_at_least : looks_of earlier ≤ looks_of later
+pub record LooksWithin (most : ℕ) (old_reader new_reader : Reader) : Type 0 where
+  pub looks_at_most : looks_of new_reader ≤ looks_of old_reader + most
+  pub looks_at_least : looks_of old_reader ≤ looks_of new_reader
 
 -- The window has the bytes from a position on.
 pub record IsWindow (bytes : List ℕ) (from : ℕ) (window : Window) : Type 0 where

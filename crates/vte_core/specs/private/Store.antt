@@ -2,7 +2,7 @@
 use Rattle.std.specs.Prelude.{All, Bool, drop, false, if◌then◌else◌, length, List, nat_lt, None, Option, option_to_list, Some, suc, sum, take, true, zero, ℕ, [], ⊤, ◌++◌, ◌+◌, ◌-◌, ◌<◌, ◌==◌, ◌∷◌, ◌≡◌, ◌≤◌}
 use Rattle.std.specs.List.{filter, slice_range}
 use Rattle.std.specs.List.Sorted.{IsNonDecreasing}
-use Rattle.vte_core.specs.CommandMemory.{Stored}
+use Rattle.vte_core.specs.CommandMemory.{StoredCommand}
 use Rattle.vte_core.specs.Parameters.{max_numbers, max_value, semicolon}
 use Rattle.vte_core.specs.SystemCommand.{is_data_item, kept_after, max_pieces, pieces_of}
 
@@ -56,15 +56,15 @@ PiecesEnd (suc left) start (end ∷ ends) count = (start ≤ end) × PiecesEnd l
 
 -- The store continues as one that has taken the items: whatever follows, the pieces are the same.
 -- Each byte is in one of the first 16.
-pub record HoldsItems (limit : Option ℕ) (held : Stored) (items : List ℕ) : Type 0 where
-  pub goes_on : (more : List ℕ)
+pub record HoldsItems (limit : Option ℕ) (held : StoredCommand) (items : List ℕ) : Type 0 where
+  pub same_pieces : (more : List ℕ)
       → pieces_of limit (items ++ more) ≡ pieces_from limit held.bytes held.ends more
   pub end : PiecesEnd max_pieces 0 held.ends (length held.bytes)
   pub fewer : length held.bytes ≤ length (filter is_data_item items)
   pub lost : held.lost ≡ nat_lt (length held.bytes) (length (filter is_data_item items))
 
 -- The stores differ at most in their capacity.
-pub record SameItems (old new : Stored) : Type 0 where
+pub record SameItems (old new : StoredCommand) : Type 0 where
   pub bytes : new.bytes ≡ old.bytes
   pub ends : new.ends ≡ old.ends
   pub lost : new.lost ≡ old.lost
@@ -86,7 +86,7 @@ cut_by_lengths (n ∷ lengths) numbers = take n numbers ∷ cut_by_lengths lengt
 
 -- The lengths cover all numbers, and no group is empty.
 pub record AreLengths (lengths numbers : List ℕ) : Type 0 where
-  pub whole : sum lengths ≡ length numbers
+  pub sum_is : sum lengths ≡ length numbers
   pub filled : All (λ n. 0 < n) lengths
 
 -- Before a number joins a group, the length of that group, which is the last, is removed.

@@ -8,19 +8,19 @@ use Rattle.vte_core.specs.declared.parser.machine.Machine.{Machine}
 use Rattle.vte_core.specs.declared.parser.State.TheVariants.{Text}
 use Rattle.vte_core.specs.declared.utf8.Unfinished.TheVariants.{Empty}
 use Rattle.vte_core.specs.private.Place.{BytesLead, Leads, Place}
-use Rattle.vte_core.specs.private.ParserFields.{IsAtPlace}
+use Rattle.vte_core.specs.private.AtPlace.{IsAtPlace}
 
 -- The performer received the event, which counts one look.
 pub record Reports {V : Type 0} (step : V → Event → V) (old new : V) (event : Event)
-    (earlier later : Reader) : Type 0 where
+    (old_reader new_reader : Reader) : Type 0 where
   pub value : new ≡ step old event
-  pub looks : looks_of later ≡ looks_of earlier + 1
+  pub looks : looks_of new_reader ≡ looks_of old_reader + 1
 
 -- The performer received the events, for which `count` looks are counted.
 pub record ReportsAll {V : Type 0} (step : V → Event → V) (old new : V) (events : List Event)
-    (count : ℕ) (earlier later : Reader) : Type 0 where
+    (count : ℕ) (old_reader new_reader : Reader) : Type 0 where
   pub value : new ≡ after step old events
-  pub looks : looks_of later ≡ looks_of earlier + count
+  pub looks : looks_of new_reader ≡ looks_of old_reader + count
 
 -- The performer received the events of the byte, and the parser is at the place to which it
 -- leads.
@@ -35,10 +35,10 @@ pub record TakesByte {V B : Type 0} (step : V → Event → V) (old new : V) (li
 -- The performer received a sequence, as one event. The parser is in a text then, and gave back
 -- no memory.
 pub record Dispatches {V B : Type 0} (step : V → Event → V) (old new : V) (event : Event)
-    (parser next : Machine B) (earlier later : Reader) : Type 0 where
-  pub reports : Reports step old new event earlier later
-  pub text : next.state ≡ Text Empty
-  pub memory : parser.command.capacity ≤ next.command.capacity
+    (parser next : Machine B) (old_reader new_reader : Reader) : Type 0 where
+  pub reports : Reports step old new event old_reader new_reader
+  pub in_text : next.state ≡ Text Empty
+  pub keeps_memory : parser.command.capacity ≤ next.command.capacity
 
 -- The performer received the events of the bytes, which may include ESC.
 pub record TakesBytes {V B : Type 0} (step : V → Event → V) (old new : V) (limit : Option ℕ)

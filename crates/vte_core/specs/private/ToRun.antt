@@ -12,7 +12,7 @@ use Rattle.vte_core.specs.declared.parser.State.{State}
 use Rattle.vte_core.specs.declared.parser.State.TheVariants.{DeviceData, Text}
 use Rattle.vte_core.specs.Class.{class_of, is_device_data, IsDeviceData}
 use Rattle.vte_core.specs.Event.{Event, Print, Put}
-use Rattle.vte_core.specs.private.ParserFields.{HasReadWithLimit}
+use Rattle.vte_core.specs.private.AtPlace.{HasReadWithLimit}
 use Rattle.vte_core.specs.private.Progress.{ChunkCall, IsAtPosition}
 use Rattle.vte_core.specs.private.Scans.{ArePositions, IsUtf8Run}
 use Rattle.vte_core.specs.Stream.{added}
@@ -65,7 +65,7 @@ pub record HasRun {B : Type 0} (limit : Option ℕ) (bytes : List ℕ) (range : 
     (parser : Machine B) : Type 0 where
   pub is_range : ArePositions bytes range.start range.end
   pub kind : AreOfKind range.kind (bytes_at bytes range)
-  pub whole : IsWholeAt bytes range range.kind
+  pub longest : IsWholeAt bytes range range.kind
   pub adds : (stream : List ℕ) → HasReadWithLimit limit parser stream
       → added limit stream (bytes_at bytes range) ≡ kind_events range.kind (bytes_at bytes range)
   pub reads : (stream : List ℕ) → HasReadWithLimit limit parser stream

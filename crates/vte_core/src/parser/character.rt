@@ -1,13 +1,13 @@
 //! The bytes of a character after the first.
 ghost use Rattle.std.specs.Prelude.{false, length, slice_index, true, [], ◌*◌, ◌+◌, ◌<◌, ◌≡◌, ◌≢◌, ◌≤◌};
-ghost use Rattle.vte_core.specs.private.Prelude.{Advances, ahead, BeginsFour, BeginsThree, bytes_of, chunk_call, Completes, Empty, HasNoRunAt, looks_of, MayReadByte, MovesWithin, NoCharacterStops, One, per_byte, seen, SpendsWithin, Text};
+ghost use Rattle.vte_core.specs.private.Prelude.{Advances, BeginsFour, BeginsThree, bytes_of, caller_looks, chunk_call, Completes, Empty, HasNoRunAt, IsLead, lookahead, looks_of, MayReadByte, NoCharacterStops, One, per_byte, ReadsWithin, SpendsWithin, Text};
 
 use crate::buffer::Buffer;
 use crate::parser::{Machine, State};
 use crate::reader::{CountedPerform, Granularity, Input, Reader};
 use crate::utf8::{
-    Extended, Unfinished, character_of_four, character_of_three, character_of_two, is_continuation,
-    may_begin_four, may_begin_three,
+    Extension, Unfinished, character_of_four, character_of_three, character_of_two,
+    is_continuation, may_begin_four, may_begin_three,
 };
 
 impl<B: Buffer> Machine<B> {
@@ -26,16 +26,15 @@ impl<B: Buffer> Machine<B> {
         requires may_read { MayReadByte
             (chunk_call MAY_STOP P.step P.is_terminated B.limit input.bytes.now)
             (P.value_of performer.old) (Text Empty) self.old from first }
-        requires lead { 0xc2 ≤ first }
-        requires fits { first < 0xf5 }
+        requires lead { IsLead first }
         requires no_stop { G.IN_RUNS ≡ true → MAY_STOP ≡ true
             → NoCharacterStops P.layout P.step P.is_terminated }
         ensures advances { Advances
             ((G.IN_RUNS ≡ false) × HasNoRunAt false input.entry.bytes.now from)
             (chunk_call MAY_STOP P.step P.is_terminated B.limit input.entry.bytes.now)
             (P.value_of performer.old) (P.value_of performer.new) from result self.old self.new }
-        ensures text { result < length input.entry.bytes.now → self.new.state ≡ Text Empty }
-        ensures moves { MovesWithin (per_byte 5) (seen 1)
+        ensures in_text { result < length input.entry.bytes.now → self.new.state ≡ Text Empty }
+        ensures reads_within { ReadsWithin (per_byte 5) (caller_looks 1)
             input.entry.bytes.now from result self.old self.new reader.old reader.new }
         // Three are left of 5 per byte: one for the lead byte, and two for a search that found no
         // run.
@@ -66,7 +65,7 @@ impl<B: Buffer> Machine<B> {
         }
     }
 
-    /// Reads the second byte, at `second_position`, and the third of a character of three bytes.
+    /// Continues the character of three bytes whose second byte, at `second_position`, was read.
     #[inline(always)]
     pub(crate) fn complete_three<P: CountedPerform<G>, G: Granularity, const MAY_STOP: bool>(
         &mut self,
@@ -85,7 +84,7 @@ impl<B: Buffer> Machine<B> {
             (chunk_call MAY_STOP P.step P.is_terminated B.limit input.entry.bytes.now)
             (P.value_of performer.old) (P.value_of performer.new) second_position result
             (One first) self.new }
-        ensures spends { SpendsWithin (per_byte 2) (seen 1) (ahead 2)
+        ensures spends { SpendsWithin (per_byte 2) (caller_looks 1) (lookahead 2)
             input.entry.bytes.now second_position result self.old self.new reader.old reader.new }
     {
         if !may_begin_three(first, second) {
@@ -122,7 +121,7 @@ impl<B: Buffer> Machine<B> {
             (chunk_call MAY_STOP P.step P.is_terminated B.limit input.bytes.now)
             (P.value_of performer.old) (Text Empty) self.old from first }
         requires lead { BeginsFour first }
-        requires within { from + 1 < length input.bytes.now }
+        requires before_end { from + 1 < length input.bytes.now }
         requires looked_at { second ≡ slice_index input.bytes.now (from + 1) }
         requires no_stop { G.IN_RUNS ≡ true → MAY_STOP ≡ true
             → NoCharacterStops P.layout P.step P.is_terminated }
@@ -130,8 +129,8 @@ impl<B: Buffer> Machine<B> {
             ((G.IN_RUNS ≡ false) × HasNoRunAt false input.entry.bytes.now from)
             (chunk_call MAY_STOP P.step P.is_terminated B.limit input.entry.bytes.now)
             (P.value_of performer.old) (P.value_of performer.new) from result self.old self.new }
-        ensures text { result < length input.entry.bytes.now → self.new.state ≡ Text Empty }
-        ensures moves { MovesWithin (per_byte 5) (seen 2)
+        ensures in_text { result < length input.entry.bytes.now → self.new.state ≡ Text Empty }
+        ensures reads_within { ReadsWithin (per_byte 5) (caller_looks 2)
             input.entry.bytes.now from result self.old self.new reader.old reader.new }
         // As in `read_character`, with one more for the second byte.
         ensures looks_at_most { looks_of reader.new + 5 * from + 4
@@ -186,12 +185,12 @@ impl<B: Buffer> Machine<B> {
         input: Input<'_>,
         from: usize,
     ) -> usize
-        requires in_order { from ≤ length input.bytes.now }
+        requires within { from ≤ length input.bytes.now }
         requires some_open { bytes_of begun ≢ [] }
         ensures completes { Completes
             (chunk_call MAY_STOP P.step P.is_terminated B.limit input.entry.bytes.now)
             (P.value_of performer.old) (P.value_of performer.new) from result begun self.new }
-        ensures spends { SpendsWithin (per_byte 2) (seen 0) (ahead 2)
+        ensures spends { SpendsWithin (per_byte 2) (caller_looks 0) (lookahead 2)
             input.entry.bytes.now from result self.old self.new reader.old reader.new }
     {
         self.continue_character::<P, G, MAY_STOP>(reader, performer, begun, input, from)
@@ -208,24 +207,24 @@ impl<B: Buffer> Machine<B> {
         input: Input<'_>,
         from: usize,
     ) -> usize
-        requires in_order { from ≤ length input.bytes.now }
+        requires within { from ≤ length input.bytes.now }
         requires some_open { bytes_of begun ≢ [] }
         ensures completes { Completes
             (chunk_call MAY_STOP P.step P.is_terminated B.limit input.entry.bytes.now)
             (P.value_of performer.old) (P.value_of performer.new) from result begun self.new }
-        ensures spends { SpendsWithin (per_byte 2) (seen 0) (ahead 2)
+        ensures spends { SpendsWithin (per_byte 2) (caller_looks 0) (lookahead 2)
             input.entry.bytes.now from result self.old self.new reader.old reader.new }
     {
         let mut unfinished = begun;
         for position in from..input.len() {
-            match unfinished.extended_by(reader.byte_at(input, position)) {
-                Extended::Truncated(more) => unfinished = more,
-                Extended::WellFormed(c) => {
+            match unfinished.extend(reader.byte_at(input, position)) {
+                Extension::Truncated(more) => unfinished = more,
+                Extension::WellFormed(c) => {
                     reader.report_character(performer, c);
                     self.state = State::Text(Unfinished::Empty);
                     return position + 1;
                 }
-                Extended::Malformed => {
+                Extension::Malformed => {
                     performer.print_char(reader, char::REPLACEMENT_CHARACTER);
                     self.state = State::Text(Unfinished::Empty);
                     return position;

@@ -3,8 +3,8 @@
 //! Their heads are read in two short ways and a general one: `read_short_head` takes a head of at
 //! most one number, and calls nothing before the dispatch; `read_control_sequence` takes numbers
 //! with `;` between them, and `read_rest_of_head` whatever else a head has.
-ghost use Rattle.std.specs.Prelude.{false, List, true, ℕ, ⊤, ◌+◌, ◌<◌, ◌^◌, ◌≡◌};
-ghost use Rattle.vte_core.specs.private.Prelude.{Advances, chunk_call, class_of, CsiDispatch, Dispatches, HandlesByte, HasReadHead, InControlSequence, is_final, MayRead, MovesWithin, per_byte, seen, TakesByte};
+ghost use Rattle.std.specs.Prelude.{false, List, true, ℕ, ◌+◌, ◌<◌, ◌^◌, ◌≡◌};
+ghost use Rattle.vte_core.specs.private.Prelude.{Advances, caller_looks, chunk_call, class_of, CsiDispatch, Dispatches, events_outside_runs, HandlesByteWithin, HasReadHead, InControlSequence, is_final, MayRead, per_byte, ReadsWithin, TakesByte};
 
 use crate::buffer::Buffer;
 use crate::class::{ends_sequence, is_final, is_plain_control};
@@ -27,10 +27,10 @@ impl<B: Buffer> Machine<B> {
             (chunk_call MAY_STOP P.step P.is_terminated B.limit input.bytes.now)
             (P.value_of performer.old) (State.ControlSequence HeadProgress.Entry) self.old from }
         requires not_joined { self.old.collected.joined ≡ false }
-        ensures advances { Advances ⊤
+        ensures advances { Advances events_outside_runs
             (chunk_call MAY_STOP P.step P.is_terminated B.limit input.entry.bytes.now)
             (P.value_of performer.old) (P.value_of performer.new) from result self.old self.new }
-        ensures moves { MovesWithin (per_byte 5) (seen 0)
+        ensures reads_within { ReadsWithin (per_byte 5) (caller_looks 0)
             input.entry.bytes.now from result self.old self.new reader.old reader.new }
     {
         let head = self
@@ -74,10 +74,10 @@ impl<B: Buffer> Machine<B> {
     ) -> usize
         requires { MayRead (chunk_call MAY_STOP P.step P.is_terminated B.limit input.bytes.now)
             (P.value_of performer.old) (State.ControlSequence reached) self.old from }
-        ensures advances { Advances ⊤
+        ensures advances { Advances events_outside_runs
             (chunk_call MAY_STOP P.step P.is_terminated B.limit input.entry.bytes.now)
             (P.value_of performer.old) (P.value_of performer.new) from result self.old self.new }
-        ensures moves { MovesWithin (per_byte 4) (seen 0)
+        ensures reads_within { ReadsWithin (per_byte 4) (caller_looks 0)
             input.entry.bytes.now from result self.old self.new reader.old reader.new }
     {
         self.read_control_sequence::<P, G, MAY_STOP>(reader, performer, input, reached, from)
@@ -85,7 +85,7 @@ impl<B: Buffer> Machine<B> {
 
     /// Continues a control sequence, whose head was read as far as `reached`. There is a short path
     /// for numbers with `;` between them and a final byte after them. Most bytes take it if each
-    /// call has one byte.
+    /// call has one byte and may stop.
     #[inline(always)]
     pub(crate) fn read_control_sequence<P: CountedPerform<G>, G: Granularity, const MAY_STOP: bool>(
         &mut self,
@@ -97,10 +97,10 @@ impl<B: Buffer> Machine<B> {
     ) -> usize
         requires { MayRead (chunk_call MAY_STOP P.step P.is_terminated B.limit input.bytes.now)
             (P.value_of performer.old) (State.ControlSequence reached) self.old from }
-        ensures advances { Advances ⊤
+        ensures advances { Advances events_outside_runs
             (chunk_call MAY_STOP P.step P.is_terminated B.limit input.entry.bytes.now)
             (P.value_of performer.old) (P.value_of performer.new) from result self.old self.new }
-        ensures moves { MovesWithin (per_byte 4) (seen 0)
+        ensures reads_within { ReadsWithin (per_byte 4) (caller_looks 0)
             input.entry.bytes.now from result self.old self.new reader.old reader.new }
     {
         if !reached.may_have_parameters() || self.collected.joined {
@@ -141,10 +141,10 @@ impl<B: Buffer> Machine<B> {
     ) -> usize
         requires { MayRead (chunk_call MAY_STOP P.step P.is_terminated B.limit input.bytes.now)
             (P.value_of performer.old) (State.ControlSequence reached) self.old from }
-        ensures advances { Advances ⊤
+        ensures advances { Advances events_outside_runs
             (chunk_call MAY_STOP P.step P.is_terminated B.limit input.entry.bytes.now)
             (P.value_of performer.old) (P.value_of performer.new) from result self.old self.new }
-        ensures moves { MovesWithin (per_byte 3) (seen 0)
+        ensures reads_within { ReadsWithin (per_byte 3) (caller_looks 0)
             input.entry.bytes.now from result self.old self.new reader.old reader.new }
     {
         let head = self.collected.read_head(reader, reached, input, from);
@@ -184,7 +184,7 @@ impl<B: Buffer> Machine<B> {
         ensures takes { (bytes : List ℕ) → HasReadHead self.old.collected head.progress bytes
             → TakesByte P.step (P.value_of performer.old) (P.value_of performer.new) B.limit
             (InControlSequence bytes) byte self.new }
-        ensures handles { HandlesByte 1 self.old self.new reader.old reader.new }
+        ensures handles { HandlesByteWithin 1 self.old self.new reader.old reader.new }
     {
         if let HeadProgress::IllShaped = head.progress {
             self.state = State::Text(Unfinished::Empty);

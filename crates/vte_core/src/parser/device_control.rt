@@ -1,6 +1,6 @@
 //! Device control strings.
-ghost use Rattle.std.specs.Prelude.{false, List, true, ℕ, ⊤, ◌≡◌};
-ghost use Rattle.vte_core.specs.private.Prelude.{Advances, chunk_call, class_of, DeviceData, HandlesByte, HasReadHead, InDeviceControl, is_device_data, is_final, MayRead, MayReadByte, MovesWithin, per_byte, seen, TakesByte};
+ghost use Rattle.std.specs.Prelude.{false, List, true, ℕ, ◌≡◌};
+ghost use Rattle.vte_core.specs.private.Prelude.{Advances, any_events, caller_looks, chunk_call, class_of, DeviceData, events_outside_runs, HandlesByteWithin, HasReadHead, InDeviceControl, is_device_data, is_final, MayRead, MayReadByte, per_byte, ReadsWithin, TakesByte};
 
 use crate::buffer::Buffer;
 use crate::class::{ends_sequence, is_device_data, is_final};
@@ -25,10 +25,10 @@ impl<B: Buffer> Machine<B> {
     ) -> usize
         requires { MayRead (chunk_call MAY_STOP P.step P.is_terminated B.limit input.bytes.now)
             (P.value_of performer.old) (State.DeviceControl reached) self.old from }
-        ensures advances { Advances ⊤
+        ensures advances { Advances events_outside_runs
             (chunk_call MAY_STOP P.step P.is_terminated B.limit input.entry.bytes.now)
             (P.value_of performer.old) (P.value_of performer.new) from result self.old self.new }
-        ensures moves { MovesWithin (per_byte 5) (seen 0)
+        ensures reads_within { ReadsWithin (per_byte 5) (caller_looks 0)
             input.entry.bytes.now from result self.old self.new reader.old reader.new }
     {
         let head = self.collected.read_head(reader, reached, input, from);
@@ -57,7 +57,7 @@ impl<B: Buffer> Machine<B> {
         ensures takes { (head : List ℕ) → HasReadHead self.old.collected progress head
             → TakesByte P.step (P.value_of performer.old) (P.value_of performer.new) B.limit
             (InDeviceControl head) byte self.new }
-        ensures handles { HandlesByte 1 self.old self.new reader.old reader.new }
+        ensures handles { HandlesByteWithin 1 self.old self.new reader.old reader.new }
     {
         if let HeadProgress::IllShaped = progress {
             self.state = State::IgnoredString;
@@ -81,10 +81,10 @@ impl<B: Buffer> Machine<B> {
     ) -> usize
         requires { MayRead (chunk_call MAY_STOP P.step P.is_terminated B.limit input.bytes.now)
             (P.value_of performer.old) DeviceData self.old from }
-        ensures advances { Advances ⊥
+        ensures advances { Advances any_events
             (chunk_call MAY_STOP P.step P.is_terminated B.limit input.entry.bytes.now)
             (P.value_of performer.old) (P.value_of performer.new) from result self.old self.new }
-        ensures moves { MovesWithin (per_byte 5) (seen 0)
+        ensures reads_within { ReadsWithin (per_byte 5) (caller_looks 0)
             input.entry.bytes.now from result self.old self.new reader.old reader.new }
     {
         for position in from..input.len() {
@@ -121,14 +121,14 @@ impl<B: Buffer> Machine<B> {
             (chunk_call MAY_STOP P.step P.is_terminated B.limit input.bytes.now)
             (P.value_of performer.old) DeviceData self.old from byte }
         requires no_data { is_device_data (class_of byte) ≡ false }
-        ensures advances { Advances ⊤
+        ensures advances { Advances events_outside_runs
             (chunk_call MAY_STOP P.step P.is_terminated B.limit input.entry.bytes.now)
             (P.value_of performer.old) (P.value_of performer.new) from result self.old self.new }
-        ensures moves { MovesWithin (per_byte 5) (seen 1)
+        ensures reads_within { ReadsWithin (per_byte 5) (caller_looks 1)
             input.entry.bytes.now from result self.old self.new reader.old reader.new }
     {
         if ends_sequence(byte) {
-            return self.read_end::<P, G, MAY_STOP>(reader, performer, input, from, byte);
+            return self.read_ending_byte::<P, G, MAY_STOP>(reader, performer, input, from, byte);
         }
         if byte == STRING_TERMINATOR {
             performer.unhook(reader);

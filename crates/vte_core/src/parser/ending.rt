@@ -1,6 +1,6 @@
 //! ESC, CAN and SUB, which end whatever is open, in every state.
-ghost use Rattle.std.specs.Prelude.{true, [], ⊤, ◌∷◌, ◌≡◌};
-ghost use Rattle.vte_core.specs.private.Prelude.{Advances, after, chunk_call, class_of, closing_events_at, ends_sequence, Escape, HandlesByte, IsAtPlace, IsOutsideRunsInState, IsSettledPlace, LooksAtMost, MayReadByte, MovesWithin, per_byte, Place, seen, TakesBytes};
+ghost use Rattle.std.specs.Prelude.{true, [], ◌∷◌, ◌≡◌};
+ghost use Rattle.vte_core.specs.private.Prelude.{Advances, after, caller_looks, chunk_call, class_of, closing_events_at, ends_sequence, Escape, events_outside_runs, HandlesByteWithin, IsAtPlace, IsOutsideRunsInState, IsSettledPlace, LooksWithin, MayReadByte, per_byte, Place, ReadsWithin, TakesBytes};
 
 use crate::buffer::Buffer;
 use crate::class::ESCAPE;
@@ -22,9 +22,9 @@ impl<B: Buffer> Machine<B> {
             → TakesBytes P.step (P.value_of performer.old)
             (P.value_of performer.new) B.limit place (byte ∷ []) self.new }
         ensures escape { byte ≡ 0x1b → self.new.state ≡ Escape }
-        ensures handles { HandlesByte 2 self.old self.new reader.old reader.new }
+        ensures handles { HandlesByteWithin 2 self.old self.new reader.old reader.new }
     {
-        self.report_end(reader, performer);
+        self.report_string_end(reader, performer);
         if byte == ESCAPE {
             self.collected.clear_intermediates();
             self.state = State::Escape;
@@ -35,7 +35,7 @@ impl<B: Buffer> Machine<B> {
     }
 
     /// Reads a byte that ends what is open, and after ESC also the bytes that follow it.
-    pub(crate) fn read_end<P: CountedPerform<G>, G: Granularity, const MAY_STOP: bool>(
+    pub(crate) fn read_ending_byte<P: CountedPerform<G>, G: Granularity, const MAY_STOP: bool>(
         &mut self,
         reader: &mut Reader,
         performer: &mut P,
@@ -48,21 +48,21 @@ impl<B: Buffer> Machine<B> {
             (P.value_of performer.old) self.old.state self.old from byte }
         requires ends { ends_sequence (class_of byte) ≡ true }
         requires outside_runs { IsOutsideRunsInState self.old.state byte }
-        ensures advances { Advances ⊤
+        ensures advances { Advances events_outside_runs
             (chunk_call MAY_STOP P.step P.is_terminated B.limit input.entry.bytes.now)
             (P.value_of performer.old) (P.value_of performer.new) from result self.old self.new }
-        ensures moves { MovesWithin (per_byte 3) (seen 1)
+        ensures reads_within { ReadsWithin (per_byte 3) (caller_looks 1)
             input.entry.bytes.now from result self.old self.new reader.old reader.new }
     {
         self.end_sequence(reader, performer, byte);
         if byte != ESCAPE || (MAY_STOP && performer.terminated()) {
             return from + 1;
         }
-        self.read_escape::<P, G, MAY_STOP>(reader, performer, input, from + 1)
+        self.read_after_escape::<P, G, MAY_STOP>(reader, performer, input, from + 1)
     }
 
     /// Reports the end of a string: `unhook`, or the operating system command.
-    fn report_end<P: CountedPerform<G>, G: Granularity>(
+    fn report_string_end<P: CountedPerform<G>, G: Granularity>(
         &self,
         reader: &mut Reader,
         performer: &mut P,
@@ -70,7 +70,7 @@ impl<B: Buffer> Machine<B> {
         ensures reported { (place : Place) → IsAtPlace B.limit self.now place
             → IsSettledPlace place → P.value_of performer.new
             ≡ after P.step (P.value_of performer.old) (closing_events_at B.limit place) }
-        ensures looks_at_most { LooksAtMost 1 reader.old reader.new }
+        ensures looks_at_most { LooksWithin 1 reader.old reader.new }
     {
         match self.state {
             State::DeviceData => performer.unhook(reader),

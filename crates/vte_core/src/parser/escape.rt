@@ -1,6 +1,6 @@
 //! Escape sequences, and what ESC begins.
-ghost use Rattle.std.specs.Prelude.{slice_index, true, [], ⊤, ◌*◌, ◌+◌, ◌<◌, ◌∷◌, ◌≡◌, ◌≢◌, ◌≤◌};
-ghost use Rattle.vte_core.specs.private.Prelude.{Advances, AtEscape, Dispatches, Empty, Escape, EscapeIntermediate, EscDispatch, HandlesByte, IsSettledPlace, MayRead, MayReadAt, MovesWithin, per_byte, Place, seen, TakesBytes};
+ghost use Rattle.std.specs.Prelude.{slice_index, true, [], ◌*◌, ◌+◌, ◌<◌, ◌∷◌, ◌≡◌, ◌≢◌, ◌≤◌};
+ghost use Rattle.vte_core.specs.private.Prelude.{Advances, AtEscape, caller_looks, Dispatches, Empty, Escape, EscapeIntermediate, EscDispatch, events_outside_runs, HandlesByteWithin, IsSettledPlace, MayRead, MayReadAt, per_byte, Place, ReadsWithin, TakesBytes};
 ghost use Rattle.vte_core.specs.private.Prelude.{chunk_call, class_of, is_final, IsAtPlace, looks_of, TakesByte, Text};
 
 use crate::buffer::Buffer;
@@ -15,7 +15,7 @@ use crate::reader::{CountedPerform, Granularity, Input, Reader};
 impl<B: Buffer> Machine<B> {
     /// Begins an escape sequence at an ESC in a text, and reads the bytes after the ESC.
     #[inline(never)]
-    pub(crate) fn read_from_escape<P: CountedPerform<G>, G: Granularity, const MAY_STOP: bool>(
+    pub(crate) fn read_escape_in_text<P: CountedPerform<G>, G: Granularity, const MAY_STOP: bool>(
         &mut self,
         reader: &mut Reader,
         performer: &mut P,
@@ -26,10 +26,10 @@ impl<B: Buffer> Machine<B> {
             (chunk_call MAY_STOP P.step P.is_terminated B.limit input.bytes.now)
             (P.value_of performer.old) (Text Empty) self.old from }
         requires escape { slice_index input.bytes.now from ≡ 0x1b }
-        ensures advances { Advances ⊤
+        ensures advances { Advances events_outside_runs
             (chunk_call MAY_STOP P.step P.is_terminated B.limit input.entry.bytes.now)
             (P.value_of performer.old) (P.value_of performer.new) from result self.old self.new }
-        ensures moves { MovesWithin (per_byte 5) (seen 1)
+        ensures reads_within { ReadsWithin (per_byte 5) (caller_looks 1)
             input.entry.bytes.now from result self.old self.new reader.old reader.new }
         // The caller took one look at ESC; the four others that a byte may cost are left for
         // `find_text_part_end`.
@@ -44,13 +44,13 @@ impl<B: Buffer> Machine<B> {
             return self.read_short_head::<P, G, MAY_STOP>(reader, performer, input, next + 1);
         }
         self.state = State::Escape;
-        self.read_escape::<P, G, MAY_STOP>(reader, performer, input, next)
+        self.read_after_escape::<P, G, MAY_STOP>(reader, performer, input, next)
     }
 
     /// Reads bytes after ESC, up to the one that says what begins. After `[` it reads the control
     /// sequence too.
     #[inline(never)]
-    pub(crate) fn read_escape<P: CountedPerform<G>, G: Granularity, const MAY_STOP: bool>(
+    pub(crate) fn read_after_escape<P: CountedPerform<G>, G: Granularity, const MAY_STOP: bool>(
         &mut self,
         reader: &mut Reader,
         performer: &mut P,
@@ -59,10 +59,10 @@ impl<B: Buffer> Machine<B> {
     ) -> usize
         requires { MayRead (chunk_call MAY_STOP P.step P.is_terminated B.limit input.bytes.now)
             (P.value_of performer.old) Escape self.old from }
-        ensures advances { Advances ⊤
+        ensures advances { Advances events_outside_runs
             (chunk_call MAY_STOP P.step P.is_terminated B.limit input.entry.bytes.now)
             (P.value_of performer.old) (P.value_of performer.new) from result self.old self.new }
-        ensures moves { MovesWithin (per_byte 3) (seen 0)
+        ensures reads_within { ReadsWithin (per_byte 3) (caller_looks 0)
             input.entry.bytes.now from result self.old self.new reader.old reader.new }
     {
         for position in from..input.len() {
@@ -105,7 +105,7 @@ impl<B: Buffer> Machine<B> {
             → TakesBytes P.step
             (P.value_of performer.old) (P.value_of performer.new) B.limit place
             (byte ∷ []) self.new }
-        ensures handles { HandlesByte 2 self.old self.new reader.old reader.new }
+        ensures handles { HandlesByteWithin 2 self.old self.new reader.old reader.new }
     {
         if is_final(byte) {
             self.begin_or_dispatch(reader, performer, byte);
@@ -136,7 +136,7 @@ impl<B: Buffer> Machine<B> {
         ensures takes { IsAtPlace B.limit self.old AtEscape
             → TakesByte P.step (P.value_of performer.old) (P.value_of performer.new)
             B.limit AtEscape byte self.new }
-        ensures handles { HandlesByte 1 self.old self.new reader.old reader.new }
+        ensures handles { HandlesByteWithin 1 self.old self.new reader.old reader.new }
     {
         if byte == b'P' {
             self.collected.clear_numbers();
@@ -162,10 +162,10 @@ impl<B: Buffer> Machine<B> {
     ) -> usize
         requires { MayRead (chunk_call MAY_STOP P.step P.is_terminated B.limit input.bytes.now)
             (P.value_of performer.old) EscapeIntermediate self.old from }
-        ensures advances { Advances ⊤
+        ensures advances { Advances events_outside_runs
             (chunk_call MAY_STOP P.step P.is_terminated B.limit input.entry.bytes.now)
             (P.value_of performer.old) (P.value_of performer.new) from result self.old self.new }
-        ensures moves { MovesWithin (per_byte 5) (seen 0)
+        ensures reads_within { ReadsWithin (per_byte 5) (caller_looks 0)
             input.entry.bytes.now from result self.old self.new reader.old reader.new }
     {
         for position in from..input.len() {

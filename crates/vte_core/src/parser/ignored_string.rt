@@ -1,6 +1,5 @@
 //! Ignored strings: SOS, PM, APC, and device control strings with an ill-shaped head.
-ghost use Rattle.std.specs.Prelude.{⊤};
-ghost use Rattle.vte_core.specs.private.Prelude.{Advances, chunk_call, IgnoredString, MayReadAt, MovesWithin, per_byte, seen};
+ghost use Rattle.vte_core.specs.private.Prelude.{Advances, caller_looks, chunk_call, events_outside_runs, IgnoredString, MayReadAt, per_byte, ReadsWithin};
 
 use crate::buffer::Buffer;
 use crate::parser::machine::Machine;
@@ -17,15 +16,17 @@ impl<B: Buffer> Machine<B> {
     ) -> usize
         requires { MayReadAt (chunk_call MAY_STOP P.step P.is_terminated B.limit input.bytes.now)
             (P.value_of performer.old) IgnoredString self.old from }
-        ensures advances { Advances ⊤
+        ensures advances { Advances events_outside_runs
             (chunk_call MAY_STOP P.step P.is_terminated B.limit input.entry.bytes.now)
             (P.value_of performer.old) (P.value_of performer.new) from result self.old self.new }
-        ensures moves { MovesWithin (per_byte 5) (seen 0)
+        ensures reads_within { ReadsWithin (per_byte 5) (caller_looks 0)
             input.entry.bytes.now from result self.old self.new reader.old reader.new }
     {
         let end = reader.find_ignored_string_end(input, from);
         match reader.get_byte(input, end) {
-            Some(byte) => self.read_end::<P, G, MAY_STOP>(reader, performer, input, end, byte),
+            Some(byte) => self.read_ending_byte::<P, G, MAY_STOP>(
+                reader, performer, input, end, byte,
+            ),
             None => end,
         }
     }

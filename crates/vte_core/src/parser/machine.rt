@@ -5,17 +5,17 @@ ghost use Rattle.vte_core.specs.Open.{SaysOpen, SaysWhetherOpen};
 ghost use Rattle.vte_core.specs.private.Prelude.{HasReadWithLimit, outcome, SaysLoss};
 
 use crate::buffer::Buffer;
-use crate::head::Collected;
+use crate::head::CollectedHead;
 use crate::parser::{Open, State, Unfinished};
-use crate::store::Store;
+use crate::store::CommandStore;
 
 /// A parser over any buffer for operating system commands. The state functions are its methods.
 #[derive(Drop)]
 // cargo: #[derive(Clone)]
 pub(crate) struct Machine<B: Buffer> {
     pub(crate) state: State,
-    pub(crate) collected: Collected,
-    pub(crate) command: Store<B>,
+    pub(crate) collected: CollectedHead,
+    pub(crate) command: CommandStore<B>,
 }
 
 impl<B: Buffer> Machine<B> {
@@ -24,12 +24,12 @@ impl<B: Buffer> Machine<B> {
     pub(crate) fn new(bytes: B) -> Self
         requires { B.held bytes ≡ [] }
         ensures reads { HasReadWithLimit B.limit result [] }
-        ensures memory { result.command.capacity ≡ B.capacity bytes }
+        ensures capacity_is { result.command.capacity ≡ B.capacity bytes }
     {
         Machine {
             state: State::Text(Unfinished::Empty),
-            collected: Collected::new(),
-            command: Store::new(bytes),
+            collected: CollectedHead::new(),
+            command: CommandStore::new(bytes),
         }
     }
 
@@ -38,7 +38,7 @@ impl<B: Buffer> Machine<B> {
     pub(crate) fn command_lost_data(&self) -> bool
         ensures lost { result ≡ self.now.command.lost }
         ensures open { (stream : List ℕ) → HasReadWithLimit B.limit self.now stream
-            → SaysLoss (outcome B.limit stream).left result }
+            → SaysLoss (outcome B.limit stream).to_close result }
     {
         self.command.has_lost_data()
     }

@@ -1,6 +1,6 @@
 //! What is unfinished where a parser is.
 ghost use Rattle.std.specs.Prelude.{◌≡◌};
-ghost use Rattle.vte_core.specs.private.ParserFields.{open_in};
+ghost use Rattle.vte_core.specs.private.AtPlace.{open_in};
 
 use crate::parser::{State, Unfinished};
 

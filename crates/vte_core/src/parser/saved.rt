@@ -69,7 +69,7 @@ fn collect_front<T: Copy + Default + Drop, const N: usize>(
 }
 
 /// Returns the number of a state, and the bytes of an unfinished character.
-fn saved_state(state: State) -> [u8; 4]
+fn encode_state(state: State) -> [u8; 4]
     ensures { result ≡ state_bytes state }
 {
     match state {
@@ -94,7 +94,7 @@ fn saved_state(state: State) -> [u8; 4]
 }
 
 /// Returns the state with this number. Each number above 16 also stands for an ignored string.
-fn restored_state(saved: [u8; 4]) -> State
+fn decode_state(saved: [u8; 4]) -> State
     ensures { (state : State) → saved ≡ state_bytes state → result ≡ state }
 {
     let [number, first, second, third] = saved;
@@ -183,7 +183,7 @@ impl Parser<MAX_OSC_RAW> {
             }
             _ => {}
         }
-        saved.state = saved_state(machine.state);
+        saved.state = encode_state(machine.state);
         let collected = &machine.collected;
         let intermediates = collected.intermediates.as_slice();
         saved.intermediate_count = copy_to_front(intermediates, &mut saved.intermediates);
@@ -212,7 +212,7 @@ impl Parser<MAX_OSC_RAW> {
         ensures { (stream : List ℕ) → HasReadSaved saved.now stream → HasRead self.new stream }
     {
         let machine = &mut self.machine;
-        machine.state = restored_state(saved.state);
+        machine.state = decode_state(saved.state);
         match machine.state {
             State::ControlSequence(_) | State::DeviceControl(_) => {
                 machine.collected.params = Params::from_raw_parts(

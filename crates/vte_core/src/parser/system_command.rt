@@ -1,6 +1,6 @@
 //! Operating system commands.
-ghost use Rattle.std.specs.Prelude.{IfErr, IfOk, ⊤};
-ghost use Rattle.vte_core.specs.private.Prelude.{Advances, chunk_call, IsRefusedAt, MayReadAt, MovesWithin, per_byte, read_count, seen, SystemCommand};
+ghost use Rattle.std.specs.Prelude.{IfErr, IfOk};
+ghost use Rattle.vte_core.specs.private.Prelude.{Advances, caller_looks, chunk_call, events_outside_runs, IsRefusedAt, MayReadAt, per_byte, read_count, ReadsWithin, SystemCommand};
 
 use crate::buffer::Buffer;
 use crate::class::ends_sequence;
@@ -23,12 +23,12 @@ impl<B: Buffer> Machine<B> {
     ) -> Result<usize, Refused>
         requires { MayReadAt (chunk_call MAY_STOP P.step P.is_terminated B.limit input.bytes.now)
             (P.value_of performer.old) SystemCommand self.old from }
-        ensures advances { Advances ⊤
+        ensures advances { Advances events_outside_runs
             (chunk_call MAY_STOP P.step P.is_terminated B.limit input.entry.bytes.now)
             (P.value_of performer.old) (P.value_of performer.new) from (read_count result) self.old
             self.new }
-        ensures moves { IfOk result
-            (λ read. MovesWithin (per_byte 5) (seen 0)
+        ensures reads_within { IfOk result
+            (λ read. ReadsWithin (per_byte 5) (caller_looks 0)
             input.entry.bytes.now from read self.old self.new reader.old reader.new) }
         ensures refuses { IfErr result
             (λ refused.
@@ -45,7 +45,7 @@ impl<B: Buffer> Machine<B> {
             None => return Ok(end),
         };
         if ends_sequence(byte) {
-            return Ok(self.read_end::<P, G, MAY_STOP>(reader, performer, input, end, byte));
+            return Ok(self.read_ending_byte::<P, G, MAY_STOP>(reader, performer, input, end, byte));
         }
         if byte == b';' {
             self.command.end_piece();

@@ -1,6 +1,6 @@
 //! Text: characters, runs of them, and malformed sequences.
 ghost use Rattle.std.specs.Prelude.{false, IfSome, length, None, slice_index, true, ◌*◌, ◌+◌, ◌<◌, ◌≡◌, ◌≤◌};
-ghost use Rattle.vte_core.specs.private.Prelude.{Advances, chunk_call, Empty, IsPrintedAscii, looks_of, MayReadAt, MayReadByte, MovesWithin, NoCharacterStops, per_byte, PrintsRun, seen, Text};
+ghost use Rattle.vte_core.specs.private.Prelude.{Advances, any_events, caller_looks, chunk_call, Empty, IsLead, IsPrintedAscii, looks_of, MayReadAt, MayReadByte, NoCharacterStops, per_byte, PrintsRun, ReadsWithin, Text};
 
 use crate::buffer::Buffer;
 use crate::class::ESCAPE;
@@ -14,7 +14,7 @@ const SHORT_TEXT: usize = 128;
 
 /// The end of a run of ASCII, and the byte there if it was read and isn't printed ASCII.
 #[derive(Clone, Copy)]
-struct AsciiRun {
+struct AsciiEnd {
     end: usize,
     next_byte: Option<u8>,
 }
@@ -22,15 +22,15 @@ struct AsciiRun {
 /// Prints the run of ASCII at a position. If it is short, only its first byte is printed.
 #[inline(always)]
 // cargo: #[allow(unsafe_code)]
-fn print_ascii<P: CountedPerform<G>, G: Granularity>(
+fn print_ascii_run<P: CountedPerform<G>, G: Granularity>(
     reader: &mut Reader,
     performer: &mut P,
     input: Input<'_>,
     from: usize,
     first: u8,
-) -> AsciiRun
+) -> AsciiEnd
     requires in_runs { G.IN_RUNS ≡ true }
-    requires within { from < length input.bytes.now }
+    requires before_end { from < length input.bytes.now }
     requires looked_at { first ≡ slice_index input.bytes.now from }
     requires printed { IsPrintedAscii first }
     ensures prints { PrintsRun P.layout P.step (P.value_of performer.old)
@@ -38,8 +38,8 @@ fn print_ascii<P: CountedPerform<G>, G: Granularity>(
     ensures next_is { IfSome result.next_byte (λ byte. (result.end < length input.entry.bytes.now)
         × (byte ≡ slice_index input.entry.bytes.now result.end)) }
     ensures next_not_printed { IfSome result.next_byte (λ byte. IsPrintedAscii byte → ⊥) }
-    ensures progress { from < result.end }
-    ensures high { result.end ≤ length input.entry.bytes.now }
+    ensures reads_some { from < result.end }
+    ensures within { result.end ≤ length input.entry.bytes.now }
     ensures looks_at_most { looks_of reader.new + 5 * from + 1
         ≤ looks_of reader.old + 5 * result.end }
     ensures looks_at_least { looks_of reader.old + result.end ≤ looks_of reader.new + from }
@@ -49,7 +49,7 @@ fn print_ascii<P: CountedPerform<G>, G: Granularity>(
         let end = reader.find_ascii_run_end(performer, input, from);
         // cargo: // SAFETY: ASCII is at `from`, and the search passes whole characters.
         reader.report_text(performer, input, from, end);
-        return AsciiRun {
+        return AsciiEnd {
             end,
             next_byte: None,
         };
@@ -57,8 +57,8 @@ fn print_ascii<P: CountedPerform<G>, G: Granularity>(
     performer.print_char(reader, char::from(first));
     let end = from + 1;
     match next_byte {
-        Some(byte) if !is_printed_ascii(byte) => AsciiRun { end, next_byte },
-        _ => AsciiRun {
+        Some(byte) if !is_printed_ascii(byte) => AsciiEnd { end, next_byte },
+        _ => AsciiEnd {
             end,
             next_byte: None,
         },
@@ -81,10 +81,10 @@ impl<B: Buffer> Machine<B> {
             (P.value_of performer.old) (Text Empty) self.old from }
         requires no_stop { G.IN_RUNS ≡ true → MAY_STOP ≡ true
             → NoCharacterStops P.layout P.step P.is_terminated }
-        ensures advances { Advances ⊥
+        ensures advances { Advances any_events
             (chunk_call MAY_STOP P.step P.is_terminated B.limit input.entry.bytes.now)
             (P.value_of performer.old) (P.value_of performer.new) from result self.old self.new }
-        ensures moves { MovesWithin (per_byte 5) (seen 0)
+        ensures reads_within { ReadsWithin (per_byte 5) (caller_looks 0)
             input.entry.bytes.now from result self.old self.new reader.old reader.new }
     {
         if G::IN_RUNS {
@@ -110,17 +110,17 @@ impl<B: Buffer> Machine<B> {
             (chunk_call MAY_STOP P.step P.is_terminated B.limit input.bytes.now)
             (P.value_of performer.old) (Text Empty) self.old from }
         requires no_stop { MAY_STOP ≡ true → NoCharacterStops P.layout P.step P.is_terminated }
-        ensures advances { Advances ⊥
+        ensures advances { Advances any_events
             (chunk_call MAY_STOP P.step P.is_terminated B.limit input.entry.bytes.now)
             (P.value_of performer.old) (P.value_of performer.new) from result self.old self.new }
-        ensures moves { MovesWithin (per_byte 5) (seen 0)
+        ensures reads_within { ReadsWithin (per_byte 5) (caller_looks 0)
             input.entry.bytes.now from result self.old self.new reader.old reader.new }
     {
         let mut position = from;
         while position < input.len() {
             let mut byte = reader.byte_at(input, position);
             if is_printed_ascii(byte) {
-                let run = print_ascii(reader, performer, input, position, byte);
+                let run = print_ascii_run(reader, performer, input, position, byte);
                 position = run.end;
                 match run.next_byte {
                     Some(next_byte) => byte = next_byte,
@@ -130,7 +130,7 @@ impl<B: Buffer> Machine<B> {
             // One comparison tells lead bytes and malformed ones from ESC and controls.
             if byte < 0xa0 {
                 if byte == ESCAPE {
-                    return self.read_from_escape::<P, G, MAY_STOP>(
+                    return self.read_escape_in_text::<P, G, MAY_STOP>(
                         reader, performer, input, position,
                     );
                 }
@@ -166,14 +166,15 @@ impl<B: Buffer> Machine<B> {
         requires may_read { MayReadAt
             (chunk_call true P.step P.is_terminated B.limit input.bytes.now)
             (P.value_of performer.old) (Text Empty) self.old from }
-        ensures advances { Advances ⊥
+        ensures advances { Advances any_events
             (chunk_call true P.step P.is_terminated B.limit input.entry.bytes.now)
             (P.value_of performer.old) (P.value_of performer.new) from result self.old self.new }
-        ensures moves { MovesWithin (per_byte 5) (seen 0)
+        ensures reads_within { ReadsWithin (per_byte 5) (caller_looks 0)
             input.entry.bytes.now from result self.old self.new reader.old reader.new }
     {
         let mut position = from;
-        // The length of `prefix` bounds the position, so that the loop has no test of the index.
+        // The length of `prefix` bounds the position, so that the inner loop has no test of the
+        // index. As a function of its own, it would return a position and why it ended.
         let mut prefix = input.up_to((from + SHORT_TEXT).min(input.len()));
         while position < input.len() {
             while position < prefix.len() {
@@ -190,7 +191,9 @@ impl<B: Buffer> Machine<B> {
                     }
                     continue;
                 } else if byte == ESCAPE {
-                    return self.read_from_escape::<P, G, true>(reader, performer, input, position);
+                    return self.read_escape_in_text::<P, G, true>(
+                        reader, performer, input, position,
+                    );
                 } else {
                     reader.report_lone_byte(performer, byte);
                 }
@@ -206,9 +209,9 @@ impl<B: Buffer> Machine<B> {
         position
     }
 
-    /// Reads text character by character, for a call that can't stop. Each round reads the byte of
-    /// the next one, which takes fewer instructions here, but more in a call that may stop
-    /// (DECISIONS).
+    /// Reads text character by character, for a call that can't stop.
+    // Each round reads the byte of the next one, which takes fewer instructions here, but more in a
+    // call that may stop (DECISIONS).
     #[inline(always)]
     fn read_characters<P: CountedPerform<G>, G: Granularity>(
         &mut self,
@@ -221,10 +224,10 @@ impl<B: Buffer> Machine<B> {
         requires may_read { MayReadAt
             (chunk_call false P.step P.is_terminated B.limit input.bytes.now)
             (P.value_of performer.old) (Text Empty) self.old from }
-        ensures advances { Advances ⊥
+        ensures advances { Advances any_events
             (chunk_call false P.step P.is_terminated B.limit input.entry.bytes.now)
             (P.value_of performer.old) (P.value_of performer.new) from result self.old self.new }
-        ensures moves { MovesWithin (per_byte 5) (seen 0)
+        ensures reads_within { ReadsWithin (per_byte 5) (caller_looks 0)
             input.entry.bytes.now from result self.old self.new reader.old reader.new }
     {
         let mut position = from;
@@ -241,7 +244,7 @@ impl<B: Buffer> Machine<B> {
                 return position;
             }
         }
-        self.read_from_escape::<P, G, false>(reader, performer, input, position)
+        self.read_escape_in_text::<P, G, false>(reader, performer, input, position)
     }
 
     /// Reads the character, malformed sequence or control that begins with a byte of text. Returns
@@ -263,12 +266,12 @@ impl<B: Buffer> Machine<B> {
         ensures unread { result ≡ None → (self.new ≡ self.old)
             × (P.value_of performer.new ≡ P.value_of performer.old)
             × (looks_of reader.new ≡ looks_of reader.old) }
-        ensures advances { IfSome result (λ end. Advances ⊥
+        ensures advances { IfSome result (λ end. Advances any_events
             (chunk_call false P.step P.is_terminated B.limit input.entry.bytes.now)
             (P.value_of performer.old) (P.value_of performer.new) from end self.old self.new) }
-        ensures text { IfSome result (λ end. end < length input.entry.bytes.now
+        ensures in_text { IfSome result (λ end. end < length input.entry.bytes.now
             → self.new.state ≡ Text Empty) }
-        ensures moves { IfSome result (λ end. MovesWithin (per_byte 3) (seen 1)
+        ensures reads_within { IfSome result (λ end. ReadsWithin (per_byte 3) (caller_looks 1)
             input.entry.bytes.now from end self.old self.new reader.old reader.new) }
     {
         if is_printed_ascii(first) {
@@ -303,14 +306,13 @@ impl<B: Buffer> Machine<B> {
         requires may_read { MayReadByte
             (chunk_call MAY_STOP P.step P.is_terminated B.limit input.bytes.now)
             (P.value_of performer.old) (Text Empty) self.old from first }
-        requires lead { 0xc2 ≤ first }
-        requires fits { first < 0xf5 }
+        requires lead { IsLead first }
         requires no_stop { MAY_STOP ≡ true → NoCharacterStops P.layout P.step P.is_terminated }
-        ensures advances { Advances ⊥
+        ensures advances { Advances any_events
             (chunk_call MAY_STOP P.step P.is_terminated B.limit input.entry.bytes.now)
             (P.value_of performer.old) (P.value_of performer.new) from result self.old self.new }
-        ensures text { result < length input.entry.bytes.now → self.new.state ≡ Text Empty }
-        ensures moves { MovesWithin (per_byte 5) (seen 1)
+        ensures in_text { result < length input.entry.bytes.now → self.new.state ≡ Text Empty }
+        ensures reads_within { ReadsWithin (per_byte 5) (caller_looks 1)
             input.entry.bytes.now from result self.old self.new reader.old reader.new }
     {
         let end = reader.find_run_end_at_lead(performer, input, from, first);

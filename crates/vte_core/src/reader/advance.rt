@@ -2,7 +2,7 @@
 // proof: each makes a [`Chunk`] of its bytes.
 ghost use Rattle.vte_core.specs.Advance.{ReadsBytes, ReadsUntilTerminated};
 ghost use Rattle.vte_core.specs.AdvanceToRun.{ReadsToRun};
-ghost use Rattle.vte_core.specs.Parser.{reading_of};
+ghost use Rattle.vte_core.specs.Parser.{parser_facts};
 
 use crate::parser::Parser;
 use crate::perform::{Perform, PerformText, PerformThroughText};
@@ -15,7 +15,7 @@ impl<const OSC_RAW_BUF_SIZE: usize> Parser<OSC_RAW_BUF_SIZE> {
     /// at the end waits for more bytes.
     pub fn advance<P: Perform>(&mut self, performer: &mut P, bytes: &[u8])
         ensures { ReadsBytes P.step (P.value_of performer.old) (P.value_of performer.new) bytes.now
-            (reading_of self.old) (reading_of self.new) }
+            (parser_facts self.old) (parser_facts self.new) }
     {
         self.drive::<P, ByCharacter, false>(performer, Chunk::new(bytes));
     }
@@ -25,7 +25,7 @@ impl<const OSC_RAW_BUF_SIZE: usize> Parser<OSC_RAW_BUF_SIZE> {
     /// [slices](crate::PerformText::put_slice).
     pub fn advance_text<P: PerformText>(&mut self, performer: &mut P, bytes: &[u8])
         ensures { ReadsBytes P.step (P.value_of performer.old) (P.value_of performer.new) bytes.now
-            (reading_of self.old) (reading_of self.new) }
+            (parser_facts self.old) (parser_facts self.new) }
     {
         self.drive::<P, InRuns, false>(performer, Chunk::new(bytes));
     }
@@ -39,7 +39,7 @@ impl<const OSC_RAW_BUF_SIZE: usize> Parser<OSC_RAW_BUF_SIZE> {
     #[must_use = "the bytes after the stop are still to be read"]
     pub fn advance_until_terminated<P: Perform>(&mut self, performer: &mut P, bytes: &[u8]) -> usize
         ensures { ReadsUntilTerminated P.step P.is_terminated result (P.value_of performer.old)
-            (P.value_of performer.new) bytes.now (reading_of self.old) (reading_of self.new) }
+            (P.value_of performer.new) bytes.now (parser_facts self.old) (parser_facts self.new) }
     {
         self.drive::<P, ByCharacter, true>(performer, Chunk::new(bytes))
     }
@@ -55,7 +55,7 @@ impl<const OSC_RAW_BUF_SIZE: usize> Parser<OSC_RAW_BUF_SIZE> {
         bytes: &[u8],
     ) -> usize
         ensures { ReadsUntilTerminated P.step P.is_terminated result (P.value_of performer.old)
-            (P.value_of performer.new) bytes.now (reading_of self.old) (reading_of self.new) }
+            (P.value_of performer.new) bytes.now (parser_facts self.old) (parser_facts self.new) }
     {
         self.drive::<P, InRuns, true>(performer, Chunk::new(bytes))
     }
@@ -86,7 +86,7 @@ impl<const OSC_RAW_BUF_SIZE: usize> Parser<OSC_RAW_BUF_SIZE> {
     // cargo: #[allow(unsafe_code)]
     pub fn advance_to_run<'a, P: Perform>(&mut self, performer: &mut P, bytes: &'a [u8]) -> Run<'a>
         ensures { ReadsToRun P.step P.is_terminated result (P.value_of performer.old)
-            (P.value_of performer.new) bytes.now (reading_of self.old) (reading_of self.new) }
+            (P.value_of performer.new) bytes.now (parser_facts self.old) (parser_facts self.new) }
     {
         let range = self.drive_to_run(performer, Chunk::new(bytes));
         // cargo: // SAFETY: `drive_to_run` found the range in these bytes.

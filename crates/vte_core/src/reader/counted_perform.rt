@@ -1,9 +1,9 @@
 //! Performers, as the functions of a parser see them.
 // proof: they count each event as it is reported.
 ghost use Rattle.std.specs.Prelude.{Bool, chars, false, length, map, true, ◌<◌, ◌≡◌};
-ghost use Rattle.vte_core.specs.private.Prelude.{CsiDispatch, EscDispatch, Event, Execute, Hook, is_control_character, IsNonEmptyRun, OscDispatch, Print, Put, Reports, ReportsAll, run_event, Unhook};
+ghost use Rattle.vte_core.specs.private.Prelude.{CsiDispatch, EscDispatch, Event, Execute, Hook, is_control_character, IsRunText, OscDispatch, Print, Put, Reports, ReportsAll, run_event, Unhook};
 
-use crate::head::Collected;
+use crate::head::CollectedHead;
 use crate::perform::Perform;
 use crate::reader::Reader;
 use crate::reader::granularity::{Granularity, ReceiveAs};
@@ -33,7 +33,8 @@ pub(crate) trait CountedPerform<G: Granularity> {
     /// Reports a text to print, and counts its bytes, which are no fewer than its characters.
     fn print_text(&mut self, reader: &mut Reader, text: &str)
         requires in_runs { G.IN_RUNS ≡ true }
-        requires run { IsNonEmptyRun layout text.now }
+        requires not_empty { 0 < length text.now }
+        requires is_run_text { IsRunText layout text.now }
         ensures { ReportsAll step (value_of self.old) (value_of self.new)
             (map (run_event layout) (chars text.now)) (length text.now) reader.old reader.new };
 
@@ -43,7 +44,7 @@ pub(crate) trait CountedPerform<G: Granularity> {
             (Execute byte) reader.old reader.new };
 
     /// Reports that a device control string begins, with the final byte of its head.
-    fn hook(&mut self, reader: &mut Reader, collected: &Collected, ignore: bool, byte: u8)
+    fn hook(&mut self, reader: &mut Reader, collected: &CollectedHead, ignore: bool, byte: u8)
         ensures { Reports step (value_of self.old) (value_of self.new)
             (Hook collected.now.params collected.now.intermediates.items ignore byte) reader.old
             reader.new };
@@ -71,13 +72,19 @@ pub(crate) trait CountedPerform<G: Granularity> {
             (OscDispatch (map (λ piece. piece.now) pieces.now) bell) reader.old reader.new };
 
     /// Reports a control sequence with this final byte.
-    fn csi_dispatch(&mut self, reader: &mut Reader, collected: &Collected, ignore: bool, byte: u8)
+    fn csi_dispatch(
+        &mut self,
+        reader: &mut Reader,
+        collected: &CollectedHead,
+        ignore: bool,
+        byte: u8,
+    )
         ensures { Reports step (value_of self.old) (value_of self.new)
             (CsiDispatch collected.now.params collected.now.intermediates.items ignore byte)
             reader.old reader.new };
 
     /// Reports an escape sequence with this final byte.
-    fn esc_dispatch(&mut self, reader: &mut Reader, collected: &Collected, byte: u8)
+    fn esc_dispatch(&mut self, reader: &mut Reader, collected: &CollectedHead, byte: u8)
         ensures { Reports step (value_of self.old) (value_of self.new)
             (EscDispatch collected.now.intermediates.items collected.now.too_many_intermediates
             byte)
@@ -123,7 +130,7 @@ impl<P: ReceiveAs<G>, G: Granularity> CountedPerform<G> for P {
     }
 
     #[inline(always)]
-    fn hook(&mut self, reader: &mut Reader, collected: &Collected, ignore: bool, byte: u8) {
+    fn hook(&mut self, reader: &mut Reader, collected: &CollectedHead, ignore: bool, byte: u8) {
         reader.count_looks(1);
         let (intermediates, action) = (collected.intermediates.as_slice(), char::from(byte));
         Perform::hook(self, &collected.params, intermediates, ignore, action);
@@ -154,14 +161,20 @@ impl<P: ReceiveAs<G>, G: Granularity> CountedPerform<G> for P {
     }
 
     #[inline(always)]
-    fn csi_dispatch(&mut self, reader: &mut Reader, collected: &Collected, ignore: bool, byte: u8) {
+    fn csi_dispatch(
+        &mut self,
+        reader: &mut Reader,
+        collected: &CollectedHead,
+        ignore: bool,
+        byte: u8,
+    ) {
         reader.count_looks(1);
         let (intermediates, action) = (collected.intermediates.as_slice(), char::from(byte));
         Perform::csi_dispatch(self, &collected.params, intermediates, ignore, action);
     }
 
     #[inline(always)]
-    fn esc_dispatch(&mut self, reader: &mut Reader, collected: &Collected, byte: u8) {
+    fn esc_dispatch(&mut self, reader: &mut Reader, collected: &CollectedHead, byte: u8) {
         reader.count_looks(1);
         let intermediates = collected.intermediates.as_slice();
         Perform::esc_dispatch(self, intermediates, collected.too_many_intermediates, byte);

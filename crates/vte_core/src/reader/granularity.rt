@@ -1,6 +1,6 @@
 //! How performers take text.
 ghost use Rattle.std.specs.Prelude.{Bool, chars, false, length, map, true, ◌<◌, ◌≡◌};
-ghost use Rattle.vte_core.specs.private.Prelude.{after, Execute, is_control_character, IsNonEmptyRun, Print, Put, run_event};
+ghost use Rattle.vte_core.specs.private.Prelude.{after, Execute, is_control_character, IsRunText, Print, Put, run_event};
 
 use crate::class::is_layout;
 use crate::perform::{Perform, PerformText};
@@ -54,7 +54,8 @@ pub(crate) trait ReceiveAs<G: Granularity>: Perform {
 
     /// Receives characters to print, at least one.
     fn print_text(&mut self, text: &str)
-        requires { IsNonEmptyRun layout text.now }
+        requires not_empty { 0 < length text.now }
+        requires is_run_text { IsRunText layout text.now }
         ensures { Self.value_of self.new
             ≡ after Self.step (Self.value_of self.old) (map (run_event layout) (chars text.now)) };
 

@@ -61,8 +61,8 @@ impl Reader {
     fn skip_ascii_blocks(&mut self, input: Input<'_>, from: usize) -> usize
         requires has_three_before { 3 ≤ from }
         requires within { from ≤ length input.bytes.now }
-        ensures low { from ≤ result }
-        ensures high { result ≤ length input.entry.bytes.now }
+        ensures in_order { from ≤ result }
+        ensures within { result ≤ length input.entry.bytes.now }
         ensures none_open { from < result
             → open_count (slice_index input.entry.bytes.now (from - 3))
             (slice_index input.entry.bytes.now (from - 2))
@@ -154,10 +154,10 @@ fn may_follow(three_back: u8, two_back: u8, one_back: u8, byte: u8, layout: bool
     ensures { result ≡ true → Follows layout three_back two_back one_back byte }
 {
     // Vectors have one instruction for each of these, and two for a comparison.
-    let wanted = two_back
+    let begun_earlier = two_back
         .saturating_sub(0xdf)
         .max(three_back.saturating_sub(0xef));
-    let is_open = one_back.saturating_sub(0xbf).max(wanted) > 0;
+    let is_open = one_back.saturating_sub(0xbf).max(begun_earlier) > 0;
     let is_unused = (byte == 0xc0) | (byte == 0xc1);
     let is_other = ((byte < 0x20) | (byte >= 0xf5)) & !(is_layout(byte) & layout);
     // These exclude the second bytes of overlong forms, surrogates, numbers above U+10FFFF

@@ -4,7 +4,7 @@
 //! that no byte is read often. Bytes are read only by `byte_at`, `get_byte`, `get_block` and
 //! `get_window`, which count them.
 ghost use Rattle.std.specs.Prelude.{false, IfSome, IsTrue, length, MatchOption, None, slice_index, true, ◌*◌, ◌+◌, ◌<◌, ◌↔◌, ◌≡◌, ◌≤◌};
-ghost use Rattle.vte_core.specs.private.Prelude.{ArePositions, ArePrintedAscii, from_to, HasNoRunAt, is_in, IsPrintedAscii, IsRun, looks_of, LooksAtMost, Scans};
+ghost use Rattle.vte_core.specs.private.Prelude.{ArePositions, ArePrintedAscii, from_to, HasNoRunAt, is_in, IsPrintedAscii, IsRun, looks_of, LooksWithin, Scans};
 
 use crate::class::is_layout;
 use crate::reader::{CountedPerform, Granularity, Input, Reader};
@@ -28,14 +28,14 @@ impl Reader {
         from: usize,
         next_byte: Option<u8>,
     ) -> bool
-        requires within { from < length input.bytes.now }
+        requires before_end { from < length input.bytes.now }
         requires printed { IsPrintedAscii (slice_index input.bytes.now from) }
         requires next_is { IfSome next_byte
             (λ byte. (from + 1 < length input.bytes.now)
             × (byte ≡ slice_index input.bytes.now (from + 1))) }
         ensures within { result ≡ true → from + 4 ≤ length input.entry.bytes.now }
         ensures printed { result ≡ true → ArePrintedAscii input.entry.bytes.now from (from + 4) }
-        ensures looks_at_most { LooksAtMost 2 self.old self.new }
+        ensures looks_at_most { LooksWithin 2 self.old self.new }
     {
         matches!(next_byte, Some(second) if is_printed_ascii(second))
             && matches!(self.get_byte(input, from + 2), Some(third) if is_printed_ascii(third))
@@ -52,8 +52,8 @@ impl Reader {
     ) -> usize
         requires within { from + 4 ≤ length input.bytes.now }
         requires printed { ArePrintedAscii input.bytes.now from (from + 4) }
-        ensures progress { from < result }
-        ensures high { result ≤ length input.entry.bytes.now }
+        ensures reads_some { from < result }
+        ensures within { result ≤ length input.entry.bytes.now }
         ensures run { IsRun P.layout input.entry.bytes.now from result }
         ensures looks_at_most { looks_of self.new + 4 * from + 4 ≤ looks_of self.old + 4 * result }
         ensures looks_at_least { looks_of self.old ≤ looks_of self.new }
@@ -76,7 +76,7 @@ impl Reader {
         from: usize,
         first: u8,
     ) -> usize
-        requires within { from < length input.bytes.now }
+        requires before_end { from < length input.bytes.now }
         requires looked_at { first ≡ slice_index input.bytes.now from }
         requires lead { 0xc2 ≤ first }
         ensures range { ArePositions input.entry.bytes.now from result }
@@ -215,14 +215,14 @@ impl Reader {
         first: u8,
         layout: bool,
     ) -> Option<usize>
-        requires within { from < length input.bytes.now }
+        requires before_end { from < length input.bytes.now }
         requires looked_at { first ≡ slice_index input.bytes.now from }
         requires not_printed_ascii { is_in (from_to 0x20 0x7f) first ≡ false }
-        ensures progress { IfSome result (λ end. from < end) }
-        ensures high { IfSome result (λ end. end ≤ length input.entry.bytes.now) }
+        ensures reads_some { IfSome result (λ end. from < end) }
+        ensures within { IfSome result (λ end. end ≤ length input.entry.bytes.now) }
         ensures run { IfSome result (IsRun layout input.entry.bytes.now from) }
         ensures ended { result ≡ None → HasNoRunAt layout input.entry.bytes.now from }
-        ensures looks_at_most { LooksAtMost 3 self.old self.new }
+        ensures looks_at_most { LooksWithin 3 self.old self.new }
         ensures looks_if_some { IfSome result (λ end. looks_of self.new + from + 1
             ≡ looks_of self.old + end) }
     {

@@ -68,9 +68,9 @@ impl Reader {
         from: usize,
     ) -> usize
         requires in_order { text_start < from }
-        requires within { from < length input.bytes.now }
-        ensures progress { from < result }
-        ensures high { result ≤ length input.entry.bytes.now }
+        requires before_end { from < length input.bytes.now }
+        ensures reads_some { from < result }
+        ensures within { result ≤ length input.entry.bytes.now }
         ensures no_escape { (k : ℕ) → from ≤ k → k + 1 < result
             → slice_index input.entry.bytes.now k ≢ 0x1b }
         ensures looks { looks_of self.new + from ≡ looks_of self.old + result }
@@ -114,8 +114,8 @@ impl Reader {
     #[inline(always)]
     fn find_ending_byte(&mut self, input: Input<'_>, from: usize, to: usize) -> usize
         requires range { ArePositions input.bytes.now from to }
-        ensures low { from ≤ result }
-        ensures high { result ≤ to }
+        ensures in_order { from ≤ result }
+        ensures within { result ≤ to }
         ensures ignored { AreIgnored input.entry.bytes.now from result }
         ensures ended { result < to
             → ends_sequence (class_of (slice_index input.entry.bytes.now result)) ≡ true }

@@ -159,7 +159,7 @@ so_far-printed {text} {i} printed = record {
   settled = λ _. refl;
 }
 
-module _ (text : List ℕ) (i : ℕ) (within : i < length text) (state : AutomatonState)
+module _ (text : List ℕ) (i : ℕ) (before_end : i < length text) (state : AutomatonState)
     (old : ReadSoFar text i state) where
   abbrev b : ℕ
   b = slice_index text i
@@ -172,7 +172,7 @@ module _ (text : List ℕ) (i : ℕ) (within : i < length text) (state : Automat
       let size : i + 1 - old.end ≡ i - old.end + 1 = omega (arith, old.before) in
       let place : old.end + (i - old.end) ≡ i = omega (arith, old.before) in
       ap (λ n. take n (drop old.end text)) size
-      ∙ take_more (drop old.end text) (i - old.end) 0 (omega (arith, length-drop old.end text, old.before, within))
+      ∙ take_more (drop old.end text) (i - old.end) 0 (omega (arith, length-drop old.end text, old.before, before_end))
       ∙ ap (λ byte. taken ++ byte ∷ []) (get_or-drop old.end text (i - old.end) 0 ∙ ap (slice_index text) place)
 
   -- A character ends.
@@ -251,17 +251,17 @@ module _ (text : List ℕ) (i : ℕ) (within : i < length text) (state : Automat
 pub state_after-next : (text : List ℕ) (i : ℕ) → i < length text
     → state_after BetweenCharacters (take (i + 1) text)
     ≡ next_state (state_after BetweenCharacters (take i text)) (slice_index text i)
-state_after-next text i within =
-    ap (state_after BetweenCharacters) (take_more text i 0 within)
+state_after-next text i before_end =
+    ap (state_after BetweenCharacters) (take_more text i 0 before_end)
     ∙ state_after-append BetweenCharacters (take i text) (slice_index text i ∷ [])
 
-so_far-further : (text : List ℕ) (i : ℕ) (within : i < length text)
+so_far-further : (text : List ℕ) (i : ℕ) (before_end : i < length text)
     → ReadSoFar text i (state_after BetweenCharacters (take i text))
     → state_after BetweenCharacters (take (i + 1) text) ≢ Failed
     → ReadSoFar text (i + 1) (state_after BetweenCharacters (take (i + 1) text))
-so_far-further text i within old going =
-    subst (ReadSoFar text (i + 1)) (sym (state_after-next text i within))
-    (so_far-next text i within _ old (λ failed. going (state_after-next text i within ∙ failed)))
+so_far-further text i before_end old going =
+    subst (ReadSoFar text (i + 1)) (sym (state_after-next text i before_end))
+    (so_far-next text i before_end _ old (λ failed. going (state_after-next text i before_end ∙ failed)))
 
 pub so_far-all : (text : List ℕ) (i : ℕ) → i ≤ length text → state_after BetweenCharacters (take i text) ≢ Failed
     → ReadSoFar text i (state_after BetweenCharacters (take i text))
@@ -303,5 +303,5 @@ stays-all_above (c ∷ cs) above all =
 pub run-kept : (layout : Bool) (text : List ℕ) (i end : ℕ) → (layout ≡ false → Each (λ b. 0x20 ≤ b) text 0 i)
     → end ≤ i
     → IsUtf8Run true (take end text) → IsUtf8Run layout (take end text)
-run-kept layout text i end low within run =
+run-kept layout text i end low in_order run =
     search (rules, arith, length-take, get_or-take, stays-all_above, encodes-chars)

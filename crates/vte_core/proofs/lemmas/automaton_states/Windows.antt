@@ -1,5 +1,5 @@
 -- What the last three bytes say of the automaton's state (`IsAllowedAfter`). Bytes that pass the tests of a block
--- keep it (`allowed-after`, `allowed-block`), so three bytes say where the last character ends (`run-before-open`).
+-- keep it (`allowed-after`, `leads-window`), so three bytes say where the last character ends (`run-before-open`).
 use Rattle.vte_core.proofs.Common.{ap, arith, Bool, cases_Bool, cases_lt, drop, false, from_to, get_or-drop, inl, inr, is_in, is_layout, IsUtf8Run, length, length-drop, List, nat_tests, Range, refl, rules, slice_index, subst, suc, sym, take, take-add, true, zero, ℕ, [], ◌+◌, ◌-◌, ◌<◌, ◌∙◌, ◌∷◌, ◌≡◌, ◌≢◌, ◌≤◌}
 use Rattle.vte_core.specs.private.Scans.{Each, IsWindow}
 use Rattle.vte_core.proofs.lemmas.bytes.Each.{block-byte, each-both}
@@ -94,15 +94,15 @@ IsAllowedAt bytes from i =
 state-next : (bytes : List ℕ) (from i : ℕ) → from ≤ i → i < length bytes
     → state_after BetweenCharacters (take (i + 1 - from) (drop from bytes))
     ≡ next_state (state_after BetweenCharacters (take (i - from) (drop from bytes))) (slice_index bytes i)
-state-next bytes from i low within = search (rules, arith, get_or-drop, state_after-next, length-drop)
+state-next bytes from i low before_end = search (rules, arith, get_or-drop, state_after-next, length-drop)
 
 allowed-next : (layout : Bool) (bytes : List ℕ) (from i : ℕ) → from ≤ i → i < length bytes → IsAllowedAt bytes from i
     → Follows layout (slice_index bytes (i - 3)) (slice_index bytes (i - 2)) (slice_index bytes (i - 1))
     (slice_index bytes i)
     → IsAllowedAt bytes from (i + 1)
-allowed-next layout bytes from i low within old fit = search (rules, arith, state-next)
+allowed-next layout bytes from i low before_end old fit = search (rules, arith, state-next)
 
-module _ {layout : Bool} {bytes : List ℕ} {window : Window} (from i : ℕ) (early : 3 ≤ i) (low : from ≤ i)
+module _ {layout : Bool} {bytes : List ℕ} {window : Window} {from i : ℕ} (early : 3 ≤ from) (low : from ≤ i)
     (is_window : IsWindow bytes (i - 3) window) (fit : (k : ℕ) → k < 16 → FollowsAt layout window k) where
   byte-of_block : (block : List ℕ) (start k m : ℕ) → block ≡ take 16 (drop start bytes) → k < 16 → start + k ≡ m
       → slice_index block k ≡ slice_index bytes m
@@ -114,24 +114,30 @@ module _ {layout : Bool} {bytes : List ℕ} {window : Window} (from i : ℕ) (ea
       (slice_index bytes (i + k - 1)) (slice_index bytes (i + k))
   follows-here k below =
       let three_back =
-      byte-of_block window.three_back (i - 3) k (i + k - 3) is_window.three_back below (omega (arith, early)) in
+      byte-of_block window.three_back (i - 3) k (i + k - 3) is_window.three_back below (omega (arith, early, low)) in
       let two_back =
-      byte-of_block window.two_back (i - 3 + 1) k (i + k - 2) is_window.two_back below (omega (arith, early)) in
+      byte-of_block window.two_back (i - 3 + 1) k (i + k - 2) is_window.two_back below (omega (arith, early, low)) in
       let one_back =
-      byte-of_block window.one_back (i - 3 + 2) k (i + k - 1) is_window.one_back below (omega (arith, early)) in
-      let byte = byte-of_block window.current (i - 3 + 3) k (i + k) is_window.current below (omega (arith, early)) in
+      byte-of_block window.one_back (i - 3 + 2) k (i + k - 1) is_window.one_back below (omega (arith, early, low)) in
+      let byte =
+      byte-of_block window.current (i - 3 + 3) k (i + k) is_window.current below (omega (arith, early, low)) in
       rw (sym three_back, sym two_back, sym one_back, sym byte) (fit k below)
 
-  pub allowed-block : IsAllowedAt bytes from i → (n : ℕ) → n ≤ 16 → IsAllowedAt bytes from (i + n)
-  allowed-block old zero at_most = subst (IsAllowedAt bytes from) (let same : i ≡ i + 0 = omega arith in same) old
-  allowed-block old (suc n) at_most =
+  leads-byte : IsAllowedAt bytes from i → (n : ℕ) → n ≤ 16 → IsAllowedAt bytes from (i + n)
+  leads-byte old zero at_most = subst (IsAllowedAt bytes from) (let same : i ≡ i + 0 = omega arith in same) old
+  leads-byte old (suc n) at_most =
       subst (IsAllowedAt bytes from) (let same : i + n + 1 ≡ i + suc n = omega arith in same)
-      (allowed-next layout bytes from (i + n) (omega (arith, low)) (omega (arith, is_window.within, early, at_most))
-      (allowed-block old n (omega (arith, at_most))) (follows-here n (omega (arith, at_most))))
+      (allowed-next layout bytes from (i + n) (omega (arith, low))
+      (omega (arith, is_window.within, early, low, at_most))
+      (leads-byte old n (omega (arith, at_most))) (follows-here n (omega (arith, at_most))))
 
-  pub above-block : layout ≡ false → Each (λ byte. 0x20 ≤ byte) bytes from i
+  -- Its bytes lead from a state that the three before them say to such a state.
+  pub leads-window : IsAllowedAt bytes from i → IsAllowedAt bytes from (i + 16)
+  leads-window old = leads-byte old 16 (omega arith)
+
+  pub above-window : layout ≡ false → Each (λ byte. 0x20 ≤ byte) bytes from i
       → Each (λ byte. 0x20 ≤ byte) bytes from (i + 16)
-  above-block no_layout old =
+  above-window no_layout old =
       each-both (λ byte. 0x20 ≤ byte) bytes from i (i + 16) old
       (λ k past before.
       let below : k - i < 16 = omega (arith, past, before) in
@@ -153,7 +159,7 @@ closed-allowed bytes from i closed = search (rules, arith)
 closed-next : (bytes : List ℕ) (from i : ℕ) → from ≤ i → i < length bytes
     → IsClosed bytes from i → StaysBetweenCharacters (slice_index bytes i) → IsClosed bytes from (i + 1)
 unfolding next_state
-closed-next bytes from i low within old plain = search (rules, arith, state-next)
+closed-next bytes from i low before_end old plain = search (rules, arith, state-next)
 
 closed-further : (bytes : List ℕ) (from i to : ℕ) → from ≤ i → to ≤ length bytes
     → Each StaysBetweenCharacters bytes i to → IsClosed bytes from i → (n : ℕ) → i + n ≤ to

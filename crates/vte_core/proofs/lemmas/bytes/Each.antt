@@ -1,16 +1,23 @@
--- What each byte between two positions meets (`Each`): `each-X`, what each byte of X meets.
-use Rattle.vte_core.proofs.Common.{ap, arith, drop, drop_more, get_or, length, List, refl, rules, slice_index, subst, take, take_rest, ℕ, [], ◌+◌, ◌-◌, ◌<◌, ◌∙◌, ◌∷◌, ◌≡◌, ◌≤◌}
+-- Stretches of bytes from one position to another, and what each of their bytes meets (`Each`): `each-X`, what each
+-- byte of X meets. By cases of the position.
+use Rattle.vte_core.proofs.Common.{ap, arith, drop, drop-drop, drop_more, get_or, length, List, refl, rules, slice_index, subst, take, take-add, take_rest, ℕ, [], ◌++◌, ◌+◌, ◌-◌, ◌<◌, ◌∙◌, ◌∷◌, ◌≡◌, ◌≤◌}
 use Rattle.std.proofs.lemmas.List.{length-drop, length-take}
 use Rattle.std.proofs.lemmas.Simd.{get_or-chunk}
 use Rattle.std.specs.Array.{IsFirstChunk}
 use Rattle.vte_core.specs.private.Scans.{Each}
 
--- `Each` holds of one byte, of two joined stretches and of a block, by cases of the position.
-
 pub one_byte : (bytes : List ℕ) (from b : ℕ) → from < length bytes → b ≡ slice_index bytes from
     → take (from + 1 - from) (drop from bytes) ≡ b ∷ []
-one_byte bytes from b within byte_is =
-    let same : from + 1 - from ≡ 1 = omega arith in rw (same, drop_more bytes from 0 within, byte_is) refl
+one_byte bytes from b before_end byte_is =
+    let same : from + 1 - from ≡ 1 = omega arith in rw (same, drop_more bytes from 0 before_end, byte_is) refl
+
+-- Two stretches, one after the other.
+pub slice-then : (bytes : List ℕ) (i j k : ℕ) → i ≤ j → j ≤ k
+    → take (k - i) (drop i bytes) ≡ take (j - i) (drop i bytes) ++ take (k - j) (drop j bytes)
+slice-then bytes i j k low high =
+    let whole : k - i ≡ (j - i) + (k - j) = omega (arith, low, high) in
+    let here : i + (j - i) ≡ j = omega (arith, low) in
+    rw (whole, take-add (j - i) (k - j) (drop i bytes), drop-drop (j - i) i bytes, here) refl
 
 pub each-one : (holds : ℕ → Type 0) (bytes : List ℕ) (from : ℕ) → holds (slice_index bytes from)
     → Each holds bytes from (from + 1)

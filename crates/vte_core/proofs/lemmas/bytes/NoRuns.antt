@@ -17,9 +17,9 @@ fits-in : (ranges : List Range) (bytes : List ℕ) (i m : ℕ) → fits ranges (
 fits-in [] bytes i m fit = tt
 fits-in (range ∷ ranges) bytes i zero fit = absurd (false≢true fit)
 fits-in (range ∷ ranges) bytes i (suc m) fit = elim (cases_lt i (length bytes)) [
-  | inl within ↦
-      let both = and_parts _ _ (rw (drop_more bytes i 0 within) at fit) in
-      (within, both.0, fits-in ranges bytes (i + 1) m both.1)
+  | inl before_end ↦
+      let both = and_parts _ _ (rw (drop_more bytes i 0 before_end) at fit) in
+      (before_end, both.0, fits-in ranges bytes (i + 1) m both.1)
   | inr past ↦ absurd (false≢true (rw (drop_all i bytes (omega (arith, past))) at fit))
 ]
 
@@ -29,7 +29,7 @@ fits-none (b ∷ bytes) fit = cc
 
 -- There is one byte, in its range.
 record OneIn (range : Range) (bytes : List ℕ) (i m : ℕ) : Type 0 where
-  within : i < length bytes
+  before_end : i < length bytes
   is_in_range : is_in range (slice_index bytes i) ≡ true
   same : take m (drop i bytes) ≡ slice_index bytes i ∷ []
 
@@ -37,33 +37,33 @@ fits-one : (range : Range) (bytes : List ℕ) (i m : ℕ) → fits (range ∷ []
     → OneIn range bytes i m
 fits-one range bytes i m fit =
     let in_range = fits-in (range ∷ []) bytes i m fit in
-    record { within = in_range.0; is_in_range = in_range.1; same = one range bytes i m in_range.0 fit }
+    record { before_end = in_range.0; is_in_range = in_range.1; same = one range bytes i m in_range.0 fit }
   where
     one : (range : Range) (bytes : List ℕ) (i m : ℕ) → i < length bytes
         → fits (range ∷ []) (take m (drop i bytes)) ≡ true → take m (drop i bytes) ≡ slice_index bytes i ∷ []
-    one range bytes i zero within fit = absurd (false≢true fit)
-    one range bytes i (suc m) within fit =
-        let cut = drop_more bytes i 0 within in
+    one range bytes i zero before_end fit = absurd (false≢true fit)
+    one range bytes i (suc m) before_end fit =
+        let cut = drop_more bytes i 0 before_end in
         ap (take (suc m)) cut ∙ ap (λ rest. slice_index bytes i ∷ rest) (fits-none _ (and_parts _ _ (rw cut at fit)).1)
 
-module _ (layout : Bool) (bytes : List ℕ) (from a : ℕ) (within : from < length bytes)
+module _ (layout : Bool) (bytes : List ℕ) (from a : ℕ) (before_end : from < length bytes)
     (byte_is : a ≡ slice_index bytes from) where
   abbrev later : ℕ → List ℕ
   later m = take m (drop (from + 1) bytes)
 
-  -- A well-formed sequence there begins with the byte.
+  -- A well_formed-formed sequence there begins with the byte.
   record BeginsHere (n : ℕ) : Type 0 where
     m : ℕ
     parts : take n (drop from bytes) ≡ a ∷ later m
-    well : is_well_formed (a ∷ later m) ≡ true
+    well_formed : is_well_formed (a ∷ later m) ≡ true
 
   begins : (n : ℕ) → is_well_formed (take n (drop from bytes)) ≡ true → BeginsHere n
   unfolding is_well_formed utf8_rows
   begins zero whole = absurd (false≢true whole)
   begins (suc m) whole =
       let parts : take (suc m) (drop from bytes) ≡ a ∷ later m =
-      ap (take (suc m)) (drop_more bytes from 0 within) ∙ ap (λ byte. byte ∷ later m) (sym byte_is) in
-      record { m = m; parts = parts; well = subst (λ (taken : List ℕ). is_well_formed taken ≡ true) parts whole }
+      ap (take (suc m)) (drop_more bytes from 0 before_end) ∙ ap (λ byte. byte ∷ later m) (sym byte_is) in
+      record { m = m; parts = parts; well_formed = subst (λ (taken : List ℕ). is_well_formed taken ≡ true) parts whole }
 
   control-ends : (scalar : ℕ) → is_control_character scalar ≡ true → (layout ≡ true → is_layout scalar ≡ false)
       → ends_run layout scalar ≡ true
@@ -78,7 +78,7 @@ module _ (layout : Bool) (bytes : List ℕ) (from a : ℕ) (within : from < leng
         | inl low ↦
             let no_more =
             fits-none (later none_begins.m)
-            (sym (tests-ascii a low (later none_begins.m)).is_whole ∙ none_begins.well) in
+            (sym (tests-ascii a low (later none_begins.m)).is_whole ∙ none_begins.well_formed) in
             let control : is_control_character a ≡ true = grind (arith, nat_tests) in
             rw (none_begins.parts, no_more) (control-ends a control plain)
         | inr high ↦ elim (cases_lt a 0xc2) [
@@ -86,11 +86,11 @@ module _ (layout : Bool) (bytes : List ℕ) (from a : ℕ) (within : from < leng
               absurd
               (false≢true
               (sym (tests-none a (rows-lone a (omega (arith, high)) below)
-              (later none_begins.m)).is_whole ∙ none_begins.well))
+              (later none_begins.m)).is_whole ∙ none_begins.well_formed))
           | inr above ↦
               let past : 0xf5 ≤ a = grind (arith, nat_tests) in
               absurd (false≢true
-              (sym (tests-none a (rows-none a past) (later none_begins.m)).is_whole ∙ none_begins.well))
+              (sym (tests-none a (rows-none a past) (later none_begins.m)).is_whole ∙ none_begins.well_formed))
         ]
       ]
 
@@ -103,16 +103,16 @@ module _ (layout : Bool) (bytes : List ℕ) (from a : ℕ) (within : from < leng
       -- A sequence that began here would have two bytes, of which the second is a continuation.
       let one =
       fits-one (second_range a) bytes (from + 1) none_begins.m
-      (sym (tests-two a low high (later none_begins.m)).is_whole ∙ none_begins.well) in
+      (sym (tests-two a low high (later none_begins.m)).is_whole ∙ none_begins.well_formed) in
       let b : ℕ = slice_index bytes (from + 1) in
       let second : is_in continuation b ≡ true =
       subst (λ range. is_in range b ≡ true)
       (second_plain a (omega arith) (omega arith) (omega arith) (omega arith)) one.is_in_range in
       -- By `no_sequence`, the sequence isn't that of a printed character, so it is C2 and a byte below A0.
       let control : (a ≡ 0xc2) × (b < 0xa0) = elim (cases_lt b 0xa0) [
-        | inr up ↦ absurd (no_sequence one.within second (λ _. omega (arith, up)))
+        | inr up ↦ absurd (no_sequence one.before_end second (λ _. omega (arith, up)))
         | inl down ↦ elim (cases_lt 0xc2 a) [
-          | inl past ↦ absurd (no_sequence one.within second (λ same. absurd (omega (arith, same, past))))
+          | inl past ↦ absurd (no_sequence one.before_end second (λ same. absurd (omega (arith, same, past))))
           | inr first ↦ (omega (arith, first, low), down)
         ]
       ] in
@@ -130,7 +130,7 @@ module _ (layout : Bool) (bytes : List ℕ) (from a : ℕ) (within : from < leng
       let none_begins = begins n whole in
       let those =
       fits-in (second_range a ∷ continuation ∷ []) bytes (from + 1) none_begins.m
-      (sym (tests-three a low high (later none_begins.m)).is_whole ∙ none_begins.well) in
+      (sym (tests-three a low high (later none_begins.m)).is_whole ∙ none_begins.well_formed) in
       let same : from + 1 + 1 ≡ from + 2 = omega arith in
       absurd (no_sequence (rw same at those.2.0) those.1 (rw same at those.2.1))
 
@@ -144,7 +144,7 @@ module _ (layout : Bool) (bytes : List ℕ) (from a : ℕ) (within : from < leng
       let high : a < 0xf5 = omega (arith, (in_range-bounds (from_to 0xc2 0xf4) a lead).1) in
       let those =
       fits-in (second_range a ∷ continuation ∷ continuation ∷ []) bytes (from + 1) none_begins.m
-      (sym (tests-four a low high (later none_begins.m)).is_whole ∙ none_begins.well) in
+      (sym (tests-four a low high (later none_begins.m)).is_whole ∙ none_begins.well_formed) in
       let same : from + 1 + 1 ≡ from + 2 = omega arith in
       let f : from + 2 + 1 ≡ from + 3 = omega arith in
       absurd (no_sequence (rw (same, f) at those.2.2.0) those.1 (rw same at those.2.1) (rw (same, f) at those.2.2.1))
@@ -171,13 +171,13 @@ no_run-all layout bytes place all l far whole = search (rules, arith)
 pub no_run-unprinted : (bytes : List ℕ) (from : ℕ) → from < length bytes → HasNoRunAt false bytes from
     → is_in (from_to 0x20 0x7f) (slice_index bytes from) ≡ false
 unfolding is_well_formed utf8_rows
-no_run-unprinted bytes from within ended = elim (cases_Bool (is_in (from_to 0x20 0x7f) (slice_index bytes from))) [
+no_run-unprinted bytes from before_end ended = elim (cases_Bool (is_in (from_to 0x20 0x7f) (slice_index bytes from))) [
   | inr other ↦ other
   | inl printed ↦
       let b : ℕ = slice_index bytes from in
-      let one : take 1 (drop from bytes) ≡ b ∷ [] = ap (take 1) (drop_more bytes from 0 within) in
+      let one : take 1 (drop from bytes) ≡ b ∷ [] = ap (take 1) (drop_more bytes from 0 before_end) in
       let below : b < 0x80 = grind (arith, nat_tests) in
-      let well : is_well_formed (b ∷ []) ≡ true = (tests-ascii b below []).is_whole in
-      let control : is_control_character b ≡ true = rw one at (ended 1 (omega arith) (rw one well)) in
+      let well_formed : is_well_formed (b ∷ []) ≡ true = (tests-ascii b below []).is_whole in
+      let control : is_control_character b ≡ true = rw one at (ended 1 (omega arith) (rw one well_formed)) in
       absurd (grind (arith, nat_tests))
 ]

@@ -1,14 +1,10 @@
--- Runs of text among the bytes of a call (`IsRun`): `run-X`: X is a run. By induction over the bytes, and by the rows
--- of
--- UTF-8.
+-- Runs of text among the bytes of a call (`IsRun`): `run-X`, X is a run. By what std has of characters and their bytes.
 use Rattle.vte_core.proofs.Common.{after, All, All-append, All-cons, All-nil, ap, append-nil, ArePrintedAscii, arith, Bool, chars, drop, encode, Event, false, from_to, get_or, get_or-drop, is_control_character, is_in, is_layout, IsAscii, IsPrintedAscii, IsRun, IsScalar, IsUtf8Run, length, List, map, nat_tests, Print, refl, rules, run_event, slice_index, StaysInRun, subst, sym, take, true, ℕ, [], ◌++◌, ◌+◌, ◌-◌, ◌<◌, ◌∙◌, ◌∷◌, ◌≡◌, ◌≤◌}
 use Rattle.std.proofs.lemmas.List.{get_or-take, length-take}
-use Rattle.std.proofs.Common.{take-add}
 use Rattle.std.proofs.lemmas.List.Elements.{All-from_get_or}
 use Rattle.std.proofs.lemmas.Str.Ascii.{IsAscii-cons, IsAscii-from_reads, IsAscii-nil}
-use Rattle.std.proofs.Math.Seq.{drop-drop}
 use Rattle.std.proofs.lemmas.Str.{chars-append, chars-IsAscii, chars-nil, chars_past_char, IsUtf8-append, IsUtf8-encode, IsUtf8-from_ascii, IsUtf8-nil}
-use Rattle.vte_core.proofs.lemmas.bytes.Each.{one_byte}
+use Rattle.vte_core.proofs.lemmas.bytes.Each.{one_byte, slice-then}
 
 -- ---- which characters stay in a run
 
@@ -100,14 +96,15 @@ printed-in_range b in_range = grind (arith, nat_tests)
 
 pub chars-one : (bytes : List ℕ) (from b : ℕ) → from < length bytes → b ≡ slice_index bytes from → IsPrintedAscii b
     → chars (take (from + 1 - from) (drop from bytes)) ≡ b ∷ []
-chars-one bytes from b within byte_is printed =
-    ap chars (one_byte bytes from b within byte_is) ∙ chars-IsAscii (b ∷ []) (IsAscii-cons b [] printed.1 IsAscii-nil)
+chars-one bytes from b before_end byte_is printed =
+    ap chars (one_byte bytes from b before_end byte_is)
+    ∙ chars-IsAscii (b ∷ []) (IsAscii-cons b [] printed.1 IsAscii-nil)
 
 -- HT, LF and CR are each a run, if runs keep them.
 pub run-layout : (bytes : List ℕ) (from b : ℕ) → from < length bytes → b ≡ slice_index bytes from → is_layout b ≡ true
     → IsRun true bytes from (from + 1)
-run-layout bytes from b within byte_is layout =
-    subst (IsUtf8Run true) (sym (one_byte bytes from b within byte_is))
+run-layout bytes from b before_end byte_is layout =
+    subst (IsUtf8Run true) (sym (one_byte bytes from b before_end byte_is))
     (utf8_run-ascii (IsAscii-cons b [] (layout-is_ascii b layout) IsAscii-nil)
     (All-cons (StaysInRun true) b [] (layout-stays b layout)
     (All-nil (StaysInRun true))))
@@ -124,10 +121,5 @@ run-ascii layout bytes from to printed = utf8_run-printed layout (drop from byte
 
 pub run-append : (layout : Bool) (bytes : List ℕ) (i j k : ℕ) → i ≤ j → j ≤ k → IsRun layout bytes i j
     → IsRun layout bytes j k → IsRun layout bytes i k
-run-append layout bytes i j k first second run run_more =
-    let same : drop (j - i) (drop i bytes) ≡ drop j bytes =
-    drop-drop (j - i) i bytes ∙ ap (λ n. drop n bytes) (let equal : i + (j - i) ≡ j = omega (arith, first) in equal) in
-    let whole : take (k - i) (drop i bytes) ≡ take (j - i) (drop i bytes) ++ take (k - j) (drop j bytes) =
-    ap (λ n. take n (drop i bytes)) (let equal : k - i ≡ j - i + (k - j) = omega (arith, first, second) in equal)
-    ∙ take-add (j - i) (k - j) (drop i bytes) ∙ ap (λ rest. take (j - i) (drop i bytes) ++ take (k - j) rest) same in
-    subst (IsUtf8Run layout) (sym whole) (utf8_run-append run run_more)
+run-append layout bytes i j k low high run run_more =
+    subst (IsUtf8Run layout) (sym (slice-then bytes i j k low high)) (utf8_run-append run run_more)

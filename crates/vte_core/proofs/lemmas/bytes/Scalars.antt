@@ -2,8 +2,8 @@
 -- too with one more byte of an unfinished one.
 use Rattle.vte_core.proofs.Common.{and_from, and_parts, ap, arith, cases_lt, Extends, false, false≢true, from_to, inl, inr, InScalarRange, is_in, is_truncated, is_well_formed, IsScalar, length, List, nat_tests, Range, refl, rules, scalar_of, second_range, subst, suc, sym, Three, true, Two, utf8_rows, ℕ, [], ◌%◌, ◌&&◌, ◌*◌, ◌++◌, ◌+◌, ◌<◌, ◌∙◌, ◌∷◌, ◌≡◌, ◌≤◌}
 use Rattle.vte_core.proofs.lemmas.bytes.Utf8.{ascii, continuation, first_byte, FirstByte, fits, lone, of_four, of_three, of_two, rows-lone, rows-none, second_plain, Tests, tests-ascii, tests-four, tests-none, tests-three, tests-two, truncated-first, truncated-three, truncated-two}
-use Rattle.vte_core.specs.declared.utf8.Extended.{Extended}
-use Rattle.vte_core.specs.declared.utf8.Extended.TheVariants.{Malformed, Truncated, WellFormed}
+use Rattle.vte_core.specs.declared.utf8.Extension.{Extension}
+use Rattle.vte_core.specs.declared.utf8.Extension.TheVariants.{Malformed, Truncated, WellFormed}
 
 -- ---- the bounds of a byte in a range
 
@@ -159,7 +159,7 @@ pub spells-same : {bytes : List ℕ} {number other : ℕ} → Spells bytes numbe
 spells-same spells same = search (rules, arith)
 
 -- A byte that completes a well-formed sequence extends the character to `WellFormed`, with its number.
-whole_by : (bytes : List ℕ) (b : ℕ) {number : ℕ} (extended : Extended) → Spells (bytes ++ b ∷ []) number
+whole_by : (bytes : List ℕ) (b : ℕ) {number : ℕ} (extended : Extension) → Spells (bytes ++ b ∷ []) number
     → (InScalarRange number → extended ≡ WellFormed number) → Extends bytes b extended
 whole_by bytes b extended spells makes = search (rules, arith, scalar_of-in_range)
 
@@ -170,55 +170,55 @@ whole_by bytes b extended spells makes = search (rules, arith, scalar_of-in_rang
 pub second-broken : (a b : ℕ) → is_truncated (a ∷ []) ≡ true → is_in (second_range a) b ≡ false
     → Extends (a ∷ []) b Malformed
 unfolding is_well_formed is_truncated utf8_rows second_range
-second-broken a b more misfits = (grind (arith, nat_tests), grind (arith, nat_tests))
+second-broken a b truncated misfits = (grind (arith, nat_tests), grind (arith, nat_tests))
 
 -- A byte that is no continuation is the second byte of no character.
 pub second-lone : (a b : ℕ) → is_in continuation b ≡ false → is_in (second_range a) b ≡ false
 unfolding second_range
 second-lone a b misfits = grind (arith, nat_tests)
 
-pub second-whole : (a b number : ℕ) (extended : Extended) → is_truncated (a ∷ []) ≡ true
+pub second-whole : (a b number : ℕ) (extended : Extension) → is_truncated (a ∷ []) ≡ true
     → is_in (second_range a) b ≡ true → a < 0xe0
     → number ≡ a % 32 * 0x40 + b % 64 → (InScalarRange number → extended ≡ WellFormed number)
     → Extends (a ∷ []) b extended
-second-whole a b number extended more second below same makes =
+second-whole a b number extended truncated second below same makes =
     search (rules, arith, truncated-first, continuation, second_plain, whole_by, spells-same, spells-two)
 
 pub second-open : (a b : ℕ) → is_truncated (a ∷ []) ≡ true → is_in (second_range a) b ≡ true → 0xe0 ≤ a
     → Extends (a ∷ []) b (Truncated (Two a b))
 unfolding is_truncated utf8_rows second_range
-second-open a b more second low = (refl, grind (arith, nat_tests))
+second-open a b truncated second low = (refl, grind (arith, nat_tests))
 
 -- ---- the third byte
 
 pub third-broken : (a b c : ℕ) → is_truncated (a ∷ b ∷ []) ≡ true → is_in continuation c ≡ false
     → Extends (a ∷ b ∷ []) c Malformed
 unfolding is_well_formed is_truncated utf8_rows
-third-broken a b c more misfits = (grind (arith, nat_tests), grind (arith, nat_tests))
+third-broken a b c truncated misfits = (grind (arith, nat_tests), grind (arith, nat_tests))
 
-pub third-whole : (a b c number : ℕ) (extended : Extended) → is_truncated (a ∷ b ∷ []) ≡ true
+pub third-whole : (a b c number : ℕ) (extended : Extension) → is_truncated (a ∷ b ∷ []) ≡ true
     → is_in continuation c ≡ true → a < 0xf0
     → number ≡ (a % 16 * 0x40 + b % 64) * 0x40 + c % 64 → (InScalarRange number → extended ≡ WellFormed number)
     → Extends (a ∷ b ∷ []) c extended
-third-whole a b c number extended more third below same makes =
+third-whole a b c number extended truncated third below same makes =
     search (rules, arith, truncated-two, whole_by, spells-same, spells-three)
 
 pub third-open : (a b c : ℕ) → is_truncated (a ∷ b ∷ []) ≡ true → is_in continuation c ≡ true → 0xf0 ≤ a
     → Extends (a ∷ b ∷ []) c (Truncated (Three a b c))
 unfolding is_truncated utf8_rows
-third-open a b c more third low = (refl, grind (arith, nat_tests))
+third-open a b c truncated third low = (refl, grind (arith, nat_tests))
 
 -- ---- the fourth byte
 
 pub fourth-broken : (a b c d : ℕ) → is_truncated (a ∷ b ∷ c ∷ []) ≡ true → is_in continuation d ≡ false
     → Extends (a ∷ b ∷ c ∷ []) d Malformed
 unfolding is_well_formed is_truncated utf8_rows
-fourth-broken a b c d more misfits = (grind (arith, nat_tests), grind (arith, nat_tests))
+fourth-broken a b c d truncated misfits = (grind (arith, nat_tests), grind (arith, nat_tests))
 
-pub fourth-whole : (a b c d number : ℕ) (extended : Extended) → is_truncated (a ∷ b ∷ c ∷ []) ≡ true
+pub fourth-whole : (a b c d number : ℕ) (extended : Extension) → is_truncated (a ∷ b ∷ c ∷ []) ≡ true
     → is_in continuation d ≡ true
     → number ≡ ((a % 8 * 0x40 + b % 64) * 0x40 + c % 64) * 0x40 + d % 64
     → (InScalarRange number → extended ≡ WellFormed number)
     → Extends (a ∷ b ∷ c ∷ []) d extended
-fourth-whole a b c d number extended more fourth same makes =
+fourth-whole a b c d number extended truncated fourth same makes =
     search (rules, arith, truncated-three, whole_by, spells-same, spells-four)

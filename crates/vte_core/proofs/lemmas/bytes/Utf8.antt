@@ -266,9 +266,9 @@ tests-four first low high rest =
 -- ---- the bytes of a truncated sequence, up to three
 
 pub truncated-first : (first : ℕ) (rest : List ℕ) → is_truncated (first ∷ rest) ≡ true → (0xc2 ≤ first) × (first < 0xf5)
-truncated-first first rest more = elim (first_byte first) [
-  | ascii high ↦ absurd (false≢true (sym (tests-ascii first high rest).is_open ∙ more))
-  | lone no_row ↦ absurd (false≢true (sym (tests-none first no_row rest).is_open ∙ more))
+truncated-first first rest truncated = elim (first_byte first) [
+  | ascii high ↦ absurd (false≢true (sym (tests-ascii first high rest).is_open ∙ truncated))
+  | lone no_row ↦ absurd (false≢true (sym (tests-none first no_row rest).is_open ∙ truncated))
   | of_two low high ↦ (low, omega arith)
   | of_three low high ↦ (omega arith, omega arith)
   | of_four low high ↦ (omega arith, high)
@@ -281,7 +281,7 @@ pub record TruncatedTwo (a b : ℕ) : Type 0 where
 
 pub truncated-two : (a b : ℕ) → is_truncated (a ∷ b ∷ []) ≡ true → TruncatedTwo a b
 unfolding is_truncated utf8_rows second_range
-truncated-two a b more = search (rules, arith)
+truncated-two a b truncated = search (rules, arith)
 
 pub record TruncatedThree (a b c : ℕ) : Type 0 where
   pub low : 0xf0 ≤ a
@@ -291,7 +291,7 @@ pub record TruncatedThree (a b c : ℕ) : Type 0 where
 
 pub truncated-three : (a b c : ℕ) → is_truncated (a ∷ b ∷ c ∷ []) ≡ true → TruncatedThree a b c
 unfolding is_truncated utf8_rows second_range
-truncated-three a b c more =
+truncated-three a b c truncated =
     record {
       low = grind (arith, nat_tests);
       high = grind (arith, nat_tests);
@@ -343,9 +343,9 @@ ascii_after-three a c d b high = grind (arith, nat_tests)
 pub ascii-breaks : (opened : List ℕ) (b : ℕ) → is_truncated opened ≡ true → b < 0x80
     → Tests (opened ++ b ∷ []) false false
 unfolding is_truncated
-ascii-breaks [] b more high = cc
-ascii-breaks (a ∷ []) b more high = ascii_after-one a b high
-ascii-breaks (a ∷ c ∷ []) b more high = ascii_after-two a c b high
-ascii-breaks (a ∷ c ∷ d ∷ []) b more high = search (rules, arith, ascii_after-three, truncated-long)
-ascii-breaks (a ∷ c ∷ d ∷ e ∷ u) b more high =
-    absurd (false≢true (sym (truncated-long a (c ∷ d ∷ e ∷ u) (omega arith)) ∙ more))
+ascii-breaks [] b truncated high = cc
+ascii-breaks (a ∷ []) b truncated high = ascii_after-one a b high
+ascii-breaks (a ∷ c ∷ []) b truncated high = ascii_after-two a c b high
+ascii-breaks (a ∷ c ∷ d ∷ []) b truncated high = search (rules, arith, ascii_after-three, truncated-long)
+ascii-breaks (a ∷ c ∷ d ∷ e ∷ u) b truncated high =
+    absurd (false≢true (sym (truncated-long a (c ∷ d ∷ e ∷ u) (omega arith)) ∙ truncated))

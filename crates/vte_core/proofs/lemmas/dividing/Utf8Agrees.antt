@@ -188,9 +188,9 @@ run-from_bytes : {layout : Bool} (bytes : List ℕ) (from b : ℕ) (rest : List 
     → AreBytesFrom bytes from 1 rest
     → 0xc2 ≤ b → (b ≡ 0xc2 → 0xa0 ≤ get_or rest 0 0) → is_well_formed (b ∷ rest) ≡ true
     → IsRun layout bytes from (from + suc (length rest))
-run-from_bytes {layout} bytes from b rest within is_first are_rest low plain well_formed =
+run-from_bytes {layout} bytes from b rest before_end is_first are_rest low plain well_formed =
     let same : take (suc (length rest)) (drop from bytes) ≡ b ∷ rest =
-    ap (take (suc (length rest))) (drop_more bytes from 0 within)
+    ap (take (suc (length rest))) (drop_more bytes from 0 before_end)
     ∙ ap (λ c. c ∷ take (length rest) (drop (from + 1) bytes)) (sym is_first)
     ∙ ap (λ x. b ∷ x) (bytes_from-take bytes from 1 rest are_rest) in
     subst (λ n. IsUtf8Run layout (take n (drop from bytes)))

@@ -1,9 +1,9 @@
 -- What one byte makes of the numbers and of the head that are held: by the part of the head that was reached and the
 -- byte's class.
-use Rattle.vte_core.proofs.Common.{ap, append-nil, append_assoc, arith, Bool, Class, class_of, Collected, count_of, CountsNumbers, Entry, Event, false, grouped, groups_of, has_too_many_numbers, HasReadHead, head_of, HeadProgress, HoldsHead, HoldsIntermediates, HoldsNumbers, IllShaped, inl, inr, Intermediate, Intermediates, is_colon, is_head_byte, is_intermediate, is_marker, is_parameter_byte, is_separator, is_well_shaped, length, length-append, List, Marker, max_numbers, max_value, min, nat_tests, numbers, Parameters, refl, rules, SameIntermediates, SameNumbers, sequence_event, StaysIllShaped, sym, take, take-append-le, take_all, true, with_number, ℕ, [], ◌*◌, ◌++◌, ◌+◌, ◌-◌, ◌<◌, ◌||◌, ◌∙◌, ◌∷◌, ◌≡◌, ◌≤◌, ◌⊎◌}
+use Rattle.vte_core.proofs.Common.{ap, append-nil, append_assoc, arith, Bool, Class, class_of, CollectedHead, count_of, CountsNumbers, Entry, Event, false, grouped, groups_of, has_too_many_numbers, HasReadHead, head_of, HeadProgress, HoldsHead, HoldsIntermediates, HoldsNumbers, IllShaped, inl, inr, Intermediate, Intermediates, is_colon, is_head_byte, is_intermediate, is_marker, is_parameter_byte, is_separator, is_well_shaped, length, length-append, List, Marker, max_numbers, max_value, min, nat_tests, numbers, Parameters, refl, rules, SameIntermediates, SameNumbers, sequence_event, StaysIllShaped, sym, take, take-append-le, take_all, true, with_number, ℕ, [], ◌*◌, ◌++◌, ◌+◌, ◌-◌, ◌<◌, ◌||◌, ◌∙◌, ◌∷◌, ◌≡◌, ◌≤◌, ◌⊎◌}
 use Rattle.std.proofs.lemmas.List.{length-take}
 use Rattle.vte_core.proofs.lemmas.fields.Numbers.{count_of-grouped, grouped-push, is_digit_no_separator, number_of-push, numbered, numbers_are}
-use Rattle.vte_core.specs.private.ParserFields.{HoldsWholeHead}
+use Rattle.vte_core.specs.private.HeldHead.{HoldsWholeHead}
 use Rattle.vte_core.proofs.lemmas.shapes.HeadParts.{begins-intermediates, head_of-parts, held-parts, held-well_shaped, list_all-not}
 use Rattle.vte_core.proofs.lemmas.bytes.Classes.{AreInClass-append}
 
@@ -13,20 +13,20 @@ use Rattle.vte_core.proofs.lemmas.bytes.Classes.{AreInClass-append}
 -- (`CountsNumbers`); `stores-X`: the last one is stored (`HoldsNumbers`).
 
 -- The numbers of the text are those before the last one, and the last one, which is being read.
-counts-numbers : (collected : Collected) (text : List ℕ) (counts : CountsNumbers collected text)
+counts-numbers : (collected : CollectedHead) (text : List ℕ) (counts : CountsNumbers collected text)
     → numbers text ≡ counts.prefix ++ numbered collected.joined collected.number ∷ []
 counts-numbers collected text counts =
-    sym (ap numbers (append-nil text)) ∙ counts.goes_on []
+    sym (ap numbers (append-nil text)) ∙ counts.same_numbers []
     ∙ ap (λ n. counts.prefix ++ numbered collected.joined n ∷ []) (sym counts.number)
 
-counts-held : (collected : Collected) (text : List ℕ) (counts : CountsNumbers collected text)
+counts-held : (collected : CollectedHead) (text : List ℕ) (counts : CountsNumbers collected text)
     → count_of collected.params ≡ min 32 (length counts.prefix)
 counts-held collected text counts =
     ap count_of counts.params ∙ count_of-grouped (take max_numbers counts.prefix)
     ∙ length-take max_numbers counts.prefix
 
 -- If there is no room for the last number, the text has too many numbers.
-pub stores-full : {collected : Collected} {text : List ℕ} → CountsNumbers collected text
+pub stores-full : {collected : CollectedHead} {text : List ℕ} → CountsNumbers collected text
     → 32 ≤ count_of collected.params
     → HoldsNumbers collected true text
 unfolding groups_of has_too_many_numbers
@@ -43,7 +43,7 @@ stores-full {collected} {text} counts full =
     }
 
 -- If there is room for the last number, it is pushed.
-pub stores-push : {old new : Collected} {text : List ℕ} → CountsNumbers old text → count_of old.params < 32
+pub stores-push : {old new : CollectedHead} {text : List ℕ} → CountsNumbers old text → count_of old.params < 32
     → new.params ≡ with_number old.params (numbered old.joined old.number) → HoldsNumbers new false text
 unfolding groups_of has_too_many_numbers
 stores-push {old} {text} counts room pushed =
@@ -62,34 +62,36 @@ stores-push {old} {text} counts room pushed =
     }
 
 -- A separator begins the next number, at 0.
-pub counts-separator : {old stored new : Collected} {more : Bool} {text : List ℕ} (b : ℕ) → CountsNumbers old text
+pub counts-separator : {old stored new : CollectedHead} {more : Bool} {text : List ℕ} (b : ℕ) → CountsNumbers old text
     → HoldsNumbers stored more text → is_separator b ≡ true
     → new.params ≡ stored.params → new.joined ≡ is_colon b → new.number ≡ 0 → CountsNumbers new (text ++ b ∷ [])
 unfolding groups_of
 counts-separator {old} {text} b counts holds separates params joined number = record {
   prefix = counts.prefix ++ numbered old.joined old.number ∷ [];
   digits = [];
-  goes_on =
-      λ later. ap numbers (append_assoc text (b ∷ []) later) ∙ counts.goes_on (b ∷ later)
+  same_numbers =
+      λ later. ap numbers (append_assoc text (b ∷ []) later) ∙ counts.same_numbers (b ∷ later)
       ∙ rw (separates, joined, counts.number, append_assoc counts.prefix) refl;
   params = params ∙ holds.groups ∙ ap (λ ns. grouped (take max_numbers ns)) (counts-numbers old text counts);
   number = number;
 }
 
 -- A digit is added to the number that is being read.
-pub counts-digit : {old new : Collected} {text : List ℕ} (digit : ℕ) → CountsNumbers old text → 48 ≤ digit → digit < 58
+pub counts-digit : {old new : CollectedHead} {text : List ℕ} (digit : ℕ) → CountsNumbers old text → 48 ≤ digit
+    → digit < 58
     → new.params ≡ old.params
     → new.joined ≡ old.joined → new.number ≡ min max_value (10 * old.number + (digit - 48))
     → CountsNumbers new (text ++ digit ∷ [])
 counts-digit {text} digit counts low high params joined number =
     search (rules, arith, append_assoc, is_digit_no_separator, number_of-push)
 
-pub counts-nothing : (new : Collected) → new.params ≡ [] → new.joined ≡ false → new.number ≡ 0 → CountsNumbers new []
+pub counts-nothing : (new : CollectedHead) → new.params ≡ [] → new.joined ≡ false → new.number ≡ 0
+    → CountsNumbers new []
 counts-nothing new params joined number =
     record {
       prefix = [];
       digits = [];
-      goes_on = λ later. rw joined (numbers_are later);
+      same_numbers = λ later. rw joined (numbers_are later);
       params = params;
       number = number;
     }
@@ -99,17 +101,17 @@ counts-nothing new params joined number =
 -- `holds-X`: the head is held after X (`HoldsHead`); `ill_shaped-X`: it stays ill-shaped after X.
 
 -- Numbers that are kept are those of the same text.
-CountsNumbers-kept : {old new : Collected} {text : List ℕ} → SameNumbers old new → CountsNumbers old text
+CountsNumbers-kept : {old new : CollectedHead} {text : List ℕ} → SameNumbers old new → CountsNumbers old text
     → CountsNumbers new text
 CountsNumbers-kept same_numbers counts = search (rules, arith)
 
-HoldsIntermediates-kept : {old new : Collected} {intermediates : List ℕ} → SameIntermediates old new
+HoldsIntermediates-kept : {old new : CollectedHead} {intermediates : List ℕ} → SameIntermediates old new
     → HoldsIntermediates old intermediates
     → HoldsIntermediates new intermediates
 HoldsIntermediates-kept same_intermediates holds = search (rules, arith)
 
 -- A head can go on with an intermediate, however far it has come.
-pub holds-intermediate : {old new : Collected} {progress : HeadProgress} {head : List ℕ} (b : ℕ)
+pub holds-intermediate : {old new : CollectedHead} {progress : HeadProgress} {head : List ℕ} (b : ℕ)
     → HoldsHead old progress head
     → class_of b ≡ Intermediate
     → SameNumbers old new
@@ -131,7 +133,7 @@ holds-intermediate b holds is_class same_numbers holds_more = record {
 }
 
 -- A head can begin with a marker.
-pub holds-marker : (old new : Collected) (head : List ℕ) (b : ℕ) → HoldsHead old Entry head → class_of b ≡ Marker
+pub holds-marker : (old new : CollectedHead) (head : List ℕ) (b : ℕ) → HoldsHead old Entry head → class_of b ≡ Marker
     → SameNumbers old new
     → ((intermediates : List ℕ) → HoldsIntermediates old intermediates
     → HoldsIntermediates new (intermediates ++ b ∷ []))
@@ -153,7 +155,7 @@ holds-marker old new head b holds is_class same_numbers holds_more =
     }
 
 -- A head without intermediates can go on with a byte of the parameters.
-after_no_intermediate : {old new : Collected} (progress : HeadProgress) (head : List ℕ) (b : ℕ)
+after_no_intermediate : {old new : CollectedHead} (progress : HeadProgress) (head : List ℕ) (b : ℕ)
     (holds : HoldsHead old progress head)
     → holds.intermediates ≡ []
     → is_parameter_byte (class_of b) ≡ true → SameIntermediates old new
@@ -176,7 +178,7 @@ after_no_intermediate {old} progress head b holds no_intermediate is_parameter s
     }
 
 -- A head that has come no further than its parameters holds no intermediate, so a byte of the parameters fits.
-pub holds-parameter : {old new : Collected} {progress : HeadProgress} (head : List ℕ) (b : ℕ)
+pub holds-parameter : {old new : CollectedHead} {progress : HeadProgress} (head : List ℕ) (b : ℕ)
     → (progress ≡ Entry) ⊎ (progress ≡ Parameters) → HasReadHead old progress head
     → is_parameter_byte (class_of b) ≡ true → SameIntermediates old new
     → ((text : List ℕ) → CountsNumbers old text → CountsNumbers new (text ++ b ∷ []))
@@ -189,14 +191,14 @@ holds-parameter {old} head b (inr at_parameters) has_read is_parameter same_inte
     after_no_intermediate Parameters head b holds holds.reaches.1 is_parameter same_intermediates counts_more
 
 -- A marker after a marker or a parameter makes the head ill-shaped for good.
-ill_shaped-marker : (old : Collected) (head : List ℕ) (b : ℕ) → HoldsHead old Parameters head → class_of b ≡ Marker
+ill_shaped-marker : (old : CollectedHead) (head : List ℕ) (b : ℕ) → HoldsHead old Parameters head → class_of b ≡ Marker
     → StaysIllShaped (head ++ b ∷ [])
 unfolding is_well_shaped
 ill_shaped-marker old head b holds is_marker =
     search (rules, arith, append-nil, append_assoc, head_of-parts, list_all-not)
 
 -- After an intermediate, any byte other than an intermediate makes the head ill-shaped for good.
-ill_shaped-after_intermediate : (old : Collected) (head : List ℕ) (b : ℕ) → HoldsHead old Intermediates head
+ill_shaped-after_intermediate : (old : CollectedHead) (head : List ℕ) (b : ℕ) → HoldsHead old Intermediates head
     → is_intermediate (class_of b) ≡ false → StaysIllShaped (head ++ b ∷ [])
 unfolding is_well_shaped
 ill_shaped-after_intermediate old head b holds no_intermediate = record {
@@ -219,14 +221,14 @@ pub ill_shaped-now : {head : List ℕ} → StaysIllShaped head → is_well_shape
 ill_shaped-now stays = rw append-nil at (stays.stays [])
 
 -- At the end of a head that is well shaped, what is held is ready.
-pub head-whole : {old new : Collected} (more : Bool) {ignored : Bool} {progress : HeadProgress} {head : List ℕ}
+pub head-whole : {old new : CollectedHead} (more : Bool) {ignored : Bool} {progress : HeadProgress} {head : List ℕ}
     → ((text : List ℕ) → CountsNumbers old text → HoldsNumbers new more text)
     → SameIntermediates old new → HoldsHead old progress head → ignored ≡ (new.too_many_intermediates || more)
     → HoldsWholeHead new ignored head
 head-whole more stores same_intermediates holds ignored_is =
     search (rules, arith, held-parts, HoldsIntermediates-kept, held-well_shaped)
 
-pub holds-nothing : (new : Collected) → HoldsIntermediates new [] → CountsNumbers new [] → HoldsHead new Entry []
+pub holds-nothing : (new : CollectedHead) → HoldsIntermediates new [] → CountsNumbers new [] → HoldsHead new Entry []
 holds-nothing new holds counts = search (rules, arith)
 
 -- A class of head bytes that is neither of parameters nor of intermediates is that of markers.
@@ -236,7 +238,7 @@ left_is_marker Marker is_head no_parameter no_intermediate = refl
 left_is_marker _ is_head no_parameter no_intermediate = cc
 
 -- A marker that isn't first, or a digit or separator that may not come next, makes the head ill-shaped for good.
-pub ill_shaped-late : (old : Collected) (progress : HeadProgress) (head : List ℕ) (b : ℕ)
+pub ill_shaped-late : (old : CollectedHead) (progress : HeadProgress) (head : List ℕ) (b : ℕ)
     → HasReadHead old progress head
     → is_head_byte (class_of b) ≡ true
     → is_intermediate (class_of b) ≡ false
@@ -246,14 +248,14 @@ ill_shaped-late old progress head b has_read is_head no_intermediate no_paramete
     grind (arith, nat_tests, ill_shaped-marker, left_is_marker, ill_shaped-after_intermediate, ill_shaped-more)
 
 -- At the end of a head, the call has the event of the sequence.
-pub dispatched-ready : (call : List (List ℕ) → List ℕ → Bool → ℕ → Event) {held : Collected} {ignored : Bool}
+pub dispatched-ready : (call : List (List ℕ) → List ℕ → Bool → ℕ → Event) {held : CollectedHead} {ignored : Bool}
     {head : List ℕ} (final : ℕ)
     → HoldsWholeHead held ignored head
     → call held.params held.intermediates.items ignored final ≡ sequence_event call (head_of head) final
 unfolding sequence_event
 dispatched-ready call final ready = rw (ready.groups, ready.intermediates, ready.ignore) refl
 
-pub head-holds : {held : Collected} {progress : HeadProgress} {head : List ℕ} → (progress ≡ IllShaped → ⊥)
+pub head-holds : {held : CollectedHead} {progress : HeadProgress} {head : List ℕ} → (progress ≡ IllShaped → ⊥)
     → HasReadHead held progress head → HoldsHead held progress head
 head-holds {progress = IllShaped} well_shaped has_read = absurd (well_shaped refl)
 head-holds well_shaped has_read = has_read

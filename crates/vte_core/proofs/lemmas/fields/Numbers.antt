@@ -24,14 +24,14 @@ length-at_most_sum (n ∷ lengths) filled =
 -- The first length takes its part, and the others take up the rest.
 sum_rest : (n : ℕ) (lengths numbers : List ℕ) → sum (n ∷ lengths) ≡ length numbers
     → (n ≤ length numbers) × (sum lengths ≡ length (drop n numbers))
-sum_rest n lengths numbers whole =
+sum_rest n lengths numbers sum_is =
     let apart : sum (n ∷ lengths) ≡ n + sum lengths = sum_by-cons (λ (m : ℕ). m) n lengths in
     (omega arith, omega (arith, length-drop n numbers))
 
 pub AreLengths-rest : {n : ℕ} {lengths numbers : List ℕ} → AreLengths (n ∷ lengths) numbers
     → AreLengths lengths (drop n numbers)
 AreLengths-rest {n} {lengths} {numbers} are_lengths = record {
-  whole = (sum_rest n lengths numbers are_lengths.whole).1;
+  sum_is = (sum_rest n lengths numbers are_lengths.sum_is).1;
   filled = All-tail (λ m. 0 < m) n lengths are_lengths.filled;
 }
 
@@ -41,9 +41,9 @@ length-cut_by_lengths (n ∷ lengths) numbers = ap suc (length-cut_by_lengths le
 
 pub count_of-cut_by_lengths : {lengths numbers : List ℕ} → AreLengths lengths numbers
     → count_of (cut_by_lengths lengths numbers) ≡ length numbers
-count_of-cut_by_lengths {lengths = []} are_lengths = are_lengths.whole
+count_of-cut_by_lengths {lengths = []} are_lengths = are_lengths.sum_is
 count_of-cut_by_lengths {lengths = n ∷ lengths} {numbers} are_lengths =
-    let rest = sum_rest n lengths numbers are_lengths.whole in
+    let rest = sum_rest n lengths numbers are_lengths.sum_is in
     let more = count_of-cut_by_lengths (AreLengths-rest are_lengths) in
     omega (
       arith,
@@ -59,7 +59,7 @@ filled-cut_by_lengths : {lengths numbers : List ℕ} → AreLengths lengths numb
     → All IsNonEmpty (cut_by_lengths lengths numbers)
 filled-cut_by_lengths {lengths = []} are_lengths = All-nil IsNonEmpty
 filled-cut_by_lengths {lengths = n ∷ lengths} {numbers} are_lengths =
-    let rest = sum_rest n lengths numbers are_lengths.whole in
+    let rest = sum_rest n lengths numbers are_lengths.sum_is in
     All-cons IsNonEmpty (take n numbers) (cut_by_lengths lengths (drop n numbers))
     (omega (arith, All-head (λ m. 0 < m) n lengths are_lengths.filled, length-take-le n numbers rest.0))
     (filled-cut_by_lengths (AreLengths-rest are_lengths))
@@ -99,10 +99,10 @@ with_number-joins (first ∷ next ∷ groups) group value =
 cut_by_lengths-push : (lengths numbers : List ℕ) (n : ℕ) (more : List ℕ) → sum lengths ≡ length numbers
     → length more ≡ n
     → cut_by_lengths (lengths ++ n ∷ []) (numbers ++ more) ≡ cut_by_lengths lengths numbers ++ more ∷ []
-cut_by_lengths-push [] [] n more whole size = ap (λ (group : List ℕ). group ∷ []) (take_all n more (omega arith))
-cut_by_lengths-push [] (x ∷ numbers) n more whole size = absurd (omega arith)
-cut_by_lengths-push (m ∷ lengths) numbers n more whole size =
-    let rest = sum_rest m lengths numbers whole in
+cut_by_lengths-push [] [] n more sum_is size = ap (λ (group : List ℕ). group ∷ []) (take_all n more (omega arith))
+cut_by_lengths-push [] (x ∷ numbers) n more sum_is size = absurd (omega arith)
+cut_by_lengths-push (m ∷ lengths) numbers n more sum_is size =
+    let rest = sum_rest m lengths numbers sum_is in
     rw (
       take-append-le m numbers more rest.0,
       drop-append-le m numbers more rest.0,
@@ -116,7 +116,7 @@ sum_push lengths n = sum_by_push (λ (m : ℕ). m) lengths n
 cut_by_lengths-last : (rest numbers more : List ℕ) (n m : ℕ) → sum rest + n ≡ length numbers → m ≡ n + length more
     → cut_by_lengths (rest ++ m ∷ []) (numbers ++ more)
     ≡ cut_by_lengths rest (take (sum rest) numbers) ++ (drop (sum rest) numbers ++ more) ∷ []
-cut_by_lengths-last rest numbers more n m whole size =
+cut_by_lengths-last rest numbers more n m sum_is size =
     let start = sum rest in
     ap (λ v. cut_by_lengths (rest ++ m ∷ []) (v ++ more)) (sym (take-append-drop start numbers))
     ∙ ap (cut_by_lengths (rest ++ m ∷ [])) (append_assoc (take start numbers) (drop start numbers) more)
@@ -136,11 +136,11 @@ cut_by_lengths-more : {joined : Bool} {lengths rest numbers : List ℕ} {last : 
     → cut_by_lengths rest (take (sum rest) numbers) ++ (drop (sum rest) numbers ++ value ∷ []) ∷ []
     ≡ with_number (cut_by_lengths lengths numbers) (numbered joined value)
     → IsPushed joined lengths rest numbers last value
-cut_by_lengths-more {rest} {numbers} {last} {value} whole filled same = record {
+cut_by_lengths-more {rest} {numbers} {last} {value} sum_is filled same = record {
   room = omega (arith, length-at_most_sum rest filled);
-  groups = cut_by_lengths-last rest numbers (value ∷ []) (unwrap_or last 0) (unwrap_or last 0 + 1) whole refl ∙ same;
+  groups = cut_by_lengths-last rest numbers (value ∷ []) (unwrap_or last 0) (unwrap_or last 0 + 1) sum_is refl ∙ same;
   lengths_fit = record {
-    whole = omega (arith, sum_push rest (unwrap_or last 0 + 1), length-append numbers (value ∷ []));
+    sum_is = omega (arith, sum_push rest (unwrap_or last 0 + 1), length-append numbers (value ∷ []));
     filled = All-push (λ m. 0 < m) rest (unwrap_or last 0 + 1) filled (omega arith);
   };
 }
@@ -152,11 +152,11 @@ pushed-alone : {joined : Bool} {lengths rest numbers : List ℕ} {value : ℕ} �
     → IsPushed joined lengths rest numbers None value
 pushed-alone {joined} {lengths} {rest} {numbers} {value} are_lengths parts same =
     subst (λ rest. IsPushed joined lengths rest numbers None value) (parts ∙ append-nil rest)
-    (cut_by_lengths-more (omega (arith, are_lengths.whole)) are_lengths.filled
+    (cut_by_lengths-more (omega (arith, are_lengths.sum_is)) are_lengths.filled
     (rw (
-      take_all (sum lengths) numbers (omega (arith, are_lengths.whole)),
+      take_all (sum lengths) numbers (omega (arith, are_lengths.sum_is)),
       drop_all (sum lengths) numbers
-          (omega (arith, are_lengths.whole)),
+          (omega (arith, are_lengths.sum_is)),
     )
     (sym (with_number-begins (cut_by_lengths lengths numbers) value) ∙ same)))
 
@@ -164,9 +164,10 @@ pub pushed : (joined : Bool) (lengths rest numbers : List ℕ) (last : Option �
     → AreLengths lengths numbers → IsLastPopped joined lengths rest last
     → IsPushed joined lengths rest numbers last value
 pushed true lengths rest numbers (Some n) value are_lengths taken =
-    let whole : sum rest + n ≡ length numbers = sym (sum_push rest n) ∙ ap sum (sym taken.parts) ∙ are_lengths.whole in
-    let old = simp append-nil at (cut_by_lengths-last rest numbers [] n n whole (omega arith)) in
-    cut_by_lengths-more whole
+    let sum_is : sum rest + n ≡ length numbers =
+    sym (sum_push rest n) ∙ ap sum (sym taken.parts) ∙ are_lengths.sum_is in
+    let old = simp append-nil at (cut_by_lengths-last rest numbers [] n n sum_is (omega arith)) in
+    cut_by_lengths-more sum_is
     (All-pop (λ m. 0 < m) lengths rest (Some n) taken.parts are_lengths.filled).0
     (sym (with_number-joins (cut_by_lengths rest (take (sum rest) numbers)) (drop (sum rest) numbers) value)
     ∙ ap (λ groups. with_number groups (numbered true value))
@@ -182,19 +183,20 @@ pushed false lengths rest numbers None value are_lengths taken =
 -- The sum of the first i + 1 is that of the first i and the next.
 pub sum_take_more : (lengths : List ℕ) (i : ℕ) → i < length lengths
     → sum (take (i + 1) lengths) ≡ sum (take i lengths) + get_or lengths i 0
-sum_take_more lengths i within =
-    rw (take_more lengths i 0 within) (sum_by_push (λ n. n) (take i lengths) (get_or lengths i 0))
+sum_take_more lengths i before_end =
+    rw (take_more lengths i 0 before_end) (sum_by_push (λ n. n) (take i lengths) (get_or lengths i 0))
 
 -- The first i and the next come to no more than all.
 pub sum_take_below : (lengths : List ℕ) (i : ℕ) → i < length lengths
     → sum (take i lengths) + get_or lengths i 0 ≤ sum lengths
-sum_take_below lengths i within = omega (arith, sum_take_more lengths i within, sum_by-take-le (λ n. n) lengths (i + 1))
+sum_take_below lengths i before_end =
+    omega (arith, sum_take_more lengths i before_end, sum_by-take-le (λ n. n) lengths (i + 1))
 
 pub filled_take_more : (lengths : List ℕ) (i : ℕ) → i < length lengths → All (λ n. 0 < n) (take i lengths)
     → 0 < get_or lengths i 0
     → All (λ n. 0 < n) (take (i + 1) lengths)
-filled_take_more lengths i within all first =
-    rw (take_more lengths i 0 within) (All-push (λ n. 0 < n) (take i lengths) (get_or lengths i 0) all first)
+filled_take_more lengths i before_end all first =
+    rw (take_more lengths i 0 before_end) (All-push (λ n. 0 < n) (take i lengths) (get_or lengths i 0) all first)
 
 -- ---- the numbers of a text, from its prefix
 

@@ -1,6 +1,6 @@
 -- What is known of a parser that is at a place, and that a clone of it, or one made of what was saved of it, is at the
 -- same: by cases of its state, to each of which belongs one kind of place.
-use Rattle.vte_core.proofs.Common.{ap, append-nil, arith, AtEscape, body_outcome, ControlSequence, default_limit, device_data_outcome, DeviceControl, DeviceData, Empty, Escape, EscapeIntermediate, events_from, executed_events, HasReadHead, HasReadWithLimit, HoldsIntermediates, HoldsItems, IgnoredString, InControlSequence, InDeviceControl, InDeviceData, InEscape, InIgnoredString, InSystemCommand, InText, is_truncated, IsAtPlace, IsPlaceOfState, IsSettledPlace, leaves, left_at, List, Machine, may_continue, open_at, open_bytes, Option, outcome_from, Place, refl, rest_outcome, rules, SameItems, State, Stored, subst, SystemCommand, take, Text, text_outcome, true, ℕ, [], ◌++◌, ◌∷◌, ◌≡◌}
+use Rattle.vte_core.proofs.Common.{ap, append-nil, arith, AtEscape, body_outcome, ControlSequence, default_limit, device_data_outcome, DeviceControl, DeviceData, Empty, Escape, EscapeIntermediate, events_from, executed_events, HasReadHead, HasReadWithLimit, HoldsIntermediates, HoldsItems, IgnoredString, InControlSequence, InDeviceControl, InDeviceData, InEscape, InIgnoredString, InSystemCommand, InText, is_truncated, IsAtPlace, IsPlaceOfState, IsSettledPlace, leaves, List, Machine, may_continue, open_at, open_bytes, Option, outcome_from, Place, refl, rest_outcome, rules, SameItems, State, StoredCommand, subst, SystemCommand, take, Text, text_outcome, to_close_at, true, ℕ, [], ◌++◌, ◌∷◌, ◌≡◌}
 use Rattle.vte_core.specs.IgnoredString.{ignored_string_outcome}
 use Rattle.vte_core.specs.private.Place.{control_sequence_from, device_control_from, escape_from, system_command_from}
 use Rattle.vte_core.proofs.lemmas.shapes.FirstSegment.{text_outcome-end, text_outcome-nothing}
@@ -64,13 +64,13 @@ may_continue-truncated [] truncated = refl
 may_continue-truncated (a ∷ opened) truncated = truncated
 
 text_outcome-open : (limit : Option ℕ) (opened : List ℕ) → may_continue opened ≡ true
-    → text_outcome (opened ++ []) ≡ leaves (left_at limit (InText opened))
+    → text_outcome (opened ++ []) ≡ leaves (to_close_at limit (InText opened))
 text_outcome-open limit [] continues = text_outcome-nothing
 text_outcome-open limit (a ∷ opened) continues = rw append-nil (text_outcome-end (a ∷ opened) continues)
 
 -- If no bytes follow, nothing is reported, and what is open at the place stays open.
 pub rest_outcome-nothing : (limit : Option ℕ) (place : Place) → IsReachable place
-    → rest_outcome limit place [] ≡ leaves (left_at limit place)
+    → rest_outcome limit place [] ≡ leaves (to_close_at limit place)
 unfolding body_outcome executed_events escape_from control_sequence_from device_control_from device_data_outcome
     system_command_from ignored_string_outcome
 rest_outcome-nothing limit (InText opened) is_reachable = text_outcome-open limit opened is_reachable
@@ -78,7 +78,7 @@ rest_outcome-nothing limit (InSystemCommand items) is_reachable = simp append-ni
 rest_outcome-nothing limit _ is_reachable = refl
 
 pub outcome_from-nothing : (limit : Option ℕ) (place : Place) → IsReachable place
-    → outcome_from limit place [] ≡ leaves (left_at limit place)
+    → outcome_from limit place [] ≡ leaves (to_close_at limit place)
 unfolding outcome_from
 outcome_from-nothing limit place is_reachable = rest_outcome-nothing limit place is_reachable
 
@@ -86,7 +86,7 @@ pub events_from-nothing : (limit : Option ℕ) (place : Place) → IsReachable p
 events_from-nothing limit place is_reachable =
     ap (λ outcome. outcome.reported) (outcome_from-nothing limit place is_reachable)
 
-pub open_bytes-at : (limit : Option ℕ) (place : Place) → open_bytes (left_at limit place) ≡ open_at place
+pub open_bytes-at : (limit : Option ℕ) (place : Place) → open_bytes (to_close_at limit place) ≡ open_at place
 open_bytes-at limit place = search (rules, arith)
 
 pub open_at-settled : (place : Place) → IsSettledPlace place → open_at place ≡ []
@@ -98,9 +98,10 @@ pub is_at-text_begun : {B : Type 0} {limit : Option ℕ} {parser : Machine B} �
     → IsAtPlace limit parser (InText [])
 is_at-text_begun in_state = is_at-by in_state (refl, refl)
 
-pub keeps-same : {limit : Option ℕ} {old new : Stored} {items : List ℕ} → SameItems old new → HoldsItems limit old items
+pub holds_items-same : {limit : Option ℕ} {old new : StoredCommand} {items : List ℕ} → SameItems old new
+    → HoldsItems limit old items
     → HoldsItems limit new items
-keeps-same same keeps = search (rules, arith)
+holds_items-same same holds = search (rules, arith)
 
 -- ---- clones
 
@@ -129,7 +130,7 @@ place_of_state-same limit (DeviceControl progress) old new (InDeviceControl read
 place_of_state-same limit DeviceData old new InDeviceData same_intermediates same_head same_items fields = tt
 place_of_state-same limit SystemCommand old new (InSystemCommand command)
     same_intermediates same_head same_items fields =
-    keeps-same (same_items refl) fields
+    holds_items-same (same_items refl) fields
 place_of_state-same limit IgnoredString old new InIgnoredString same_intermediates same_head same_items fields = tt
 place_of_state-same limit _ old new _ same_intermediates same_head same_items fields = absurd fields
 

@@ -3,7 +3,7 @@
 --
 -- `pieces_from-X`: the pieces if X follows; `piece_ends-X`: where pieces end; `keeps-X`: what is kept after X
 -- (`HoldsItems`).
-use Rattle.vte_core.proofs.Common.{All, All-head, All-tail, ap, append-nil, append_assoc, arith, Bool, cases_Bool, concat, cut_data, cut_pieces, drop, drop-append-le, ends_after, false, filter, fitting, has_room, HoldsItems, inl, inr, is_data_item, kept_after, kept_items, length, length-append, length-drop, length-take, List, loses_data, ltb-true, max_pieces, nat_tests, ne_eqb, None, Option, pieces_from, pieces_of, PiecesEnd, refl, rules, semicolon, slice_range, Some, Stored, suc, sym, take, take-append-le, take-nil, take_all, true, zero, ℕ, [], ◌++◌, ◌+◌, ◌-◌, ◌<◌, ◌∙◌, ◌∷◌, ◌≡◌, ◌≢◌, ◌≤◌}
+use Rattle.vte_core.proofs.Common.{All, All-head, All-tail, ap, append-nil, append_assoc, arith, Bool, cases_Bool, concat, cut_data, cut_pieces, drop, drop-append-le, ends_after, false, filter, fitting, has_room, HoldsItems, inl, inr, is_data_item, kept_after, kept_items, length, length-append, length-drop, length-take, List, loses_data, ltb-true, max_pieces, nat_tests, ne_eqb, None, Option, pieces_from, pieces_of, PiecesEnd, refl, rules, semicolon, slice_range, Some, StoredCommand, suc, sym, take, take-append-le, take-nil, take_all, true, zero, ℕ, [], ◌++◌, ◌+◌, ◌-◌, ◌<◌, ◌∙◌, ◌∷◌, ◌≡◌, ◌≢◌, ◌≤◌}
 use Rattle.std.specs.Prelude.{nat_lt, ◌||◌}
 use Rattle.std.proofs.lemmas.List.Elements.{filter-append}
 use Rattle.vte_core.proofs.lemmas.fields.Pieces.{cut_at_ends}
@@ -148,79 +148,81 @@ length-fitting (Some limit) count run = omega (arith, length-take (limit - count
 
 -- Data bytes join the last piece as far as there is room, and `;` ends it. After 16 ends no item counts.
 
-pub keeps-nothing : (limit : Option ℕ) (held : Stored) → held.bytes ≡ [] → held.ends ≡ [] → held.lost ≡ false
+pub holds_items-nothing : (limit : Option ℕ) (held : StoredCommand) → held.bytes ≡ [] → held.ends ≡ []
+    → held.lost ≡ false
     → HoldsItems limit held []
 unfolding pieces_of kept_items
-keeps-nothing limit held no_bytes no_ends none_lost = search (rules, arith, cut_at_ends)
+holds_items-nothing limit held no_bytes no_ends none_lost = search (rules, arith, cut_at_ends)
 
 -- No further item counts.
-abbrev IsDone : Option ℕ → Stored → Type 0
+abbrev IsDone : Option ℕ → StoredCommand → Type 0
 IsDone limit held = (more : List ℕ) → pieces_from limit held.bytes held.ends more ≡ cut_pieces held.bytes held.ends
 
 -- After 16 ends, no further item counts.
-pub done-complete : {limit : Option ℕ} {held : Stored} {items : List ℕ} → length held.ends ≡ max_pieces
+pub done-complete : {limit : Option ℕ} {held : StoredCommand} {items : List ℕ} → length held.ends ≡ max_pieces
     → HoldsItems limit held items → IsDone limit held
-done-complete {limit} {held} complete keeps more =
+done-complete {limit} {held} complete holds more =
     let kept = kept_after limit (length held.bytes) more in
     rw complete at (piece_ends-complete 0 held.bytes held.ends (filter is_data_item kept)
-    (ends_after (length held.bytes) kept) (rw complete keeps.end))
+    (ends_after (length held.bytes) kept) (rw complete holds.end))
 
-pieces_of-done : {limit : Option ℕ} {held : Stored} {items : List ℕ} (more : List ℕ) → IsDone limit held
+pieces_of-done : {limit : Option ℕ} {held : StoredCommand} {items : List ℕ} (more : List ℕ) → IsDone limit held
     → HoldsItems limit held items
     → (later : List ℕ) → pieces_of limit ((items ++ more) ++ later) ≡ pieces_from limit held.bytes held.ends later
-pieces_of-done {items} more done keeps later =
-    rw (append_assoc items more later) (keeps.goes_on (more ++ later) ∙ done (more ++ later) ∙ sym (done later))
+pieces_of-done {items} more done holds later =
+    rw (append_assoc items more later) (holds.same_pieces (more ++ later) ∙ done (more ++ later) ∙ sym (done later))
 
 -- After 16 ends, data bytes are dropped.
-pub keeps-later : (limit : Option ℕ) (old new : Stored) (items run : List ℕ) → length old.ends ≡ max_pieces
+pub holds_items-later : (limit : Option ℕ) (old new : StoredCommand) (items run : List ℕ) → length old.ends ≡ max_pieces
     → All IsDataItem run
     → new.bytes ≡ old.bytes → new.ends ≡ old.ends
     → new.lost ≡ (old.lost || nat_lt (length new.bytes - length old.bytes) (length run))
     → HoldsItems limit old items → HoldsItems limit new (items ++ run)
-keeps-later limit old new items run complete are_data bytes ends lost keeps =
+holds_items-later limit old new items run complete are_data bytes ends lost holds =
     search (rules, arith, pieces_of-done, done-complete, count-run, lost-more)
 
 -- If no more items count, a `;` changes nothing.
-pub keeps-done : {limit : Option ℕ} {held : Stored} {items : List ℕ} → IsDone limit held → HoldsItems limit held items
+pub holds_items-done : {limit : Option ℕ} {held : StoredCommand} {items : List ℕ} → IsDone limit held
+    → HoldsItems limit held items
     → HoldsItems limit held (items ++ semicolon ∷ [])
-keeps-done {items} done keeps = search (rules, arith, pieces_of-done, count-end)
+holds_items-done {items} done holds = search (rules, arith, pieces_of-done, count-end)
 
 -- Before 16 ends, data bytes are kept as far as there is room.
-pub keeps-run : (limit : Option ℕ) (old new : Stored) (items run : List ℕ) → length old.ends < max_pieces
+pub holds_items-run : (limit : Option ℕ) (old new : StoredCommand) (items run : List ℕ) → length old.ends < max_pieces
     → All IsDataItem run
     → new.bytes ≡ old.bytes ++ fitting limit (length old.bytes) run → new.ends ≡ old.ends
     → new.lost ≡ (old.lost || nat_lt (length new.bytes - length old.bytes) (length run))
     → HoldsItems limit old items
     → HoldsItems limit new (items ++ run)
-keeps-run limit old new items run at_most are_data bytes ends lost keeps =
+holds_items-run limit old new items run at_most are_data bytes ends lost holds =
     search (rules, arith, piece_ends-more, length-append, length-fitting, append_assoc, pieces_from-run, count-run)
 
 -- Before 16 ends, a `;` ends a piece if there is room.
-pub keeps-end : (limit : Option ℕ) (old new : Stored) (items : List ℕ) → length old.ends < max_pieces
+pub holds_items-end : (limit : Option ℕ) (old new : StoredCommand) (items : List ℕ) → length old.ends < max_pieces
     → has_room limit (length old.bytes) ≡ true
     → new.bytes ≡ old.bytes → new.ends ≡ old.ends ++ length old.bytes ∷ [] → new.lost ≡ old.lost
     → HoldsItems limit old items
     → HoldsItems limit new (items ++ semicolon ∷ [])
-keeps-end limit old new items at_most room bytes ends lost keeps =
+holds_items-end limit old new items at_most room bytes ends lost holds =
     search (rules, arith, append_assoc, piece_ends-push, count-end)
 
 -- The pieces are what a store's ends make of its bytes.
-pub pieces_held : {limit : Option ℕ} {held : Stored} {items : List ℕ} → HoldsItems limit held items
+pub pieces_held : {limit : Option ℕ} {held : StoredCommand} {items : List ℕ} → HoldsItems limit held items
     → pieces_of limit items ≡ cut_pieces held.bytes held.ends
-pieces_held {limit} {held} keeps =
-    rw append-nil at (keeps.goes_on [] ∙ pieces_from-nothing limit held.bytes held.ends)
+pieces_held {limit} {held} holds =
+    rw append-nil at (holds.same_pieces [] ∙ pieces_from-nothing limit held.bytes held.ends)
 
 -- The pieces have all bytes of the store.
-pub pieces_stored : {limit : Option ℕ} {held : Stored} {items : List ℕ} → HoldsItems limit held items
+pub pieces_stored : {limit : Option ℕ} {held : StoredCommand} {items : List ℕ} → HoldsItems limit held items
     → length held.bytes ≡ length (concat (pieces_of limit items))
-pieces_stored {held} keeps =
-    rw (pieces_held keeps) (omega (arith, piece_ends-stored max_pieces 0 held.bytes held.ends keeps.end))
+pieces_stored {held} holds =
+    rw (pieces_held holds) (omega (arith, piece_ends-stored max_pieces 0 held.bytes held.ends holds.end))
 
 -- A store knows whether data bytes were dropped.
-pub loses_held : {limit : Option ℕ} {held : Stored} {items : List ℕ} → HoldsItems limit held items
+pub loses_held : {limit : Option ℕ} {held : StoredCommand} {items : List ℕ} → HoldsItems limit held items
     → loses_data limit items ≡ held.lost
 unfolding loses_data
-loses_held {limit} {held} {items} keeps = rw (pieces_stored keeps) at (sym keeps.lost)
+loses_held {limit} {held} {items} holds = rw (pieces_stored holds) at (sym holds.lost)
 
 -- ---- one more data byte of an open command
 
@@ -285,16 +287,17 @@ loses_data-same : (items : List ℕ) (byte : ℕ) (pieces : List (List ℕ)) (la
 unfolding loses_data
 loses_data-same items byte pieces last before later other = search (rules, arith, count-run, concat-last, length-append)
 
-pub open_for : {held : Stored} {items : List ℕ} {byte : ℕ} → HoldsItems None held items → length held.ends < max_pieces
+pub open_for : {held : StoredCommand} {items : List ℕ} {byte : ℕ} → HoldsItems None held items
+    → length held.ends < max_pieces
     → byte ≢ semicolon → IsOpenFor items byte
-open_for {held} {items} {byte} keeps at_most other =
-    let continues = piece-goes_on max_pieces 0 held.bytes held.ends byte keeps.end in
+open_for {held} {items} {byte} holds at_most other =
+    let continues = piece-goes_on max_pieces 0 held.bytes held.ends byte holds.end in
     let few : length continues.pieces < max_pieces = omega (arith, continues.ended) in
     let more =
-    keeps.goes_on (byte ∷ []) ∙ pieces_from-byte None held.bytes held.ends refl byte other []
+    holds.same_pieces (byte ∷ []) ∙ pieces_from-byte None held.bytes held.ends refl byte other []
     ∙ pieces_from-nothing None (held.bytes ++ byte ∷ []) held.ends in
     let before =
-    pieces_held keeps ∙ ap (take max_pieces) continues.before ∙ pieces-at_most continues.pieces continues.last few in
+    pieces_held holds ∙ ap (take max_pieces) continues.before ∙ pieces-at_most continues.pieces continues.last few in
     let later =
     more ∙ ap (take max_pieces) continues.later ∙ pieces-at_most continues.pieces (continues.last ++ byte ∷ []) few in
     record {

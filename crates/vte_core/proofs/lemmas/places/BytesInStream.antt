@@ -58,7 +58,7 @@ pub bytes_lead-append : {limit : Option ℕ} {place next last : Place} {bytes th
     {reported more_reported : List Event} → BytesLead limit place bytes reported next
     → BytesLead limit next these more_reported last
     → BytesLead limit place (bytes ++ these) (reported ++ more_reported) last
-bytes_lead-append {limit} {place} {last} {bytes} {these} {reported} {more_reported} reads reads_on =
+bytes_lead-append {limit} {place} {last} {bytes} {these} {reported} {more_reported} leads reads_on =
     search (rules, arith, append_assoc, report-append)
 
 pub no_escape : (b : ℕ) → ends_sequence (class_of b) ≡ false → eqb b escape ≡ false

@@ -1,10 +1,10 @@
 -- After every place every byte reports at most two events, of which the second is short, and leads to a place
 -- (`steps`): by cases of the place and of the byte's class, each by a lemma of `PlaceLeads`.
-use Rattle.vte_core.proofs.Common.{AreBrief, arith, AtEscape, bell, breaks, Cancel, cases_Bool, Class, class_of, closing_events_at, Delete, dispatches_escape, ends_sequence, eqb, escape, EscapeSequence, Event, Execute, false, false≢true, Final, head_of, High, InControlSequence, InDeviceControl, InDeviceData, InEscape, InIgnoredString, inl, inr, InSystemCommand, Intermediate, InText, is_head_byte, is_well_shaped, kept_items, Leads, left_at, List, nat_tests, None, open_at, open_data_count, Option, pieces_of, Place, PlainControl, refl, rules, sequence_event, sequence_kind, SequenceKind, sym, true, ℕ, [], ◌++◌, ◌+◌, ◌<◌, ◌∙◌, ◌∷◌, ◌≡◌, ◌≤◌}
+use Rattle.vte_core.proofs.Common.{AreBrief, arith, AtEscape, bell, breaks, Cancel, cases_Bool, Class, class_of, closing_events_at, Delete, dispatches_escape, ends_sequence, eqb, escape, EscapeSequence, Event, Execute, false, false≢true, Final, head_of, High, InControlSequence, InDeviceControl, InDeviceData, InEscape, InIgnoredString, inl, inr, InSystemCommand, Intermediate, InText, is_head_byte, is_well_shaped, kept_items, Leads, List, nat_tests, None, open_at, open_data_count, Option, pieces_of, Place, PlainControl, refl, rules, sequence_event, sequence_kind, SequenceKind, sym, to_close_at, true, ℕ, [], ◌++◌, ◌+◌, ◌<◌, ◌∙◌, ◌∷◌, ◌≡◌, ◌≤◌}
 use Rattle.vte_core.specs.Class.{Escape}
 use Rattle.vte_core.proofs.lemmas.places.PlaceLeads.{bounded-head, byte-dropped, byte-executed, command-bell, command-control, command-item, control-dispatched, control-head, control-silent, data-dropped, data-put, data-terminator, device-dropped, device-head, device-ill_shaped, device-well_shaped, escape-end, escape-intermediate, escape-key, executed_low, ignored-more, intermediate-end, intermediate-more, two_at_most}
 use Rattle.vte_core.proofs.lemmas.places.BytesInStream.{bytes_lead-byte, bytes_lead-escape, cancel_is_no_escape, no_escape}
-use Rattle.vte_core.proofs.lemmas.places.Steps.{AreOutsideRuns, FitsLeft, IsOutsideRunsAtPlace, IsSilentOrSettles, IsText, Steps}
+use Rattle.vte_core.proofs.lemmas.places.Steps.{AreOutsideRuns, IsOutsideRunsAtPlace, IsSilentOrSettles, IsText, OpenPiecesFit, Steps}
 use Rattle.vte_core.proofs.lemmas.places.TextSteps.{byte-cancels, closing_alone_brief, closing_brief, step-text}
 use Rattle.vte_core.proofs.lemmas.bytes.Classes.{below_finals, ends_not_cancel, is_dropped, is_dropped_in_head, Spans, spans}
 use Rattle.vte_core.proofs.lemmas.fields.PlaceOfState.{IsReachable}
@@ -29,7 +29,7 @@ outside_text_is_no_text (InText opened) outside text = outside
 outside_text_is_no_text _ outside text = text
 
 nothing_open : (limit : Option ℕ) (place : Place) → HoldsNothing place
-    → (open_at place ≡ []) × (open_data_count (left_at limit place) ≡ 0) × IsReachable place
+    → (open_at place ≡ []) × (open_data_count (to_close_at limit place) ≡ 0) × IsReachable place
 unfolding pieces_of kept_items
 nothing_open limit place holds_nothing = search (rules, arith)
 
@@ -59,7 +59,7 @@ dropped_in_head class is_dropped_class = search (rules, arith)
 module _ {limit : Option ℕ} {place next : Place} {b : ℕ} (is_no_escape : eqb b escape ≡ false) where
   -- `Steps` holds for a byte other than ESC that leaves nothing open.
   step-leaving_nothing : {reported : List Event} → LeavesNothingOpen place next → Leads limit place b reported next
-      → ((size : Option ℕ) → FitsLeft size (left_at limit place) → AreBrief size reported)
+      → ((size : Option ℕ) → OpenPiecesFit size (to_close_at limit place) → AreBrief size reported)
       → (IsOutsideRunsAtPlace place b → AreOutsideRuns reported) → Steps limit place b
   step-leaving_nothing {reported} known leads brief outside_runs =
       let nothing = nothing_open limit next known.1 in
@@ -71,7 +71,7 @@ module _ {limit : Option ℕ} {place next : Place} {b : ℕ} (is_no_escape : eqb
         brief = brief;
         grows = λ _. omega (arith, nothing.1);
         leaves = inl nothing.0;
-        little = λ text _. absurd (outside_text_is_no_text place known.0 text);
+        silent_or_settles = λ text _. absurd (outside_text_is_no_text place known.0 text);
         outside_runs = outside_runs;
       }
 
@@ -192,8 +192,8 @@ step-in_device_data is_no_escape is_class no_end =
 -- `Steps` holds for a byte that joins the command, or is dropped there.
 step-joins_command : {limit : Option ℕ} {items later : List ℕ} {b : ℕ} → eqb b escape ≡ false
     → Leads limit (InSystemCommand items) b [] (InSystemCommand later)
-    → (limit ≡ None → open_data_count (left_at limit (InSystemCommand later))
-    ≤ open_data_count (left_at limit (InSystemCommand items)) + 1) → Steps limit (InSystemCommand items) b
+    → (limit ≡ None → open_data_count (to_close_at limit (InSystemCommand later))
+    ≤ open_data_count (to_close_at limit (InSystemCommand items)) + 1) → Steps limit (InSystemCommand items) b
 step-joins_command {limit} {items} {later} {b} is_no_escape leads grows = record {
   reported = [];
   next = InSystemCommand later;
@@ -202,7 +202,7 @@ step-joins_command {limit} {items} {later} {b} is_no_escape leads grows = record
   brief = λ _ _. tt;
   grows = grows;
   leaves = inl refl;
-  little = λ text _. absurd text;
+  silent_or_settles = λ text _. absurd text;
   outside_runs = λ _. tt;
 }
 
@@ -267,7 +267,7 @@ step-by_class limit place b Escape is_reachable is_class =
       brief = λ size fits. closing_alone_brief limit size place fits;
       grows = λ _. omega arith;
       leaves = inl refl;
-      little = silent_or_settles-escape limit place is_reachable;
+      silent_or_settles = silent_or_settles-escape limit place is_reachable;
       outside_runs = outside_runs-closing limit place _;
     })
 step-by_class limit (InText opened) b Cancel is_reachable is_class =

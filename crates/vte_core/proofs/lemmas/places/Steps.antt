@@ -1,6 +1,6 @@
 -- What one byte reports after a place, and where it leads (`Steps`), for all uses of it. `TextSteps` and `PlaceSteps`
 -- prove it of each place.
-use Rattle.vte_core.proofs.Common.{AreBrief, breaks, BytesLead, class_of, CommandToClose, Event, events, false, FitsLimit, InDeviceData, InText, is_device_data, IsAtMostOneShort, IsOutsideRuns, left_at, List, None, open_at, open_data_count, Option, Place, Print, refl, replacement, ToClose, ℕ, [], ◌+◌, ◌∷◌, ◌≡◌, ◌≤◌, ◌⊎◌}
+use Rattle.vte_core.proofs.Common.{AreBrief, breaks, BytesLead, class_of, CommandToClose, Event, events, false, FitsLimit, InDeviceData, InText, is_device_data, IsAtMostOneShort, IsOutsideRuns, List, None, open_at, open_data_count, Option, Place, Print, refl, replacement, to_close_at, ToClose, ℕ, [], ◌+◌, ◌∷◌, ◌≡◌, ◌≤◌, ◌⊎◌}
 use Rattle.vte_core.proofs.lemmas.fields.PlaceOfState.{IsReachable}
 
 -- If a character is open at the next place, at most U+FFFD was reported.
@@ -20,9 +20,9 @@ text_at (InText begun) some_open = tt
 text_at _ some_open = absurd (some_open refl)
 
 -- The pieces of the open command, if any, fit into a buffer of this size.
-abbrev pub FitsLeft : Option ℕ → ToClose → Type 0
-FitsLeft size (CommandToClose pieces dropped) = FitsLimit size pieces
-FitsLeft size _ = Unit {0}
+abbrev pub OpenPiecesFit : Option ℕ → ToClose → Type 0
+OpenPiecesFit size (CommandToClose pieces dropped) = FitsLimit size pieces
+OpenPiecesFit size _ = Unit {0}
 
 -- The byte is outside of a text, and of data that are put.
 abbrev pub IsOutsideRunsAtPlace : Place → ℕ → Type 0
@@ -40,14 +40,14 @@ pub record Steps (limit : Option ℕ) (place : Place) (byte : ℕ) : Type 0 wher
   pub reported : List Event
   pub next : Place
   pub is_reachable : IsReachable next
-  -- For `after-reads`.
+  -- For `after-leads`.
   pub leads : BytesLead limit place (byte ∷ []) reported next
   -- For `laws::bytes_are_brief`.
-  pub brief : (size : Option ℕ) → FitsLeft size (left_at limit place) → AreBrief size reported
+  pub brief : (size : Option ℕ) → OpenPiecesFit size (to_close_at limit place) → AreBrief size reported
   -- For the size of a command without a limit.
-  pub grows : limit ≡ None → open_data_count (left_at limit next) ≤ open_data_count (left_at limit place) + 1
+  pub grows : limit ≡ None → open_data_count (to_close_at limit next) ≤ open_data_count (to_close_at limit place) + 1
   -- For early stops: nothing is reported if a character is left open.
   pub leaves : LeavesOpen next reported
-  pub little : IsText place → breaks (open_at place) (byte ∷ []) ≡ false → IsSilentOrSettles next reported
+  pub silent_or_settles : IsText place → breaks (open_at place) (byte ∷ []) ≡ false → IsSilentOrSettles next reported
   -- For `advance_to_run`.
   pub outside_runs : IsOutsideRunsAtPlace place byte → AreOutsideRuns reported

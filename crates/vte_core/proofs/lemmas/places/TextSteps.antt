@@ -1,6 +1,6 @@
 -- A byte in a text, by whether it ends, continues or breaks the open character (`step-text`), and CAN and SUB at all
 -- places (`byte-cancels`).
-use Rattle.vte_core.proofs.Common.{ap, append-nil, AreBrief, arith, bell, body_outcome, Cancel, cases_Bool, character_event, class_of, closing_events_at, control_sequence_end, device_control_after_head, device_data_outcome, eqb, escape, Event, Execute, executed_events, false, false≢true, inl, inr, InSystemCommand, InText, is_control_character, is_truncated, is_well_formed, IsAtMostOneShort, Leads, left_at, List, may_continue, nat_tests, open_data_count, Option, Place, Print, refl, replacement, report, rules, sym, text_outcome, true, ℕ, [], ◌++◌, ◌<◌, ◌∙◌, ◌∷◌, ◌≡◌}
+use Rattle.vte_core.proofs.Common.{ap, append-nil, AreBrief, arith, bell, body_outcome, Cancel, cases_Bool, character_event, class_of, closing_events_at, control_sequence_end, device_control_after_head, device_data_outcome, eqb, escape, Event, Execute, executed_events, false, false≢true, inl, inr, InSystemCommand, InText, is_control_character, is_truncated, is_well_formed, IsAtMostOneShort, Leads, List, may_continue, nat_tests, open_data_count, Option, Place, Print, refl, replacement, report, rules, sym, text_outcome, to_close_at, true, ℕ, [], ◌++◌, ◌<◌, ◌∙◌, ◌∷◌, ◌≡◌}
 use Rattle.vte_core.proofs.lemmas.shapes.FirstSegment.{text_outcome-broken, text_outcome-well_formed}
 use Rattle.vte_core.proofs.lemmas.shapes.BrokenCharacters.{breaks-broken}
 use Rattle.vte_core.proofs.lemmas.fields.PlaceOfState.{IsReachable, may_continue-truncated}
@@ -11,33 +11,36 @@ use Rattle.vte_core.proofs.lemmas.bytes.Classes.{spans}
 use Rattle.vte_core.proofs.lemmas.bytes.Utf8.{ascii-alone, ascii-breaks, Tests}
 use Rattle.vte_core.proofs.lemmas.fields.Pieces.{few_pieces, some_pieces}
 use Rattle.vte_core.proofs.lemmas.places.BytesInStream.{bytes_lead-byte, waits-byte}
-use Rattle.vte_core.proofs.lemmas.places.Steps.{FitsLeft, IsSilentOrSettles, Steps}
+use Rattle.vte_core.proofs.lemmas.places.Steps.{IsSilentOrSettles, OpenPiecesFit, Steps}
 
 -- ---- a byte in a text
 
-open_data_count-text : (limit : Option ℕ) (begun : List ℕ) → open_data_count (left_at limit (InText begun)) ≡ 0
+open_data_count-text : (limit : Option ℕ) (begun : List ℕ) → open_data_count (to_close_at limit (InText begun)) ≡ 0
 open_data_count-text limit [] = refl
 open_data_count-text limit (a ∷ begun) = refl
 
 silent_or_settles-is_short : (next : Place) (reported : List Event) → IsSilentOrSettles next reported
     → IsAtMostOneShort reported
-silent_or_settles-is_short next reported little = search (rules, arith)
+silent_or_settles-is_short next reported silent_or_settles = search (rules, arith)
 
 step-silent_or_settles : {limit : Option ℕ} {begun later : List ℕ} {byte : ℕ} {reported : List Event}
     → IsSilentOrSettles (InText later) reported → eqb byte escape ≡ false
     → Leads limit (InText begun) byte reported (InText later)
     → IsReachable (InText later) → Steps limit (InText begun) byte
-step-silent_or_settles {limit} {begun} {later} {byte} {reported} little is_no_escape leads is_reachable = record {
-  reported = reported;
-  next = InText later;
-  is_reachable = is_reachable;
-  leads = bytes_lead-byte is_no_escape leads;
-  brief = λ size _. one_short-from_one_byte size reported (silent_or_settles-is_short (InText later) reported little);
-  grows = λ _. omega (arith, open_data_count-text limit later);
-  leaves = elim little [ inl nothing ↦ inr (inl nothing) | inr closed ↦ inl closed.0 ];
-  little = λ _ _. little;
-  outside_runs = λ outside. absurd outside;
-}
+step-silent_or_settles {limit} {begun} {later} {byte} {reported} silent_or_settles is_no_escape leads
+    is_reachable = record {
+      reported = reported;
+      next = InText later;
+      is_reachable = is_reachable;
+      leads = bytes_lead-byte is_no_escape leads;
+      brief =
+          λ size _. one_short-from_one_byte size reported
+          (silent_or_settles-is_short (InText later) reported silent_or_settles);
+      grows = λ _. omega (arith, open_data_count-text limit later);
+      leaves = elim silent_or_settles [ inl nothing ↦ inr (inl nothing) | inr closed ↦ inl closed.0 ];
+      silent_or_settles = λ _ _. silent_or_settles;
+      outside_runs = λ outside. absurd outside;
+    }
 
 -- `Steps` need only be shown for a byte that neither ends the character nor belongs to it.
 step-by_tests : {limit : Option ℕ} {begun : List ℕ} {byte : ℕ} → eqb byte escape ≡ false
@@ -67,7 +70,7 @@ step-broken : (limit : Option ℕ) (begun : List ℕ) (byte : ℕ) → eqb byte 
     → Steps limit (InText begun) byte
 step-broken limit begun byte is_no_escape truncated not_well_formed_after not_truncated_after =
     let alone : Steps limit (InText []) byte = step-settled is_no_escape in
-    let little : IsSilentOrSettles alone.next alone.reported = alone.little tt refl in
+    let silent_or_settles : IsSilentOrSettles alone.next alone.reported = alone.silent_or_settles tt refl in
     record {
       reported = Print replacement ∷ alone.reported;
       next = alone.next;
@@ -80,14 +83,14 @@ step-broken limit begun byte is_no_escape truncated not_well_formed_after not_tr
       };
       brief =
           λ size _. one_short-append size (Print replacement ∷ []) alone.reported (refl, refl)
-          (silent_or_settles-is_short alone.next alone.reported little);
+          (silent_or_settles-is_short alone.next alone.reported silent_or_settles);
       grows = λ no_limit. omega (arith, alone.grows no_limit);
       leaves =
-          elim little [
+          elim silent_or_settles [
             | inl nothing ↦ inr (inr (ap (λ events. Print replacement ∷ events) nothing))
             | inr closed ↦ inl closed.0
           ];
-      little = λ _ unbroken. absurd (false≢true
+      silent_or_settles = λ _ unbroken. absurd (false≢true
           (sym unbroken ∙ breaks-broken begun byte truncated not_well_formed_after not_truncated_after));
       outside_runs = λ outside. absurd outside;
     }
@@ -131,10 +134,11 @@ byte-cancels is_reachable is_cancel = record { leads = λ rest. simp is_cancel }
 
 -- ---- what ESC, CAN and SUB report is no more than one byte may
 
-pub closing_brief : (limit size : Option ℕ) (place : Place) (b : ℕ) → FitsLeft size (left_at limit place) → b < 0x20
+pub closing_brief : (limit size : Option ℕ) (place : Place) (b : ℕ) → OpenPiecesFit size (to_close_at limit place)
+    → b < 0x20
     → AreBrief size (closing_events_at limit place ++ Execute b ∷ [])
 closing_brief limit size place b fits low = search (rules, arith, executed_low, few_pieces, some_pieces)
 
-pub closing_alone_brief : (limit size : Option ℕ) (place : Place) → FitsLeft size (left_at limit place)
+pub closing_alone_brief : (limit size : Option ℕ) (place : Place) → OpenPiecesFit size (to_close_at limit place)
     → AreBrief size (closing_events_at limit place)
 closing_alone_brief limit size place fits = search (rules, arith, few_pieces, some_pieces)

@@ -10,7 +10,7 @@ use Rattle.vte_core.proofs.lemmas.places.PlaceSteps.{steps}
 use Rattle.vte_core.proofs.lemmas.places.Steps.{AreOutsideRuns, IsOutsideRunsAtPlace}
 use Rattle.vte_core.proofs.lemmas.shapes.BrokenCharacters.{reported-broken, reported-settled}
 use Rattle.vte_core.proofs.lemmas.bytes.Each.{one_byte}
-use Rattle.vte_core.proofs.lemmas.streams.After.{added-nothing, added-reads}
+use Rattle.vte_core.proofs.lemmas.streams.After.{added-leads, added-nothing}
 use Rattle.vte_core.proofs.lemmas.streams.StreamSteps.{prints_no_ascii, prints_no_ascii-all, prints_no_ascii-character}
 
 -- ---- a performer that keeps all events
@@ -86,7 +86,7 @@ outside_runs-place limit state parser place b outside fields = search (rules, ar
 
 -- ---- what is reported between two positions
 
--- If no byte reports a run, neither does the stretch (`adds-reads`), and stretches compose (`adds-then`).
+-- If no byte reports a run, neither does the stretch (`adds-leads`), and stretches compose (`adds-then`).
 
 module _ {limit : Option ℕ} {stream bytes : List ℕ} {i : ℕ} where
   pub adds-same : {j : ℕ} → reported_before limit stream bytes i ≡ reported_before limit stream bytes j
@@ -103,32 +103,32 @@ module _ {limit : Option ℕ} {stream bytes : List ℕ} {i : ℕ} where
         ∙ append_assoc (reported_before limit stream bytes i) adds.events adds_more.events;
   }
 
-  pub adds-reads : {b : ℕ} {place next : Place} {these : List Event}
+  pub adds-leads : {b : ℕ} {place next : Place} {reported : List Event}
       → i < length bytes → b ≡ slice_index bytes i
-      → IsAfter limit (resumed_stream stream bytes i) place → BytesLead limit place (b ∷ []) these next
+      → IsAfter limit (resumed_stream stream bytes i) place → BytesLead limit place (b ∷ []) reported next
       → IsReachable next
-      → All IsOutsideRuns these → AddsOutsideRuns limit stream bytes i (i + 1)
-  adds-reads {b} {place} {next} {these} within byte_is is_after reads is_reachable are_outside =
-      let one = one_byte bytes i b within byte_is in
+      → All IsOutsideRuns reported → AddsOutsideRuns limit stream bytes i (i + 1)
+  adds-leads {b} {place} {next} {reported} before_end byte_is is_after leads is_reachable are_outside =
+      let one = one_byte bytes i b before_end byte_is in
       let before : List Event = reported_before limit stream bytes i in
-      let all : added limit stream (take (i + 1) bytes) ≡ before ++ these =
+      let all : added limit stream (take (i + 1) bytes) ≡ before ++ reported =
       stretch-added limit stream bytes i (i + 1) (omega arith)
       ∙ ap (λ (events : List Event). before ++ events)
       (ap (added limit (resumed_stream stream bytes i)) one
-      ∙ added-reads is_after reads is_reachable) in
+      ∙ added-leads is_after leads is_reachable) in
       elim (cases_Bool (breaks_at stream bytes (i + 1))) [
         | inl broken ↦ record {
-          events = these ++ Print replacement ∷ [];
+          events = reported ++ Print replacement ∷ [];
           events_are =
-              All-append IsOutsideRuns these (Print replacement ∷ []) are_outside
+              All-append IsOutsideRuns reported (Print replacement ∷ []) are_outside
               (All-cons IsOutsideRuns (Print replacement) [] refl (All-nil IsOutsideRuns));
           parts =
               reported-broken limit stream bytes (i + 1) broken
               ∙ ap (λ (events : List Event). events ++ Print replacement ∷ []) all
-              ∙ append_assoc before these (Print replacement ∷ []);
+              ∙ append_assoc before reported (Print replacement ∷ []);
         }
         | inr whole ↦ record {
-          events = these;
+          events = reported;
           events_are = are_outside;
           parts = reported-settled limit stream bytes (i + 1) whole
               ∙ all;
@@ -138,9 +138,9 @@ module _ {limit : Option ℕ} {stream bytes : List ℕ} {i : ℕ} where
   pub adds-outside_runs : {b : ℕ} {place : Place} → i < length bytes
       → b ≡ slice_index bytes i → IsAfter limit (resumed_stream stream bytes i) place
       → IsReachable place → IsOutsideRunsAtPlace place b → AddsOutsideRuns limit stream bytes i (i + 1)
-  adds-outside_runs {b} {place} within byte_is is_after is_reachable outside =
+  adds-outside_runs {b} {place} before_end byte_is is_after is_reachable outside =
       let step = steps is_reachable in
-      adds-reads within byte_is is_after step.leads step.is_reachable
+      adds-leads before_end byte_is is_after step.leads step.is_reachable
       (outside_runs-all step.reported (step.outside_runs outside))
 
   -- If the first byte of a character reported nothing, what is added from it on are the events of the character.

@@ -29,7 +29,7 @@ module _ {V B : Type 0} {call : ChunkCall V} where
       record {
         place = inside.place;
         is_at = inside.is_at;
-        settled = λ within. absurd (omega arith);
+        settled = λ before_end. absurd (omega arith);
         progress = progress-all all inside.progress;
       }
 
@@ -54,8 +54,8 @@ module _ {V B : Type 0} {call : ChunkCall V} where
   pub call_ends-comes : {old value : V} {stream : List ℕ} {n : ℕ} {parser : Machine B} → call.may_stop ≡ true
       → n ≤ length call.bytes → IsAtPosition call old value stream n parser
       → ComesTo call.step call.is_terminated old call.limit stream call.bytes value n
-  call_ends-comes {parser} asks within position =
-      progress-comes asks within
+  call_ends-comes {parser} may_stop within position =
+      progress-comes may_stop within
       (λ left. progress-starts (is_at-place position.is_at)
       (position.settled left) left position.progress) position.progress
 
@@ -63,9 +63,9 @@ module _ {V B : Type 0} {call : ChunkCall V} where
       → n ≤ length call.bytes → (n < length call.bytes → call.is_terminated value ≡ true)
       → IsAtPosition call old value stream n parser
       → StopsExactly call.step call.is_terminated old call.limit stream call.bytes value n
-  call_ends-stops asks within stops position =
+  call_ends-stops may_stop within stops position =
       record {
-        comes = call_ends-comes asks within position;
+        comes = call_ends-comes may_stop within position;
         stops = stops;
         all = λ all. progress-all_read all position.progress;
       }
@@ -95,7 +95,7 @@ module _ {V B : Type 0} {call : ChunkCall V} where
       → call.is_terminated value ≡ true → n ≤ length call.bytes
       → ((stream : List ℕ) → HasReadWithLimit call.limit before stream → IsAtPosition call old value stream n parser)
       → ReadsUpTo call old value n before parser
-  call_ends-at_stop asks stopped within is_at = search (rules, arith)
+  call_ends-at_stop may_stop stopped within is_at = search (rules, arith)
 
   pub call_ends-with_all : {old value : V} {n : ℕ} {before parser : Machine B} → n ≡ length call.bytes
       → ((stream : List ℕ) → HasReadWithLimit call.limit before stream → IsAtPosition call old value stream n parser)

@@ -1,7 +1,7 @@
 -- A call inside a character, over any number of its bytes: it reports nothing while the character goes on (`GoesOn`),
 -- and then completes it (`completes-all`, `completes-well_formed`, `completes-malformed`), a byte at a time.
 use Rattle.vte_core.proofs.Common.{added, All-cons, All-nil, ap, append-nil, append_assoc, arith, bytes_of, character_event, ChunkCall, drop, drop_more, Empty, Event, Extends, from_to, HasReadWithLimit, inl, inr, InText, is_in, is_truncated, is_well_formed, IsAtPlace, IsAtPosition, IsInsidePosition, IsOutsideRuns, IsPlaceOfState, length, List, Machine, may_continue, One, open_character, Option, Place, Print, ProgressInside, refl, replacement, rules, scalar_of, second_range, slice_index, subst, sym, take, take-add, Text, Three, true, Two, Unfinished, ℕ, [], ◌++◌, ◌+◌, ◌<◌, ◌∙◌, ◌∷◌, ◌≡◌, ◌≢◌, ◌≤◌}
-use Rattle.vte_core.specs.declared.utf8.Extended.TheVariants.{Malformed, Truncated, WellFormed}
+use Rattle.vte_core.specs.declared.utf8.Extension.TheVariants.{Malformed, Truncated, WellFormed}
 use Rattle.vte_core.proofs.lemmas.fields.PlaceOfState.{is_at-by, is_at-in, is_at-place, may_continue-truncated}
 use Rattle.vte_core.proofs.lemmas.places.PlaceLeads.{text-unfinished, text-well_formed}
 use Rattle.vte_core.proofs.lemmas.streams.After.{after-open_character, extending_is_no_escape}
@@ -24,7 +24,7 @@ use Rattle.std.proofs.lemmas.List.{drop-drop}
 is_at-in_text : {B : Type 0} {limit : Option ℕ} {parser : Machine B} {longer : Unfinished} {opened : List ℕ}
     → parser.state ≡ Text longer → bytes_of longer ≡ opened
     → may_continue opened ≡ true → IsAtPlace limit parser (InText opened)
-is_at-in_text begun same more = is_at-by begun (same, more)
+is_at-in_text in_state same more = is_at-by in_state (same, more)
 
 -- The parser, inside a character of these bytes.
 abbrev pub in_text : {B : Type 0} → Machine B → Unfinished → Machine B
@@ -44,14 +44,14 @@ unfinished-some first rest empty = cc
 
 truncated-some : (opened : List ℕ) → is_truncated opened ≡ true → opened ≢ []
 unfolding is_truncated
-truncated-some [] more empty = cc
-truncated-some (b ∷ opened) more empty = cc
+truncated-some [] truncated empty = cc
+truncated-some (b ∷ opened) truncated empty = cc
 
 module _ {V B : Type 0} {call : ChunkCall V} {old mid : V} {stream : List ℕ} where
   inside-open : {i : ℕ} {unfinished : Unfinished} {parser : Machine B} → parser.state ≡ Text unfinished
       → IsInsidePosition call old mid stream i parser → may_continue (bytes_of unfinished) ≡ true
-  inside-open {unfinished} {parser} begun inside =
-      (at_text-by_fields call.limit parser (is_at-in begun inside.is_at)).begun
+  inside-open {unfinished} {parser} in_state inside =
+      (at_text-by_fields call.limit parser (is_at-in in_state inside.is_at)).begun
 
   -- A byte that continues a character leads to the next position inside it.
   extended-truncated : {i b : ℕ} {unfinished longer : Unfinished} {parser next : Machine B}
@@ -60,8 +60,9 @@ module _ {V B : Type 0} {call : ChunkCall V} {old mid : V} {stream : List ℕ} w
       → next.state ≡ Text longer
       → IsInsidePosition call old mid stream i parser → i < length call.bytes → b ≡ slice_index call.bytes i
       → IsInsidePosition call old mid stream (i + 1) next
-  extended-truncated {i} {b} {unfinished} {longer} {parser} {next} begun opened extends state inside within byte_is =
-      let at_text = at_text-by_fields call.limit parser (is_at-in begun inside.is_at) in
+  extended-truncated {i} {b} {unfinished} {longer} {parser} {next} in_state truncated extends state inside before_end
+      byte_is =
+      let at_text = at_text-by_fields call.limit parser (is_at-in in_state inside.is_at) in
       let more : is_truncated (bytes_of unfinished ++ b ∷ []) ≡ true =
       subst (λ bytes. is_truncated bytes ≡ true) extends.0 extends.1 in
       record {
@@ -70,10 +71,11 @@ module _ {V B : Type 0} {call : ChunkCall V} {old mid : V} {stream : List ℕ} w
             is_at-in_text state extends.0
             (may_continue-truncated (bytes_of unfinished ++ b ∷ []) more);
         progress =
-            progress-extended {these = []} at_text.begun within byte_is (truncated-some (bytes_of unfinished) opened)
+            progress-extended {reported = []} at_text.begun before_end byte_is
+            (truncated-some (bytes_of unfinished) truncated)
             (breaks-unfinished (bytes_of unfinished) b more)
             (bytes_lead-byte
-            (extending_is_no_escape (bytes_of unfinished) b opened (inr more))
+            (extending_is_no_escape (bytes_of unfinished) b truncated (inr more))
             text-unfinished) refl (may_continue-truncated (bytes_of unfinished ++ b ∷ []) more)
             (subst (ProgressInside call old mid stream i) at_text.same inside.progress);
       }
@@ -87,11 +89,11 @@ module _ {V B : Type 0} {call : ChunkCall V} {old mid : V} {stream : List ℕ} w
       → i < length call.bytes
       → b ≡ slice_index call.bytes i → j ≡ i + 1 → IsAtPosition call old new stream j next
   extended-well_formed {new} {i} {b} {unfinished} {parser}
-      {next} begun opened extends state performed inside within byte_is later =
+      {next} begun opened extends state performed inside before_end byte_is later =
       let at_text = at_text-by_fields call.limit parser (is_at-in begun inside.is_at) in
       let come =
       progress-extended {new = new} {next = InText []}
-      {these = character_event (scalar_of (bytes_of unfinished ++ b ∷ [])) ∷ []} at_text.begun within byte_is
+      {reported = character_event (scalar_of (bytes_of unfinished ++ b ∷ [])) ∷ []} at_text.begun before_end byte_is
       (truncated-some (bytes_of unfinished) opened)
       (breaks-well_formed (bytes_of unfinished) b extends.0)
       (bytes_lead-byte
@@ -113,15 +115,16 @@ module _ {V B : Type 0} {call : ChunkCall V} {old mid : V} {stream : List ℕ} w
       → next.state ≡ Text Empty
       → new ≡ call.step mid (Print replacement) → IsInsidePosition call old mid stream i parser → i < length call.bytes
       → b ≡ slice_index call.bytes i → IsAtPosition call old new stream i next
-  extended-malformed {i} {b} {unfinished} {parser} {next} begun opened extends state performed inside within byte_is =
-      let at_text = at_text-by_fields call.limit parser (is_at-in begun inside.is_at) in
+  extended-malformed {i} {b} {unfinished} {parser} {next} in_state truncated extends state performed inside before_end
+      byte_is =
+      let at_text = at_text-by_fields call.limit parser (is_at-in in_state inside.is_at) in
       record {
         place = InText [];
         is_at = is_at-in_text state refl refl;
         settled = λ _. refl;
         progress =
-            progress-broken at_text.begun within byte_is
-            (breaks-broken (bytes_of unfinished) b opened extends.0 extends.1) performed
+            progress-broken at_text.begun before_end byte_is
+            (breaks-broken (bytes_of unfinished) b truncated extends.0 extends.1) performed
             (subst (ProgressInside call old mid stream i) at_text.same inside.progress);
       }
 
@@ -129,7 +132,7 @@ module _ {V B : Type 0} {call : ChunkCall V} {old mid : V} {stream : List ℕ} w
 pub opens-text : {B : Type 0} {limit : Option ℕ} {stream : List ℕ} {unfinished : Unfinished} (parser : Machine B)
     → parser.state ≡ Text unfinished → bytes_of unfinished ≢ [] → HasReadWithLimit limit parser stream
     → open_character stream ≡ [] → ⊥
-opens-text {limit} {stream} {unfinished} parser begun has_begun has_read closed =
+opens-text {limit} {stream} {unfinished} parser in_state has_begun has_read closed =
     search (rules, arith, at_text-by_fields, is_at-in, after-open_character, is_at-place)
 
 -- ---- any number of bytes
@@ -143,8 +146,9 @@ character-bytes bytes i j n m begun far bytes_are = search (rules, arith, append
 character-byte : (bytes : List ℕ) (i n : ℕ) (begun : List ℕ) {j b : ℕ} {opened : List ℕ} → j < length bytes → j ≡ i + n
     → b ≡ slice_index bytes j → opened ≡ begun ++ take n (drop i bytes)
     → opened ++ b ∷ [] ≡ begun ++ take (n + 1) (drop i bytes)
-character-byte bytes i n begun {j} {opened} within far byte_is bytes_are =
-    ap (λ (xs : List ℕ). opened ++ xs) (ap (λ (b : ℕ). b ∷ []) byte_is ∙ sym (ap (take 1) (drop_more bytes j 0 within)))
+character-byte bytes i n begun {j} {opened} before_end far byte_is bytes_are =
+    ap (λ (xs : List ℕ). opened ++ xs) (ap (λ (b : ℕ). b ∷ []) byte_is
+    ∙ sym (ap (take 1) (drop_more bytes j 0 before_end)))
     ∙ character-bytes bytes i j n 1 begun far bytes_are
 
 -- From position i, inside a character of the bytes `begun`, a call has come to position j, inside a character of the
@@ -167,25 +171,26 @@ pub record GoesOn {V B : Type 0} (call : ChunkCall V) (value : V) (i j : ℕ) (b
       → bytes_of unfinished ≡ bytes_of begun ++ take n (drop i call.bytes)
 
 module _ {V B : Type 0} {call : ChunkCall V} {value : V} {i : ℕ} {begun : Unfinished} where
-  pub goes-nowhere : (next : Machine B) → bytes_of begun ≢ [] → GoesOn call value i i begun begun next
-  goes-nowhere next has_begun = search (rules, arith)
+  pub goes_on-nowhere : (next : Machine B) → bytes_of begun ≢ [] → GoesOn call value i i begun begun next
+  goes_on-nowhere next has_begun = search (rules, arith)
 
-  pub goes-more : {j b : ℕ} {unfinished longer : Unfinished} {parser next : Machine B}
+  pub goes_on-more : {j b : ℕ} {unfinished longer : Unfinished} {parser next : Machine B}
       → GoesOn call value i j begun unfinished parser
       → (is_truncated (bytes_of unfinished) ≡ true → Extends (bytes_of unfinished) b (Truncated longer))
       → j < length call.bytes
       → b ≡ slice_index call.bytes j → GoesOn call value i (j + 1) begun longer next
-  goes-more goes extends within byte_is = record {
+  goes_on-more goes extends before_end byte_is = record {
     inside = λ old stream parser is_text inside. let more = goes.more (inside-open is_text inside) in
-        extended-truncated refl more (extends more) refl (goes.inside old stream parser is_text inside) within byte_is;
+        extended-truncated refl more (extends more) refl (goes.inside old stream parser is_text inside) before_end
+        byte_is;
     kept = λ stream parser is_text inside. let more = goes.more (inside-open is_text inside) in
-        extended-truncated refl more (extends more) refl (goes.kept stream parser is_text inside) within byte_is;
+        extended-truncated refl more (extends more) refl (goes.kept stream parser is_text inside) before_end byte_is;
     more = λ opened. (extends (goes.more opened)).1;
     n = goes.n + 1;
     far = omega (arith, goes.far);
     bytes_are =
         λ opened. (extends (goes.more opened)).0
-        ∙ character-byte call.bytes i goes.n (bytes_of begun) within goes.far byte_is (goes.bytes_are opened);
+        ∙ character-byte call.bytes i goes.n (bytes_of begun) before_end goes.far byte_is (goes.bytes_are opened);
   }
 
   -- If all bytes are read, the character stays open.
@@ -196,7 +201,7 @@ module _ {V B : Type 0} {call : ChunkCall V} {value : V} {i : ℕ} {begun : Unfi
     is_at_position =
         λ old stream parser is_text inside. inside-all
         (inside-moved end (goes.inside old stream parser is_text inside)) all;
-    text = λ within. absurd (omega arith);
+    in_text = λ before_end. absurd (omega arith);
     adds = λ old stream parser is_text inside. record {
       events = [];
       parts =
@@ -213,26 +218,26 @@ module _ {V B : Type 0} {call : ChunkCall V} {value : V} {i : ℕ} {begun : Unfi
       → (is_truncated (bytes_of unfinished) ≡ true → Extends (bytes_of unfinished) b (WellFormed scalar))
       → next.state ≡ Text Empty → new ≡ call.step value (character_event scalar) → j < length call.bytes
       → b ≡ slice_index call.bytes j → k ≡ j + 1 → Completes call value new i k begun next
-  completes-well_formed {scalar} {unfinished} {next} goes extends state performed within byte_is later = record {
+  completes-well_formed {scalar} {unfinished} {next} goes extends state performed before_end byte_is later = record {
     is_at_position = λ old stream parser is_text inside. let more = goes.more (inside-open is_text inside) in
         extended-well_formed refl more (extends more) state performed
-        (goes.inside old stream parser is_text inside) within byte_is later;
-    text = λ _. state;
+        (goes.inside old stream parser is_text inside) before_end byte_is later;
+    in_text = λ _. state;
     adds = λ old stream parser is_text inside.
         let opened = inside-open is_text inside in
         let more = goes.more opened in
         let whole = extends more in
         let same =
-        character-byte call.bytes i goes.n (bytes_of begun) within goes.far byte_is (goes.bytes_are opened) in
+        character-byte call.bytes i goes.n (bytes_of begun) before_end goes.far byte_is (goes.bytes_are opened) in
         record {
           events = character_event scalar ∷ [];
           parts =
               sym (reported-at
               (extended-well_formed {next = next} refl more whole state refl
-              (goes.kept stream parser is_text (recorded-inside inside)) within byte_is later));
+              (goes.kept stream parser is_text (recorded-inside inside)) before_end byte_is later));
           events_are = inr (record {
             n = goes.n + 1;
-            in_bytes = omega (arith, goes.far, within);
+            within = omega (arith, goes.far, before_end);
             well_formed = subst (λ (bytes : List ℕ). is_well_formed bytes ≡ true) same whole.0;
             several_bytes =
                 subst (λ (bytes : List ℕ). 1 < length bytes) same
@@ -248,11 +253,11 @@ module _ {V B : Type 0} {call : ChunkCall V} {value : V} {i : ℕ} {begun : Unfi
       → (is_truncated (bytes_of unfinished) ≡ true → Extends (bytes_of unfinished) b Malformed)
       → next.state ≡ Text Empty → new ≡ call.step value (Print replacement) → j < length call.bytes
       → b ≡ slice_index call.bytes j → Completes call value new i j begun next
-  completes-malformed {next} goes extends state performed within byte_is = record {
+  completes-malformed {next} goes extends state performed before_end byte_is = record {
     is_at_position = λ old stream parser is_text inside. let more = goes.more (inside-open is_text inside) in
         extended-malformed refl more (extends more) state performed
-        (goes.inside old stream parser is_text inside) within byte_is;
-    text = λ _. state;
+        (goes.inside old stream parser is_text inside) before_end byte_is;
+    in_text = λ _. state;
     adds = λ old stream parser is_text inside.
         let more = goes.more (inside-open is_text inside) in
         record {
@@ -260,7 +265,7 @@ module _ {V B : Type 0} {call : ChunkCall V} {value : V} {i : ℕ} {begun : Unfi
           parts =
               sym (reported-at
               (extended-malformed {next = next} refl more (extends more) state refl
-              (goes.kept stream parser is_text (recorded-inside inside)) within byte_is));
+              (goes.kept stream parser is_text (recorded-inside inside)) before_end byte_is));
           events_are = inl (All-cons IsOutsideRuns (Print replacement) [] refl (All-nil IsOutsideRuns));
         };
   }
@@ -273,7 +278,7 @@ module _ {V B : Type 0} {call : ChunkCall V} {value : V} {i : ℕ} {begun : Unfi
     is_at_position =
         λ old stream begun is_text inside. completes.is_at_position old stream (in_text parser unfinished) refl
         (goes.inside old stream begun is_text inside);
-    text = completes.text;
+    in_text = completes.in_text;
     adds = λ old stream begun_parser is_text inside.
         let opened = inside-open is_text inside in
         let reported =
@@ -291,7 +296,7 @@ module _ {V B : Type 0} {call : ChunkCall V} {value : V} {i : ℕ} {begun : Unfi
                 character-bytes call.bytes i j goes.n whole.n (bytes_of begun) goes.far (goes.bytes_are opened) in
                 inr (record {
                   n = goes.n + whole.n;
-                  in_bytes = omega (arith, goes.far, whole.in_bytes);
+                  within = omega (arith, goes.far, whole.within);
                   well_formed = subst (λ (bytes : List ℕ). is_well_formed bytes ≡ true) same whole.well_formed;
                   several_bytes = subst (λ (bytes : List ℕ). 1 < length bytes) same whole.several_bytes;
                   event_is = whole.event_is ∙ ap (λ (bytes : List ℕ). character_event (scalar_of bytes) ∷ []) same;
@@ -302,20 +307,22 @@ module _ {V B : Type 0} {call : ChunkCall V} {value : V} {i : ℕ} {begun : Unfi
 
 module _ {V B : Type 0} {call : ChunkCall V} {value : V} {i first second : ℕ} where
   -- A character of three or four bytes goes on with its second byte.
-  pub goes-second : (next : Machine B) → 0xe0 ≤ first → is_in (second_range first) second ≡ true → i < length call.bytes
+  pub goes_on-second : (next : Machine B) → 0xe0 ≤ first → is_in (second_range first) second ≡ true
+      → i < length call.bytes
       → second ≡ slice_index call.bytes i → GoesOn call value i (i + 1) (One first) (Two first second) next
-  goes-second next low fits within second_is =
-      goes-more (goes-nowhere next (unfinished-some first [])) (λ more. second-open first second more fits low) within
+  goes_on-second next low fits before_end second_is =
+      goes_on-more (goes_on-nowhere next (unfinished-some first [])) (λ more. second-open first second more fits low)
+      before_end
       second_is
 
   -- A character of four bytes goes on with its second and its third byte.
-  pub goes-third : {third : ℕ} (next : Machine B) → 0xf0 ≤ first → is_in (second_range first) second ≡ true
+  pub goes_on-third : {third : ℕ} (next : Machine B) → 0xf0 ≤ first → is_in (second_range first) second ≡ true
       → is_in (from_to 0x80 0xbf) third ≡ true → i + 2 < length call.bytes → second ≡ slice_index call.bytes i
       → third ≡ slice_index call.bytes (i + 1)
       → GoesOn call value i (i + 2) (One first) (Three first second third) next
-  goes-third {third} next low second_fits third_fits within second_is third_is =
+  goes_on-third {third} next low second_fits third_fits before_end second_is third_is =
       let goes =
-      goes-more {next = next} (goes-second next (omega arith) second_fits (omega arith) second_is)
+      goes_on-more {next = next} (goes_on-second next (omega arith) second_fits (omega arith) second_is)
       (λ more. third-open first second third more third_fits low) (omega arith) third_is in
       record {
         inside =

@@ -9,10 +9,10 @@ use Rattle.vte_core.specs.EarlyStop.{NeverStopsBefore}
 use Rattle.vte_core.specs.LongParserCalls.{IsRefusedMemory, ReadsLong}
 use Rattle.vte_core.specs.private.ToRun.{bytes_at, ComesToRun, IsTaken}
 use Rattle.vte_core.proofs.lemmas.positions.ToRun.{reads-run, returns-run}
-use Rattle.vte_core.specs.declared.parser.long.LongParser.{LongParser}
+use Rattle.vte_core.specs.declared.parser.long_parser.LongParser.{LongParser}
 use Rattle.vte_core.specs.LongParser.{HasReadLong}
 use Rattle.vte_core.specs.Looks.{total_looks}
-use Rattle.vte_core.specs.Parser.{reading}
+use Rattle.vte_core.specs.Parser.{machine_facts}
 use Rattle.vte_core.proofs.lemmas.positions.Open.{inside-reads, lacks_all, meets_data, refuses-inside, stores_pieces}
 use Rattle.vte_core.proofs.lemmas.positions.SettledStates.{all_read-unless_asked}
 use Rattle.vte_core.proofs.lemmas.positions.CallEnds.{call_ends-performs, call_ends-reads, call_ends-reads_all, call_ends-stops}
@@ -31,7 +31,8 @@ costs-added {result} {earlier} no_looks sum costs = search (rules, arith)
 module _ {V B : Type 0} {call : ChunkCall V} {old new : V} {before parser : Machine B} {start end : ℕ} where
   pub reads-bytes : {read : ℕ} → read ≡ length call.bytes → ReadsUpTo call old new read before parser
       → Costs (per_byte 5) call.bytes (Ok read) read before parser start end
-      → ReadsBytes call.step old new call.bytes (reading call.limit before start) (reading call.limit parser end)
+      → ReadsBytes call.step old new call.bytes (machine_facts call.limit before start)
+      (machine_facts call.limit parser end)
   reads-bytes all reads costs = record {
     performs = λ stream has_read. call_ends-performs all (reads.is_at_position stream has_read);
     reads = λ stream has_read. call_ends-reads_all all (reads.is_at_position stream has_read);
@@ -41,11 +42,11 @@ module _ {V B : Type 0} {call : ChunkCall V} {old new : V} {before parser : Mach
 
   pub reads-until : {read : ℕ} → call.may_stop ≡ true → ReadsUpTo call old new read before parser
       → Costs (per_byte 5) call.bytes (Ok read) read before parser start end
-      → ReadsUntilTerminated call.step call.is_terminated read old new call.bytes (reading call.limit before start)
-      (reading call.limit parser end)
-  reads-until asks reads costs = record {
+      → ReadsUntilTerminated call.step call.is_terminated read old new call.bytes
+      (machine_facts call.limit before start) (machine_facts call.limit parser end)
+  reads-until may_stop reads costs = record {
     within = reads.within;
-    stops = λ stream has_read. call_ends-stops asks reads.within reads.stops (reads.is_at_position stream has_read);
+    stops = λ stream has_read. call_ends-stops may_stop reads.within reads.stops (reads.is_at_position stream has_read);
     reads = λ stream has_read. call_ends-reads (reads.is_at_position stream has_read);
     looks_at_most = costs.looks_at_most_if_ok;
     looks_at_least = costs.looks_at_least;
@@ -63,7 +64,7 @@ module _ {A V : Type 0} {step : V → Event → V} {old new : V} {bytes : List �
       → NeverStopsBefore step is_terminated old None stream bytes n)
       → is_terminated new ≡ false → IsRefusedMemory rate step is_terminated old new bytes parser next n
   is_refused is_terminated refuses costs earlier not_stopped = record {
-    within = refuses.within;
+    before_end = refuses.before_end;
     passes =
         λ stream has_read. record {
           performed = (refuses-inside refuses stream has_read).progress.performed;
@@ -73,7 +74,7 @@ module _ {A V : Type 0} {step : V → Event → V} {old new : V} {bytes : List �
     reads = λ stream has_read. inside-reads (refuses-inside refuses stream has_read);
     meets = λ stream has_read. meets_data refuses.refused has_read;
     lacks_memory = refuses.refused.lacks_memory;
-    lacks_all = λ stream has_read. lacks_all refuses stream has_read costs.memory;
+    lacks_all = λ stream has_read. lacks_all refuses stream has_read costs.keeps_memory;
     looks_at_most = costs.looks_at_most;
     looks_at_least = costs.looks_at_least;
   }
@@ -102,7 +103,7 @@ module _ {A V : Type 0} {step : V → Event → V} {is_terminated : V → Bool} 
   advance-refused refused refuses costs = record {
     reads = tt;
     refuses = is_refused (λ _. false) refuses costs (λ stream has_read start before starts. refl) refl;
-    memory = costs.memory;
+    keeps_memory = costs.keeps_memory;
     stores = stores_pieces next.machine;
   }
 
@@ -112,9 +113,9 @@ module _ {A V : Type 0} {step : V → Event → V} {is_terminated : V → Bool} 
       (total_looks parser.looks) (total_looks next.looks)
       → ReadsLong (per_byte 5) step (λ _. false) old new bytes parser next (Ok tt) (λ (_ : Unit {0}). ReadsBytes step)
   advance-read reads costs = record {
-    reads = reads-bytes (all_read-unless_asked _ _ reads.within reads.asked) reads costs;
+    reads = reads-bytes (all_read-unless_asked _ _ reads.within reads.may_stop) reads costs;
     refuses = tt;
-    memory = costs.memory;
+    keeps_memory = costs.keeps_memory;
     stores = stores_pieces next.machine;
   }
 
@@ -132,13 +133,13 @@ module _ {A V : Type 0} {step : V → Event → V} {is_terminated : V → Bool} 
   advance-until (Ok read) reads refuses costs = record {
     reads = reads-until refl reads costs;
     refuses = tt;
-    memory = costs.memory;
+    keeps_memory = costs.keeps_memory;
     stores = stores_pieces next.machine;
   }
   advance-until (Err refused) reads refuses costs = record {
     reads = tt;
     refuses = is_refused-asked refuses costs;
-    memory = costs.memory;
+    keeps_memory = costs.keeps_memory;
     stores = stores_pieces next.machine;
   }
 
@@ -153,7 +154,7 @@ module _ {A V : Type 0} {step : V → Event → V} {is_terminated : V → Bool} 
   to_run-refused refused refuses costs = record {
     reads = tt;
     refuses = is_refused-asked refuses costs;
-    memory = costs.memory;
+    keeps_memory = costs.keeps_memory;
     stores = stores_pieces next.machine;
   }
 
@@ -173,6 +174,6 @@ module _ {A V : Type 0} {step : V → Event → V} {is_terminated : V → Bool} 
       looks_at_least = rw ends costs.looks_at_least;
     };
     refuses = tt;
-    memory = costs.memory;
+    keeps_memory = costs.keeps_memory;
     stores = stores_pieces next.machine;
   }

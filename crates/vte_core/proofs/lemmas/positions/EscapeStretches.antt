@@ -13,16 +13,16 @@ takes-escape : {V B : Type 0} {step : V → Event → V} {value : V} {limit : Op
     → IsAtPlace limit parser place → IsPlaceOfState limit Escape parser place
     → TakesBytes step value value limit place (b ∷ []) parser
 takes-escape {place = AtEscape} begun is_escape is_at by = takes_bytes-escape is_escape begun by AtEscape is_at refl
-takes-escape begun is_escape is_at by = absurd by
+takes-escape in_state is_escape is_at by = absurd by
 
 -- After ESC, another ESC changes nothing.
 pub advances-again : {outside V B : Type 0} {call : ChunkCall V} {value : V} {i b : ℕ} {parser : Machine B}
     → parser.state ≡ Escape → i < length call.bytes → b ≡ slice_index call.bytes i → MayGoOn call value → b ≡ 0x1b
     → Advances outside call value value i (i + 1) parser parser
-advances-again {call} {value} {b} {parser} begun within byte_is may_go_on same =
-    advances-given (rw begun tt) (advances-byte within byte_is may_go_on
-    (λ place is_at between. takes-escape begun same is_at (is_at-in begun is_at))
-    (settled-same_state begun tt))
+advances-again {call} {value} {b} {parser} in_state before_end byte_is may_go_on same =
+    advances-given (rw in_state tt) (advances-byte before_end byte_is may_go_on
+    (λ place is_at settled. takes-escape in_state same is_at (is_at-in in_state is_at))
+    (settled-same_state in_state tt))
 
 -- After ESC, DEL and 80..FF are dropped.
 pub takes_bytes-dropped : {V B : Type 0} {step : V → Event → V} {value : V} {limit : Option ℕ} {b : ℕ}
@@ -31,11 +31,11 @@ pub takes_bytes-dropped : {V B : Type 0} {step : V → Event → V} {value : V} 
     → ends_sequence (class_of b) ≡ false → is_plain_control (class_of b) ≡ false
     → (place : Place) → IsAtPlace limit parser place → IsSettledPlace place
     → TakesBytes step value value limit place (b ∷ []) parser
-takes_bytes-dropped {limit} {b} {parser} begun head final ordinary control =
+takes_bytes-dropped {limit} {b} {parser} in_state head final ordinary control =
     let dropped = other_is_dropped (class_of b) head final ordinary control in
-    takes_bytes-in begun ordinary
+    takes_bytes-in in_state ordinary
     (takes-at_escape parser
-    (λ holds. takes-byte refl (is_at-by begun holds) (byte-dropped refl refl dropped)))
+    (λ holds. takes-byte refl (is_at-by in_state holds) (byte-dropped refl refl dropped)))
 
 -- After ESC, `[` begins a control sequence.
 pub advances-bracket : {outside V B : Type 0} {call : ChunkCall V} {value : V} {i b : ℕ} {parser next : Machine B}
@@ -43,8 +43,8 @@ pub advances-bracket : {outside V B : Type 0} {call : ChunkCall V} {value : V} {
     → next.state ≡ ControlSequence Entry → (HoldsIntermediates parser.collected [] → HoldsHead next.collected Entry [])
     → Advances outside call value value i (i + 1) parser next
 unfolding class_of sequence_kind
-advances-bracket {call} {parser} begun within byte_is may_go_on bracket state holds =
-    advances-given tt (advances-in begun within byte_is may_go_on (rw bracket refl)
+advances-bracket {call} {parser} in_state before_end byte_is may_go_on bracket state holds =
+    advances-given tt (advances-in in_state before_end byte_is may_go_on (rw bracket refl)
     (takes-at_escape parser
     (λ before. takes-byte {reported = []} {next = InControlSequence []} refl (is_at-by state (holds before))
     (rw bracket (escape-key _ refl refl refl)))) (settled-same_state state tt))

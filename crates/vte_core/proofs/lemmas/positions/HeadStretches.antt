@@ -2,10 +2,10 @@
 -- says which, without the performer, which learns of a head only at its end. So both shapes, a control sequence's and
 -- a device control string's, share it (`advances-head`, `advances-past_head`).
 use Rattle.vte_core.specs.declared.head.HeadEnd.{HeadEnd}
-use Rattle.vte_core.specs.private.ParserFields.{ReadsHeadUpTo}
+use Rattle.vte_core.specs.private.HeldHead.{ReadsHeadUpTo}
 use Rattle.vte_core.specs.private.Progress.{MayRead}
 use Rattle.vte_core.specs.private.ToRun.{IsOutsideRunsInState}
-use Rattle.vte_core.proofs.Common.{Advances, append-nil, append_assoc, AreInClass, arith, ChunkCall, class_of, Collected, ControlSequence, CountsNumbers, DeviceControl, drop, drop-drop, drop_more, ends_sequence, Entry, Event, false, false≢true, HasReadHead, HeadProgress, InControlSequence, InDeviceControl, is_final, is_head_byte, is_parameter_byte, IsAtPlace, IsAtPosition, IsPlaceOfState, IsSettled, IsSettledPlace, Leads, length, List, Machine, MatchOption, MayGoOn, None, Option, Parameters, Place, progress_after, ProgressAt, ReadsHead, refl, rules, SameIntermediates, slice_index, Some, State, subst, suc, sym, take, take-add, TakesByte, TakesBytes, true, zero, ℕ, [], ◌++◌, ◌+◌, ◌-◌, ◌<◌, ◌∷◌, ◌≡◌, ◌≤◌, ◌⊎◌}
+use Rattle.vte_core.proofs.Common.{Advances, append-nil, append_assoc, AreInClass, arith, ChunkCall, class_of, CollectedHead, ControlSequence, CountsNumbers, DeviceControl, drop, drop_more, ends_sequence, Entry, Event, false, false≢true, HasReadHead, HeadProgress, InControlSequence, InDeviceControl, is_final, is_head_byte, is_parameter_byte, IsAtPlace, IsAtPosition, IsPlaceOfState, IsSettled, IsSettledPlace, Leads, length, List, Machine, MatchOption, MayGoOn, None, Option, Parameters, Place, progress_after, ProgressAt, ReadsHead, refl, rules, SameIntermediates, slice_index, Some, State, subst, suc, sym, take, TakesByte, TakesBytes, true, zero, ℕ, [], ◌++◌, ◌+◌, ◌-◌, ◌<◌, ◌∷◌, ◌≡◌, ◌≤◌, ◌⊎◌}
 use Rattle.vte_core.proofs.lemmas.bytes.Classes.{AreInClass-append, final_ends_nothing, head_ends_nothing, parameter_is_head}
 use Rattle.vte_core.proofs.lemmas.positions.SettledStates.{settled-same_state}
 use Rattle.vte_core.proofs.lemmas.positions.Progress.{progress-byte, progress-settled}
@@ -15,41 +15,35 @@ use Rattle.vte_core.proofs.lemmas.fields.Heads.{holds-parameter}
 use Rattle.vte_core.proofs.lemmas.fields.PlaceOfState.{is_at-in, IsReachable}
 use Rattle.vte_core.proofs.lemmas.places.PlaceLeads.{control-head, device-head}
 use Rattle.vte_core.proofs.lemmas.positions.AddedEvents.{adds-same, recorded-at, reported-at}
-use Rattle.vte_core.proofs.lemmas.bytes.Each.{one_byte}
+use Rattle.vte_core.proofs.lemmas.bytes.Each.{one_byte, slice-then}
 use Rattle.vte_core.proofs.lemmas.places.BytesInStream.{bytes_lead-byte, no_escape}
 
 -- ---- `ReadsHead` of no bytes, of two stretches, of a byte
 
-slice-then : (bytes : List ℕ) (i j k : ℕ) → i ≤ j → j ≤ k
-    → take (k - i) (drop i bytes) ≡ take (j - i) (drop i bytes) ++ take (k - j) (drop j bytes)
-slice-then bytes i j k low high =
-    let whole : k - i ≡ (j - i) + (k - j) = omega (arith, low, high) in
-    let here : i + (j - i) ≡ j = omega (arith, low) in
-    rw (whole, take-add (j - i) (k - j) (drop i bytes), drop-drop (j - i) i bytes, here) refl
-
-pub reads_head-nothing : {bytes : List ℕ} {i : ℕ} {progress : HeadProgress} {held : Collected} → i ≤ length bytes
+pub reads_head-nothing : {bytes : List ℕ} {i : ℕ} {progress : HeadProgress} {held : CollectedHead} → i ≤ length bytes
     → ReadsHead bytes i i progress progress held held
 reads_head-nothing {bytes} {i} {progress} {held} within = search (rules, arith)
 
-pub reads_head-then : {bytes : List ℕ} {i j k : ℕ} {reached progress next : HeadProgress} {old mid new : Collected}
+pub reads_head-then : {bytes : List ℕ} {i j k : ℕ} {reached progress next : HeadProgress} {old mid new : CollectedHead}
     → ReadsHead bytes i j reached progress old mid → ReadsHead bytes j k progress next mid new
     → ReadsHead bytes i k reached next old new
 reads_head-then {bytes} {i} {j} {k} reads rest =
-    let whole = slice-then bytes i j k reads.low rest.low in
+    let whole = slice-then bytes i j k reads.in_order rest.in_order in
     record {
-      low = omega (arith, reads.low, rest.low);
-      high = rest.high;
+      in_order = omega (arith, reads.in_order, rest.in_order);
+      within = rest.within;
       head_bytes = rw whole (AreInClass-append is_head_byte _ _ reads.head_bytes rest.head_bytes);
       leads =
           λ head has_read. rw (whole, ← append_assoc head (take (j - i) (drop i bytes)) (take (k - j) (drop j bytes)))
           (rest.leads _ (reads.leads head has_read));
     }
 
-pub reads_head-byte : {bytes : List ℕ} {i b : ℕ} {progress next : HeadProgress} {old new : Collected} → i < length bytes
+pub reads_head-byte : {bytes : List ℕ} {i b : ℕ} {progress next : HeadProgress} {old new : CollectedHead}
+    → i < length bytes
     → b ≡ slice_index bytes i → is_head_byte (class_of b) ≡ true
     → ((head : List ℕ) → HasReadHead old progress head → HasReadHead new next (head ++ b ∷ []))
     → ReadsHead bytes i (i + 1) progress next old new
-reads_head-byte {bytes} {i} {b} within byte_is is_head leads = search (rules, arith, one_byte)
+reads_head-byte {bytes} {i} {b} before_end byte_is is_head leads = search (rules, arith, one_byte)
 
 -- If no byte follows, the case for `None` holds.
 pub match-none : {A : Type 0} (B : ℕ → Type 0) (next : Option ℕ) → ((b : ℕ) → next ≡ Some b → ⊥) → MatchOption next A B
@@ -71,15 +65,15 @@ progress_after-may : (reached : HeadProgress) (from to : ℕ) → (reached ≡ E
 progress_after-may reached from to may = search (rules, arith)
 
 -- A head is read further by a digit or a separator.
-pub reads_head-parameter : {bytes : List ℕ} {from i b : ℕ} {reached : HeadProgress} {first old new : Collected}
+pub reads_head-parameter : {bytes : List ℕ} {from i b : ℕ} {reached : HeadProgress} {first old new : CollectedHead}
     → (reached ≡ Entry) ⊎ (reached ≡ Parameters)
     → i < length bytes → b ≡ slice_index bytes i → is_parameter_byte (class_of b) ≡ true → SameIntermediates old new
     → ((text : List ℕ) → CountsNumbers old text → CountsNumbers new (text ++ b ∷ []))
     → ReadsHead bytes from i reached (progress_after reached from i) first old
     → ReadsHead bytes from (i + 1) reached (progress_after reached from (i + 1)) first new
-reads_head-parameter {from} {i} {b} {reached} {old} {new} may within byte_is is_parameter keeps counts before =
-    rw (progress_after-more reached from (i + 1) (omega (arith, before.low)))
-    (reads_head-then before (reads_head-byte within byte_is (parameter_is_head (class_of b) is_parameter)
+reads_head-parameter {from} {i} {b} {reached} {old} {new} may before_end byte_is is_parameter keeps counts before =
+    rw (progress_after-more reached from (i + 1) (omega (arith, before.in_order)))
+    (reads_head-then before (reads_head-byte before_end byte_is (parameter_is_head (class_of b) is_parameter)
     (λ head has_read.
     holds-parameter head b (progress_after-may reached from i may) has_read is_parameter keeps counts)))
 
@@ -100,7 +94,7 @@ abbrev in_head : Shape → List ℕ → Place
 in_head ControlHead head = InControlSequence head
 in_head DeviceHead head = InDeviceControl head
 
-record InHeadAt (shape : Shape) (held : Collected) (progress : HeadProgress) (place : Place) : Type 0 where
+record InHeadAt (shape : Shape) (held : CollectedHead) (progress : HeadProgress) (place : Place) : Type 0 where
   head : List ℕ
   same : place ≡ in_head shape head
   is_at : HasReadHead held progress head
@@ -173,14 +167,15 @@ module _ {V : Type 0} {call : ChunkCall V} where
       let at_head = head-place shape call.limit reached parser position.place (is_at-in in_state position.is_at) in
       let here : ProgressAt call old value stream i (in_head shape at_head.head) =
       subst (ProgressAt call old value stream i) at_head.same position.progress in
-      let end : i + (j - i) ≡ j = omega (arith, reads.low) in
+      let end : i + (j - i) ≡ j = omega (arith, reads.in_order) in
       let run : List ℕ = take (j - i) (drop i call.bytes) in
       record {
         place = in_head shape (at_head.head ++ run);
         is_at = head-is_at shape progress (at_head.head ++ run) state (reads.leads at_head.head at_head.is_at);
         settled = λ _. head-settled_place shape (at_head.head ++ run);
         progress = rw end at
-            (progress-head shape (j - i) at_head.head (omega (arith, reads.high, end)) reads.head_bytes may_go_on here);
+            (progress-head shape (j - i) at_head.head (omega (arith, reads.within, end)) reads.head_bytes may_go_on
+            here);
       }
 
 module _ {V : Type 0} {call : ChunkCall V} where
@@ -190,7 +185,7 @@ module _ {V : Type 0} {call : ChunkCall V} where
       → ReadsHead call.bytes i j reached progress parser.collected next.collected → MayGoOn call value
       → next.state ≡ state_of shape progress → Advances outside call value value i j parser next
   advances-head {progress} {next} shape in_state reads may_go_on state = record {
-    goes_on = λ old stream position. is_at-head shape in_state reads may_go_on state position;
+    is_at_position = λ old stream position. is_at-head shape in_state reads may_go_on state position;
     settled = λ _. settled-same_state state (head-settled shape progress);
     outside_runs = λ _ old stream position.
         adds-same (reported-at
@@ -201,7 +196,7 @@ module _ {V : Type 0} {call : ChunkCall V} where
   -- A call reads a part of a head and the byte after it, if the caller says what that byte does.
   pub advances-past_head : {outside B : Type 0} {old new : V} {i j b : ℕ} {reached progress : HeadProgress}
       {parser next : Machine B}
-      {held : Collected} (shape : Shape) → parser.state ≡ state_of shape reached
+      {held : CollectedHead} (shape : Shape) → parser.state ≡ state_of shape reached
       → ReadsHead call.bytes i j reached progress parser.collected held
       → (j < length call.bytes) × (b ≡ slice_index call.bytes j) → MayGoOn call old
       → ((place : Place) → IsAtPlace {B = B} call.limit
@@ -230,7 +225,7 @@ takes_bytes-head {step} {old} {new} {limit} {b} {parser}
 
 -- A call reads the rest of a head and the final byte of a control sequence.
 pub advances-control_sequence : {V B outside : Type 0} {call : ChunkCall V} {old new : V} {i j k b : ℕ}
-    {reached progress : HeadProgress} {parser next : Machine B} {held : Collected}
+    {reached progress : HeadProgress} {parser next : Machine B} {held : CollectedHead}
     → parser.state ≡ ControlSequence reached
     → ReadsHead call.bytes i j reached progress parser.collected held
     → (j < length call.bytes) × (b ≡ slice_index call.bytes j) → MayGoOn call old → is_final (class_of b) ≡ true
@@ -244,7 +239,7 @@ advances-control_sequence {progress} in_state reads next_byte may_go_on final ta
 
 -- The same holds if the head is read up to its end (`ReadsHeadUpTo`), and the final byte is there.
 pub advances-final_byte : {V B outside : Type 0} {call : ChunkCall V} {old new : V} {i k b : ℕ}
-    {reached : HeadProgress} {end : HeadEnd} {parser next : Machine B} {held : Collected}
+    {reached : HeadProgress} {end : HeadEnd} {parser next : Machine B} {held : CollectedHead}
     → MayRead call old (ControlSequence reached) parser i
     → ReadsHeadUpTo call.bytes i reached end parser.collected held → end.next_byte ≡ Some b
     → is_final (class_of b) ≡ true

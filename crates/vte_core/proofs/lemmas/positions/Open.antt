@@ -1,11 +1,11 @@
 -- What is open where a parser is, and what is stored of it where memory may be refused: both are said of the place,
 -- so they hold of every parser that is at one.
-use Rattle.vte_core.proofs.Common.{added, ap, arith, AtEscape, Bool, ChunkCall, class_of, CommandToClose, concat, Digit, eqb, escape, EscapeSequence, Event, events_from, false, HasReadWithLimit, InControlSequence, InDeviceControl, InDeviceData, InEscape, InIgnoredString, InSystemCommand, InText, is_truncated, IsAfter, IsAtPlace, IsDataOfOpenCommand, IsInsidePosition, IsPlaceOfState, IsRefusedInCommand, Leads, left_at, length, length-take, List, loses_data, Machine, None, open_command_size, open_data_count, Option, outcome, Place, Print, ProgressAt, ReadsUntilRefused, refl, replacement, rules, sequence_kind, slice_index, State, subst, sym, SystemCommand, take, Text, ToClose, true, ℕ, [], ◌++◌, ◌+◌, ◌<◌, ◌∙◌, ◌∷◌, ◌≡◌, ◌≢◌, ◌≤◌}
+use Rattle.vte_core.proofs.Common.{added, ap, arith, AtEscape, Bool, ChunkCall, class_of, CommandToClose, concat, Digit, eqb, escape, EscapeSequence, Event, events_from, false, HasReadWithLimit, InControlSequence, InDeviceControl, InDeviceData, InEscape, InIgnoredString, InSystemCommand, InText, is_truncated, IsAfter, IsAtPlace, IsDataOfOpenCommand, IsInsidePosition, IsPlaceOfState, IsRefusedInCommand, Leads, length, length-take, List, loses_data, Machine, None, open_command_size, open_data_count, Option, outcome, Place, Print, ProgressAt, ReadsUntilRefused, refl, replacement, rules, sequence_kind, slice_index, State, subst, sym, SystemCommand, take, Text, to_close_at, ToClose, true, ℕ, [], ◌++◌, ◌+◌, ◌<◌, ◌∙◌, ◌∷◌, ◌≡◌, ◌≢◌, ◌≤◌}
 use Rattle.vte_core.proofs.lemmas.bytes.Utf8.{ascii-breaks}
 use Rattle.vte_core.proofs.lemmas.fields.PlaceOfState.{in_command, is_at-by, is_at-place, IsReachable}
 use Rattle.vte_core.proofs.lemmas.places.PlaceLeads.{command-item, control-head, data-put, device-head, escape-end, ignored-more, intermediate-end}
 use Rattle.vte_core.proofs.lemmas.shapes.FirstSegment.{text_outcome-broken}
-use Rattle.vte_core.proofs.lemmas.streams.After.{added-after, added-reads, after-events, after-left, after-nothing, after-reads, events-empty, open_at_end-any}
+use Rattle.vte_core.proofs.lemmas.streams.After.{added-after, added-leads, after-events, after-leads, after-nothing, after-to_close, events-empty, open_at_end-any}
 use Rattle.vte_core.proofs.lemmas.places.BytesInStream.{bytes_lead-byte, bytes_lead-item, waits-byte}
 use Rattle.vte_core.proofs.lemmas.positions.SettledStates.{place-settled_text}
 use Rattle.vte_core.proofs.lemmas.positions.Progress.{progress-command}
@@ -14,7 +14,7 @@ use Rattle.vte_core.specs.Open.{kind_to_close, open_at_end}
 use Rattle.vte_core.specs.Stream.{IsFinished, IsUnfinished}
 use Rattle.vte_core.specs.declared.parser.open.Open.TheVariants as kind
 use Rattle.vte_core.specs.declared.utf8.Unfinished.TheVariants.{Empty}
-use Rattle.vte_core.specs.private.ParserFields.{open_in}
+use Rattle.vte_core.specs.private.AtPlace.{open_in}
 use Rattle.vte_core.proofs.lemmas.fields.Stores.{open_for, pieces_stored}
 use Rattle.vte_core.proofs.lemmas.streams.StreamSteps.{counts_data}
 
@@ -40,7 +40,7 @@ probe-gives : {limit : Option ℕ} {stream : List ℕ} {place next : Place} {b :
     → IsProbe b → IsAfter limit stream place → Leads limit place b reported next → IsReachable next
     → added limit stream (b ∷ []) ≡ reported
 probe-gives {limit} {stream} {place} {next} {b} {reported} probe is_after leads =
-    added-reads is_after (bytes_lead-byte probe.other leads)
+    added-leads is_after (bytes_lead-byte probe.other leads)
 
 -- A digit breaks an open character.
 probe-in_character : {limit : Option ℕ} {stream opened : List ℕ} {b : ℕ}
@@ -78,13 +78,13 @@ probe-not_alone {place = InIgnoredString} probe is_reachable is_after other = λ
 -- ---- what is open in the state is open at the place, and at the end of the stream
 
 open_in-place : {B : Type 0} (limit : Option ℕ) (state : State) (parser : Machine B) (place : Place)
-    → IsPlaceOfState limit state parser place → open_in state ≡ kind_to_close (left_at limit place)
+    → IsPlaceOfState limit state parser place → open_in state ≡ kind_to_close (to_close_at limit place)
 open_in-place limit state parser place fields = search (rules, arith)
 
 pub which_is_open : {B : Type 0} {limit : Option ℕ} {stream : List ℕ} {parser : Machine B}
     → HasReadWithLimit limit parser stream → open_in parser.state ≡ open_at_end stream
 which_is_open {limit} {stream} {parser} has_read =
-    search (rules, arith, open_in-place, after-left, is_at-place, open_at_end-any)
+    search (rules, arith, open_in-place, after-to_close, is_at-place, open_at_end-any)
 
 -- Nothing is open only between characters.
 
@@ -121,9 +121,9 @@ pub inside-reads : {V B : Type 0} {call : ChunkCall V} {old value : V} {stream :
 inside-reads inside = search (rules, arith)
 
 -- What a stream leaves open is what its place leaves open.
-left-at_place : {B : Type 0} (parser : Machine B) (stream : List ℕ) (has_read : HasReadWithLimit None parser stream)
-    → (outcome None stream).left ≡ left_at None has_read.place
-left-at_place parser stream has_read = after-left has_read.is_after (is_at-place has_read.is_at)
+to_close-at_place : {B : Type 0} (parser : Machine B) (stream : List ℕ) (has_read : HasReadWithLimit None parser stream)
+    → (outcome None stream).to_close ≡ to_close_at None has_read.place
+to_close-at_place parser stream has_read = after-to_close has_read.is_after (is_at-place has_read.is_at)
 
 -- A byte that is refused is a data byte of an open command.
 pub meets_data : {B : Type 0} {parser : Machine B} {stream bytes : List ℕ} {from : ℕ}
@@ -135,7 +135,7 @@ meets_data {parser} {stream} {bytes} {from} refused has_read =
     let is_open = open_for at_command.keeps refused.at_most refused.is_data.1 in
     let last : Place = InSystemCommand (at_command.items ++ byte ∷ []) in
     let joined : IsAfter None (stream ++ byte ∷ []) last =
-    after-reads
+    after-leads
     (subst (IsAfter None stream) at_command.same has_read.is_after) (bytes_lead-item refused.is_data.0) tt in
     record {
       pieces = is_open.pieces;
@@ -143,10 +143,10 @@ meets_data {parser} {stream} {bytes} {from} refused has_read =
       lost = loses_data None at_command.items;
       at_most = is_open.at_most;
       is_open =
-          left-at_place parser stream has_read ∙ ap (left_at None) at_command.same
+          to_close-at_place parser stream has_read ∙ ap (to_close_at None) at_command.same
           ∙ ap (λ those. CommandToClose those (loses_data None at_command.items)) is_open.before;
       is_data = refused.is_data;
-      joins = after-left joined tt
+      joins = after-to_close joined tt
           ∙ ap (λ those. CommandToClose those (loses_data None (at_command.items ++ byte ∷ []))) is_open.later
           ∙ ap (λ d. CommandToClose (is_open.pieces ++ (is_open.last ++ byte ∷ []) ∷ []) d) is_open.lost;
     }
@@ -175,38 +175,39 @@ pub stored_is_open : {B : Type 0} {parser : Machine B} {stream : List ℕ} → p
 stored_is_open {parser} {stream} in_state has_read =
     let at_command = in_command in_state has_read.is_at in
     pieces_stored at_command.keeps
-    ∙ sym (ap open_data_count (left-at_place parser stream has_read ∙ ap (left_at None) at_command.same))
+    ∙ sym (ap open_data_count (to_close-at_place parser stream has_read ∙ ap (to_close_at None) at_command.same))
 
 state-by_command : {B : Type 0} {parser : Machine B} {place : Place} {pieces : List (List ℕ)} {lost : Bool}
-    → IsAtPlace None parser place → left_at None place ≡ CommandToClose pieces lost
+    → IsAtPlace None parser place → to_close_at None place ≡ CommandToClose pieces lost
     → parser.state ≡ SystemCommand
 state-by_command is_at is_open = search (rules, arith)
 
 -- A command is open in the state `SystemCommand` alone.
 state-in_command : {B : Type 0} (parser : Machine B) (stream : List ℕ) → HasReadWithLimit None parser stream
-    → (pieces : List (List ℕ)) (lost : Bool) → (outcome None stream).left ≡ CommandToClose pieces lost
+    → (pieces : List (List ℕ)) (lost : Bool) → (outcome None stream).to_close ≡ CommandToClose pieces lost
     → parser.state ≡ SystemCommand
 state-in_command parser stream has_read pieces lost open_command =
-    state-by_command has_read.is_at (sym (left-at_place parser stream has_read) ∙ open_command)
+    state-by_command has_read.is_at (sym (to_close-at_place parser stream has_read) ∙ open_command)
 
 -- Of an open command, the parser stores the bytes of the pieces.
 pub stores_pieces : {B : Type 0} (parser : Machine B) (stream : List ℕ) → HasReadWithLimit None parser stream
     → (pieces : List (List ℕ)) (lost : Bool)
-    → (outcome None stream).left ≡ CommandToClose pieces lost → length parser.command.bytes ≡ length (concat pieces)
+    → (outcome None stream).to_close ≡ CommandToClose pieces lost → length parser.command.bytes ≡ length (concat pieces)
 stores_pieces parser stream has_read pieces lost open_command =
     stored_is_open (state-in_command parser stream has_read pieces lost open_command) has_read
     ∙ ap open_data_count open_command
 
-open_data-by_left : (left : ToClose) (n : ℕ)
-    → ((pieces : List (List ℕ)) (lost : Bool) → left ≡ CommandToClose pieces lost → n ≡ length (concat pieces))
-    → open_data_count left ≤ n
-open_data-by_left left n stored = search (rules, arith)
+open_data-by_to_close : (to_close : ToClose) (n : ℕ)
+    → ((pieces : List (List ℕ)) (lost : Bool) → to_close ≡ CommandToClose pieces lost → n ≡ length (concat pieces))
+    → open_data_count to_close ≤ n
+open_data-by_to_close to_close n stored = search (rules, arith)
 
 -- No more bytes are open than are stored.
 pub open_is_stored : {B : Type 0} (parser : Machine B) (stream : List ℕ) → HasReadWithLimit None parser stream
     → open_command_size stream ≤ length parser.command.bytes
 open_is_stored parser stream has_read =
-    open_data-by_left (outcome None stream).left (length parser.command.bytes) (stores_pieces parser stream has_read)
+    open_data-by_to_close (outcome None stream).to_close (length parser.command.bytes)
+    (stores_pieces parser stream has_read)
 
 -- Outside a command no data bytes are open.
 pub none_is_open : {B : Type 0} (parser : Machine B) (stream : List ℕ) → (parser.state ≡ SystemCommand → ⊥)
@@ -214,7 +215,7 @@ pub none_is_open : {B : Type 0} (parser : Machine B) (stream : List ℕ) → (pa
 none_is_open parser stream other has_read =
     omega (
       arith,
-      open_data-by_left (outcome None stream).left 0
+      open_data-by_to_close (outcome None stream).to_close 0
           (λ pieces lost is_open. absurd (other (state-in_command parser stream has_read pieces lost is_open))),
     )
 
@@ -235,7 +236,7 @@ lacks_all {call} {n} {parser} refuses stream has_read kept =
       (counts_data stream read).left,
       refuses.refused.lacks_memory.lacks_memory,
       refuses.refused.lacks_memory.within,
-      refuses.within,
+      refuses.before_end,
       length-take n call.bytes,
       kept,
     )

@@ -11,7 +11,7 @@ text-by_fields limit parser place fields = search (rules, arith)
 -- Between characters of a text there is only one place.
 pub place-settled_text : {B : Type 0} {limit : Option ℕ} {parser : Machine B} {place : Place}
     → parser.state ≡ Text Empty → IsAtPlace limit parser place → place ≡ InText []
-place-settled_text {limit} {parser} {place} begun is_at = text-by_fields limit parser place (is_at-in begun is_at)
+place-settled_text {limit} {parser} {place} in_state is_at = text-by_fields limit parser place (is_at-in in_state is_at)
 
 -- In a settled state, no character is open at the place.
 settled-by_place : {B : Type 0} (limit : Option ℕ) (state : State) (parser : Machine B) (place : Place)

@@ -10,12 +10,12 @@
 --
 -- Other files have an `advances-X` for each X that a function reads, such as `advances-text` and `advances-head`.
 use Rattle.vte_core.specs.private.Prelude.{IsOutsideRunsInState}
-use Rattle.vte_core.proofs.Common.{AddsOutsideRuns, Advances, after, All-nil, arith, ChunkCall, Empty, escape, IsAfter, IsAtPlace, IsAtPosition, IsInsidePosition, IsOutsideRuns, IsSettled, IsSettledPlace, length, List, Machine, MayGoOn, Place, refl, resumed_stream, rules, slice_index, subst, sym, TakesBytes, Text, ℕ, [], ◌+◌, ◌-◌, ◌<◌, ◌∷◌, ◌≡◌}
+use Rattle.vte_core.proofs.Common.{AddsOutsideRuns, Advances, after, All-nil, any_events, arith, ChunkCall, Empty, escape, IsAfter, IsAtPlace, IsAtPosition, IsInsidePosition, IsOutsideRuns, IsSettled, IsSettledPlace, length, List, Machine, MayGoOn, Place, refl, resumed_stream, rules, slice_index, subst, sym, TakesBytes, Text, ℕ, [], ◌+◌, ◌-◌, ◌<◌, ◌∷◌, ◌≡◌}
 use Rattle.vte_core.proofs.lemmas.positions.SettledStates.{place-settled_text}
 use Rattle.vte_core.proofs.lemmas.positions.Progress.{progress-byte}
 use Rattle.vte_core.proofs.lemmas.positions.CallEnds.{settles}
 use Rattle.vte_core.proofs.lemmas.places.BytesInStream.{bytes_lead-escape}
-use Rattle.vte_core.proofs.lemmas.positions.AddedEvents.{adds-outside_runs, adds-reads, adds-then, outside_runs-place}
+use Rattle.vte_core.proofs.lemmas.positions.AddedEvents.{adds-leads, adds-outside_runs, adds-then, outside_runs-place}
 use Rattle.vte_core.proofs.lemmas.fields.PlaceOfState.{is_at-place}
 
 module _ {V B : Type 0} {call : ChunkCall V} where
@@ -28,12 +28,14 @@ module _ {V B : Type 0} {call : ChunkCall V} where
       → Advances outside call old new i k parser last
   advances-then advances rest =
       record {
-        goes_on = λ value stream position. rest.goes_on value stream (advances.goes_on value stream position);
+        is_at_position =
+            λ value stream position.
+            rest.is_at_position value stream (advances.is_at_position value stream position);
         settled = rest.settled;
         outside_runs =
             λ outside value stream position.
             adds-then (advances.outside_runs outside value stream position)
-            (rest.outside_runs outside value stream (advances.goes_on value stream position));
+            (rest.outside_runs outside value stream (advances.is_at_position value stream position));
       }
 
   -- `Advances` may promise less.
@@ -41,7 +43,7 @@ module _ {V B : Type 0} {call : ChunkCall V} where
       → Advances known call old new i j parser next → Advances outside call old new i j parser next
   advances-weaker knows advances =
       record {
-        goes_on = advances.goes_on;
+        is_at_position = advances.is_at_position;
         settled = advances.settled;
         outside_runs = λ outside. advances.outside_runs (knows outside);
       }
@@ -61,7 +63,7 @@ module _ {V B : Type 0} {call : ChunkCall V} where
 
   -- A function that may report a run can use `Advances` without its promise.
   pub advances-without_promise : {known : Type 0} {old new : V} {i j : ℕ} {parser next : Machine B}
-      → Advances known call old new i j parser next → Advances ⊥ call old new i j parser next
+      → Advances known call old new i j parser next → Advances any_events call old new i j parser next
   advances-without_promise advances = advances-weaker (λ never. absurd never) advances
 
   pub advances-to_same : {outside : Type 0} {old new : V} {i j k : ℕ} {parser next : Machine B} → j ≡ k
@@ -74,13 +76,13 @@ module _ {V B : Type 0} {call : ChunkCall V} where
       → ((place : Place) → IsAtPlace call.limit parser place → IsSettledPlace place
       → TakesBytes call.step mid new call.limit place (b ∷ []) next) → IsAtPosition call old mid stream i parser
       → IsInsidePosition call old new stream (i + 1) next
-  reads-byte_at {next} within byte_is may_go_on reads position =
-      let taken = reads position.place position.is_at (position.settled within) in
+  reads-byte_at {next} before_end byte_is may_go_on reads position =
+      let taken = reads position.place position.is_at (position.settled before_end) in
       record {
         place = taken.next;
         is_at = taken.is_at;
         progress =
-            progress-byte within byte_is may_go_on taken.leads taken.performed (is_at-place taken.is_at)
+            progress-byte before_end byte_is may_go_on taken.leads taken.performed (is_at-place taken.is_at)
             position.progress;
       }
 
@@ -90,11 +92,12 @@ module _ {V B : Type 0} {call : ChunkCall V} where
       → ((place : Place) → IsAtPlace call.limit parser place → IsSettledPlace place
       → TakesBytes call.step old new call.limit place (b ∷ []) next) → IsSettled next.state
       → Advances (IsOutsideRunsInState parser.state b) call old new i (i + 1) parser next
-  advances-byte {b} {parser} within byte_is may_go_on reads settled = record {
-    goes_on = λ value stream position. settles settled (reads-byte_at within byte_is may_go_on reads position);
+  advances-byte {b} {parser} before_end byte_is may_go_on reads settled = record {
+    is_at_position =
+        λ value stream position. settles settled (reads-byte_at before_end byte_is may_go_on reads position);
     settled = λ _. settled;
     outside_runs = λ outside value stream position.
-        adds-outside_runs within byte_is position.progress.is_after (is_at-place position.is_at)
+        adds-outside_runs before_end byte_is position.progress.is_after (is_at-place position.is_at)
         (outside_runs-place call.limit parser.state parser position.place b outside position.is_at.fields);
   }
 
@@ -102,7 +105,7 @@ module _ {V B : Type 0} {call : ChunkCall V} where
   pub advances-escape : {outside known : Type 0} {old new : V} {i : ℕ} {parser next : Machine B}
       → parser.state ≡ Text Empty → i < length call.bytes → slice_index call.bytes i ≡ escape
       → Advances known call old new i (i + 1) parser next → Advances outside call old new i (i + 1) parser next
-  advances-escape {i} {parser} begun within is_escape advances =
-      advances-reporting advances (λ stream place is_at after. adds-reads within (sym is_escape)
-      (subst (IsAfter call.limit (resumed_stream stream call.bytes i)) (place-settled_text begun is_at) after)
+  advances-escape {i} {parser} in_state before_end is_escape advances =
+      advances-reporting advances (λ stream place is_at after. adds-leads before_end (sym is_escape)
+      (subst (IsAfter call.limit (resumed_stream stream call.bytes i)) (place-settled_text in_state is_at) after)
       (bytes_lead-escape refl) tt (All-nil IsOutsideRuns))

@@ -19,7 +19,7 @@ pub takes_bytes-begun : {V B : Type 0} {step : V → Event → V} {old new : V} 
     → (IsAtPlace limit parser (InText []) → TakesByte step old new limit (InText []) b next) → (place : Place)
     → IsAtPlace limit parser place → IsSettledPlace place
     → TakesBytes step old new limit place (b ∷ []) next
-takes_bytes-begun {step} {old} {new} {limit} {b} {parser} {next} begun is_no_escape takes place is_at settled =
+takes_bytes-begun {step} {old} {new} {limit} {b} {parser} {next} in_state is_no_escape takes place is_at settled =
     search (rules, arith, place-settled_text, takes_bytes-one, not_escape)
 
 -- ---- a byte in any state
@@ -36,15 +36,15 @@ module _ {V B : Type 0} {step : V → Event → V} {old new : V} {limit : Option
       → ((place : Place) → IsPlaceOfState limit state parser place → TakesByte step old new limit place b next)
       → (place : Place) → IsAtPlace limit parser place → IsSettledPlace place
       → TakesBytes step old new limit place (b ∷ []) next
-  takes_bytes-in {b} {next} begun ordinary takes place is_at settled =
-      takes_bytes-one (no_escape b ordinary) (takes place (is_at-in begun is_at))
+  takes_bytes-in {b} {next} in_state ordinary takes place is_at settled =
+      takes_bytes-one (no_escape b ordinary) (takes place (is_at-in in_state is_at))
 
   -- ESC closes what is open at a place.
   pub takes_bytes-escape : {b : ℕ} {parser next : Machine B} → b ≡ escape
       → next.state ≡ Escape → HoldsIntermediates next.collected [] → (place : Place) → IsAtPlace limit parser place
       → new ≡ after step old (closing_events_at limit place)
       → TakesBytes step old new limit place (b ∷ []) next
-  takes_bytes-escape {parser} {next} is_escape begun holds place is_at closed =
+  takes_bytes-escape {parser} {next} is_escape in_state holds place is_at closed =
       let leads : BytesLead limit place (escape ∷ []) (closing_events_at limit place) AtEscape =
       bytes_lead-escape (is_at-place is_at) in
       subst (λ c. TakesBytes step old new limit place (c ∷ []) next) (sym is_escape)
@@ -52,7 +52,7 @@ module _ {V B : Type 0} {step : V → Event → V} {old new : V} {limit : Option
         reported = closing_events_at limit place;
         next = AtEscape;
         performed = closed;
-        is_at = is_at-by begun holds;
+        is_at = is_at-by in_state holds;
         leads = leads;
       })
 
@@ -62,9 +62,9 @@ pub advances-in : {V B : Type 0} {call : ChunkCall V} {old new : V} {i b : ℕ} 
     → ((place : Place) → IsPlaceOfState call.limit state parser place
     → TakesByte call.step old new call.limit place b next)
     → IsSettled next.state → Advances (IsOutsideRunsInState state b) call old new i (i + 1) parser next
-advances-in {b} begun within byte_is may_go_on ordinary takes settled =
-    advances-weaker (subst (λ (state : State). IsOutsideRunsInState state b) (sym begun))
-    (advances-byte within byte_is may_go_on (takes_bytes-in begun ordinary takes) settled)
+advances-in {b} in_state before_end byte_is may_go_on ordinary takes settled =
+    advances-weaker (subst (λ (state : State). IsOutsideRunsInState state b) (sym in_state))
+    (advances-byte before_end byte_is may_go_on (takes_bytes-in in_state ordinary takes) settled)
 
 -- ---- the place in each state
 

@@ -1,6 +1,6 @@
 -- What a run of text does to a call's progress: its characters one by one do the same. By induction over the
 -- characters, and for the performer by its contract over the whole run.
-use Rattle.vte_core.proofs.Common.{added, Advances, after, All, All-append, All-head, All-nil, All-tail, ap, append-nil, arith, Bool, breaks_at, BytesLead, cases_Bool, character_event, chars, ChunkCall, cut_at_escape, drop, Empty, encode, encodes, escape, Event, events, false, inl, inr, InText, is_control_character, IsAtPlace, IsAtPosition, IsInsidePosition, IsPrintedAscii, IsUtf8, IsUtf8Run, length, List, Machine, malformed_event, map, MayGoOn, nat_tests, NoCharacterStops, Option, outcome_from, Print, PrintsRun, ProgressAt, refl, replacement, reported_before, resumed_stream, rules, run_event, slice_index, StaysInRun, subst, sym, take, take-append-drop, Text, text_outcome, true, with_bodies, ℕ, [], ◌++◌, ◌+◌, ◌-◌, ◌<◌, ◌∙◌, ◌∷◌, ◌≡◌, ◌≢◌, ◌≤◌}
+use Rattle.vte_core.proofs.Common.{added, Advances, after, All, All-append, All-head, All-nil, All-tail, any_events, ap, append-nil, arith, Bool, breaks_at, BytesLead, cases_Bool, character_event, chars, ChunkCall, cut_at_escape, drop, Empty, encode, encodes, escape, Event, events, false, inl, inr, InText, is_control_character, IsAtPlace, IsAtPosition, IsInsidePosition, IsPrintedAscii, IsUtf8, IsUtf8Run, length, List, Machine, malformed_event, map, MayGoOn, nat_tests, NoCharacterStops, Option, outcome_from, Print, PrintsRun, ProgressAt, refl, replacement, reported_before, resumed_stream, rules, run_event, slice_index, StaysInRun, subst, sym, take, take-append-drop, Text, text_outcome, true, with_bodies, ℕ, [], ◌++◌, ◌+◌, ◌-◌, ◌<◌, ◌∙◌, ◌∷◌, ◌≡◌, ◌≢◌, ◌≤◌}
 use Rattle.std.proofs.lemmas.List.{take-take}
 use Rattle.std.proofs.lemmas.Str.{encodes-chars, scalars-chars}
 use Rattle.vte_core.proofs.lemmas.bytes.Each.{each-one}
@@ -9,7 +9,7 @@ use Rattle.vte_core.proofs.lemmas.dividing.Utf8Agrees.{cut-text, text_outcome-en
 use Rattle.vte_core.proofs.lemmas.positions.SettledStates.{place-settled_text, settled-same_state}
 use Rattle.vte_core.proofs.lemmas.positions.Progress.{progress-further, stretch-added}
 use Rattle.vte_core.proofs.lemmas.positions.CallEnds.{settles}
-use Rattle.vte_core.proofs.lemmas.streams.After.{added-reads, after_events-append}
+use Rattle.vte_core.proofs.lemmas.streams.After.{added-leads, after_events-append}
 use Rattle.vte_core.proofs.lemmas.shapes.Outcomes.{with_bodies-report}
 use Rattle.vte_core.proofs.lemmas.shapes.BrokenCharacters.{reported-broken, reported-settled}
 use Rattle.vte_core.proofs.lemmas.EarlyStops.{added-append}
@@ -80,12 +80,13 @@ pub prints-one : {V : Type 0} {layout : Bool} {step : V → Event → V} {old ne
     → from < length bytes → b ≡ slice_index bytes from → IsPrintedAscii b → scalar ≡ b
     → new ≡ step old (Print scalar) → PrintsRun layout step old new bytes from (from + 1)
 prints-one {layout} {step} {old} {bytes} {from}
-    {b} within byte_is printed same performed = record {
+    {b} before_end byte_is printed same performed = record {
       run = run-ascii layout bytes from (from + 1)
           (each-one IsPrintedAscii bytes from (subst IsPrintedAscii byte_is printed));
       printed = performed ∙ ap (λ number. step old (Print number)) same
           ∙ ap (λ event. step old event) (sym (run_event-printed layout b printed))
-          ∙ ap (λ cs. after step old (map (run_event layout) cs)) (sym (chars-one bytes from b within byte_is printed));
+          ∙ ap (λ cs. after step old (map (run_event layout) cs))
+          (sym (chars-one bytes from b before_end byte_is printed));
     }
 
 -- ---- a performer that no character stops
@@ -117,7 +118,7 @@ module _ {V : Type 0} (layout : Bool) (call : ChunkCall V)
         )
         (rw (replacement-event layout) at
         (never (after call.step value (added call.limit stream (take k call.bytes))) replacement goes))
-    | inr whole ↦ rw (reported-settled call.limit stream call.bytes k whole) goes
+    | inr unbroken ↦ rw (reported-settled call.limit stream call.bytes k unbroken) goes
   ]
 
 pub may_go_on-text : {V : Type 0} {layout : Bool} (call : ChunkCall V) {old new : V} {i j : ℕ}
@@ -144,10 +145,11 @@ may_go_on-malformed layout call {old} {b} never may_go_on high performed asks =
 pub advances-text : {V B : Type 0} {call : ChunkCall V} {layout : Bool} {old new : V} {i j : ℕ} {parser : Machine B}
     → (call.may_stop ≡ true → NoCharacterStops layout call.step call.is_terminated) → MayGoOn call old
     → parser.state ≡ Text Empty → i < j → j ≤ length call.bytes
-    → PrintsRun layout call.step old new call.bytes i j → Advances ⊥ call old new i j parser parser
+    → PrintsRun layout call.step old new call.bytes i j → Advances any_events call old new i j parser parser
 advances-text {V} {call} {layout} {old} {new} {i} {j} {parser}
-    never may_go_on in_state in_order high prints = record {
-      goes_on = λ value stream position. settles (settled-same_state in_state tt) (inside-next value stream position);
+    never may_go_on in_state in_order within prints = record {
+      is_at_position =
+          λ value stream position. settles (settled-same_state in_state tt) (inside-next value stream position);
       settled = λ _. settled-same_state in_state tt;
       outside_runs = λ no. absurd no;
     }
@@ -159,7 +161,7 @@ advances-text {V} {call} {layout} {old} {new} {i} {j} {parser}
     inside : (value : V) (stream : List ℕ) → ProgressAt call value old stream i (InText []) → call.may_stop ≡ true
         → (k : ℕ) → i < k → k < j
         → call.is_terminated (after call.step value (reported_before call.limit stream call.bytes k)) ≡ false
-    inside value stream progress asks k past below =
+    inside value stream progress may_stop k past below =
         let from : List ℕ = resumed_stream stream call.bytes i in
         let prefix : List ℕ = take (k - i) (drop i call.bytes) in
         let rest : List ℕ = drop (k - i) run in
@@ -169,17 +171,17 @@ advances-text {V} {call} {layout} {old} {new} {i} {j} {parser}
         let all : added call.limit from prefix ++ added call.limit (from ++ prefix) rest
         ≡ map (run_event layout) (chars run) =
         sym (added-append call.limit from prefix rest) ∙ ap (added call.limit from) (sym parts)
-        ∙ added-reads progress.is_after
+        ∙ added-leads progress.is_after
         (bytes_lead-text prints.run) refl in
-        not_stopped-reported layout call (never asks) value stream k
+        not_stopped-reported layout call (never may_stop) value stream k
         (ap (λ events. call.is_terminated (after call.step value events))
         (stretch-added call.limit stream call.bytes i k past)
         ∙ ap call.is_terminated
         (after_events-append call.step value (reported_before call.limit stream call.bytes i)
         (added call.limit from prefix)
         ∙ ap (λ v. after call.step v (added call.limit from prefix)) (sym progress.performed))
-        ∙ not_stopped layout call (never asks) old (added call.limit from prefix)
-        (added call.limit (from ++ prefix) rest) (chars run) all (may_go_on asks))
+        ∙ not_stopped layout call (never may_stop) old (added call.limit from prefix)
+        (added call.limit (from ++ prefix) rest) (chars run) all (may_go_on may_stop))
 
     inside-next : (value : V) (stream : List ℕ) → IsAtPosition call value old stream i parser
         → IsInsidePosition call value new stream j parser
@@ -191,6 +193,6 @@ advances-text {V} {call} {layout} {old} {new} {i} {j} {parser}
           place = InText [];
           is_at = subst (IsAtPlace call.limit parser) here s.is_at;
           progress =
-              progress-further in_order high (λ asks _. may_go_on asks) (inside value stream progress)
+              progress-further in_order within (λ asks _. may_go_on asks) (inside value stream progress)
               (bytes_lead-text prints.run) prints.printed refl progress;
         }

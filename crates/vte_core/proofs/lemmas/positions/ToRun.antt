@@ -15,7 +15,7 @@ use Rattle.vte_core.proofs.lemmas.positions.CallEnds.{call_ends-comes, call_ends
 use Rattle.vte_core.proofs.lemmas.positions.TextRuns.{bytes_lead-text}
 use Rattle.vte_core.proofs.lemmas.fields.PlaceOfState.{is_at-in, IsReachable}
 use Rattle.vte_core.proofs.lemmas.places.PlaceLeads.{data-put}
-use Rattle.vte_core.proofs.lemmas.streams.After.{added-nothing, added-reads, after-nothing, after-reads}
+use Rattle.vte_core.proofs.lemmas.streams.After.{added-leads, added-nothing, after-leads, after-nothing}
 use Rattle.vte_core.proofs.lemmas.places.BytesInStream.{bytes_lead-append, bytes_lead-byte, bytes_lead-nothing, no_escape}
 
 -- ---- no run
@@ -45,18 +45,18 @@ has-run : {B : Type 0} {limit : Option ℕ} {bytes : List ℕ} {range : RunRange
     → BytesLead limit here (bytes_at bytes range) (kind_events range.kind (bytes_at bytes range)) here
     → ArePositions bytes range.start range.end → AreOfKind range.kind (bytes_at bytes range)
     → IsWholeAt bytes range range.kind → HasRun limit bytes range parser
-has-run {limit} {bytes} {range} {parser} {here} is_reachable only reads is_range kind whole =
-    search (rules, arith, added-reads, after-reads)
+has-run {limit} {bytes} {range} {parser} {here} is_reachable only leads is_range kind longest =
+    search (rules, arith, added-leads, after-leads)
 
 -- The text from one position to another is a run.
 pub has-text : {B : Type 0} {limit : Option ℕ} {bytes : List ℕ} {from end : ℕ} {parser : Machine B}
     → parser.state ≡ Text Empty → from < end → end ≤ length bytes
     → IsRun false bytes from end → HasNoRunAt false bytes end
     → HasRun limit bytes (record { start = from; end = end; kind = TextKind }) parser
-has-text {limit} {bytes} {from} {end} {parser} between low high is_run ended =
-    has-run refl (λ place is_at. place-settled_text between is_at)
+has-text {limit} {bytes} {from} {end} {parser} in_state in_order within is_run ended =
+    has-run refl (λ place is_at. place-settled_text in_state is_at)
     (bytes_lead-text is_run)
-    (record { in_order = omega (arith, low); within = high }) is_run (low, ended)
+    (record { in_order = omega (arith, in_order); within = within }) is_run (in_order, ended)
 
 -- ---- a run of data leads from the data of a hooked string back there
 
@@ -85,11 +85,11 @@ pub has-data : {B : Type 0} {limit : Option ℕ} {bytes : List ℕ} {from end : 
     → parser.state ≡ DeviceData → from < end → end ≤ length bytes
     → ArePut bytes from end → (end < length bytes → IsDeviceData (slice_index bytes end) → ⊥)
     → HasRun limit bytes (record { start = from; end = end; kind = DataKind }) parser
-has-data {limit} {bytes} {from} {end} {parser} in_state low high are_put ended =
+has-data {limit} {bytes} {from} {end} {parser} in_state in_order within are_put ended =
     has-run tt (λ place is_at. data-by_place limit parser place (is_at-in in_state is_at))
-    (bytes_lead-data bytes (end - from) from (omega (arith, low, high))
-    (λ k above below. are_put k above (omega (arith, low, below))))
-    (record { in_order = omega (arith, low); within = high }) tt (low, ended)
+    (bytes_lead-data bytes (end - from) from (omega (arith, in_order, within))
+    (λ k above below. are_put k above (omega (arith, in_order, below))))
+    (record { in_order = omega (arith, in_order); within = within }) tt (in_order, ended)
 
 -- ---- nothing open
 
@@ -126,17 +126,17 @@ module _ {V B : Type 0} {call : ChunkCall V} {old new : V} {range : RunRange} {b
 -- ---- the run that is taken there
 
 -- What is taken is what is there.
-record TakesRun (bytes : List ℕ) (end : ℕ) (these : List ℕ) (kind : RunKind) (taken : Taken) : Type 0 where
-  bytes_are : taken_bytes taken ≡ these
-  events : taken_events taken ≡ kind_events kind these
-  whole : IsLongestRun bytes end taken
+record TakesRun (bytes : List ℕ) (end : ℕ) (run : List ℕ) (kind : RunKind) (taken : Taken) : Type 0 where
+  bytes_are : taken_bytes taken ≡ run
+  events : taken_events taken ≡ kind_events kind run
+  longest : IsLongestRun bytes end taken
 
 takes-by_kind : (bytes : List ℕ) (range : RunRange) (kind : RunKind) (taken : Taken)
     → IsTaken kind (bytes_at bytes range) taken
     → AreOfKind kind (bytes_at bytes range)
     → length (bytes_at bytes range) ≡ range.end - range.start → IsWholeAt bytes range kind
     → TakesRun bytes range.end (bytes_at bytes range) kind taken
-takes-by_kind bytes range kind taken same of_kind size whole = search (rules, arith)
+takes-by_kind bytes range kind taken same of_kind size longest = search (rules, arith)
 
 run-size : (bytes : List ℕ) (range : RunRange) → ArePositions bytes range.start range.end
     → length (bytes_at bytes range) ≡ range.end - range.start
@@ -146,7 +146,7 @@ takes-run : {B : Type 0} {limit : Option ℕ} {bytes : List ℕ} {range : RunRan
     → HasRun limit bytes range parser
     → IsTaken range.kind (bytes_at bytes range) taken → TakesRun bytes range.end (bytes_at bytes range) range.kind taken
 takes-run {bytes} {range} taken has is_taken =
-    takes-by_kind bytes range range.kind taken is_taken has.kind (run-size bytes range has.is_range) has.whole
+    takes-by_kind bytes range range.kind taken is_taken has.kind (run-size bytes range has.is_range) has.longest
 
 is_run-in : {B : Type 0} {limit : Option ℕ} {bytes : List ℕ} {run : Run} {range : RunRange} {parser : Machine B}
     → HasRun limit bytes range parser → run.start ≡ range.start
@@ -159,18 +159,18 @@ module _ {V B : Type 0} {call : ChunkCall V} {old new : V} (run : Run) {range : 
     (taken : IsTaken range.kind (bytes_at call.bytes range) run.taken) where
   pub returns-run : call.may_stop ≡ true
       → ReturnsRun call.step call.is_terminated old new call.limit (HasReadWithLimit call.limit before) call.bytes run
-  returns-run asks =
-      let these = takes-run run.taken come.has taken in
+  returns-run may_stop =
+      let takes = takes-run run.taken come.has taken in
       record {
         is_run = is_run-in come.has starts ends taken;
         comes =
             λ stream has_read.
             rw starts
-            (call_ends-comes asks (omega (arith, come.has.is_range.in_order, come.has.is_range.within))
+            (call_ends-comes may_stop (omega (arith, come.has.is_range.in_order, come.has.is_range.within))
             (come.is_at_position stream has_read));
         adds =
             λ stream has_read.
-            rw (starts, these.bytes_are, these.events)
+            rw (starts, takes.bytes_are, takes.events)
             (come.has.adds _ (call_ends-reads (come.is_at_position stream has_read)));
         may_go_on = λ nonempty. come.may_go_on (omega (arith, nonempty, starts, ends));
         stops = λ empty left. come.stops (omega (arith, empty, starts, ends)) (omega (arith, left, starts));

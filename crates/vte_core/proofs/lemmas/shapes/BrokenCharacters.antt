@@ -36,8 +36,9 @@ pub breaks_at-byte : (stream bytes : List ℕ) {opened : List ℕ} (i : ℕ) {b 
     → open_character (stream ++ take i bytes) ≡ opened
     → breaks_at stream bytes i ≡ breaks opened (b ∷ [])
 unfolding breaks_at
-breaks_at-byte stream bytes {opened} i within is_next is_open =
-    rw (is_open, drop_more bytes i 0 within, is_next) (breaks-next opened (get_or bytes i 0) (drop (i + 1) bytes) [])
+breaks_at-byte stream bytes {opened} i before_end is_next is_open =
+    rw (is_open, drop_more bytes i 0 before_end, is_next)
+    (breaks-next opened (get_or bytes i 0) (drop (i + 1) bytes) [])
 
 pub breaks_at-settled : (stream bytes : List ℕ) (i : ℕ) → open_character (stream ++ take i bytes) ≡ []
     → breaks_at stream bytes i ≡ false
@@ -52,18 +53,19 @@ breaks_at-all stream bytes n all_read = search (rules, arith, drop_all, breaks-n
 
 pub starts-settled : {stream bytes : List ℕ} {i : ℕ} → i < length bytes → open_character (stream ++ take i bytes) ≡ []
     → IsStart stream bytes i
-starts-settled within settled = record { within = within; starts = inl settled }
+starts-settled before_end settled = record { before_end = before_end; starts = inl settled }
 
 pub starts-broken : {stream bytes : List ℕ} {i : ℕ} → i < length bytes → breaks_at stream bytes i ≡ true
     → IsStart stream bytes i
-starts-broken within broken = record { within = within; starts = inr broken }
+starts-broken before_end broken = record { before_end = before_end; starts = inr broken }
 
 -- A byte that continues an open character is no start.
 pub no_start : {stream bytes opened : List ℕ} {i b : ℕ} → i < length bytes → b ≡ slice_index bytes i
     → open_character (stream ++ take i bytes) ≡ opened
     → (opened ≡ [] → ⊥) → breaks opened (b ∷ []) ≡ false
     → IsStart stream bytes i → ⊥
-no_start {stream} {bytes} {i} within is_next is_open some_open unbroken start = search (rules, arith, breaks_at-byte)
+no_start {stream} {bytes} {i} before_end is_next is_open some_open unbroken start =
+    search (rules, arith, breaks_at-byte)
 
 -- ---- what is reported, and how the stream goes on
 

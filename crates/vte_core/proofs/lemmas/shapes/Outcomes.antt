@@ -4,7 +4,7 @@ use Rattle.vte_core.proofs.Common.{ap, append_assoc, arith, Event, List, Option,
 pub report-append : (events others : List Event) (outcome : Outcome)
     → report (events ++ others) outcome ≡ report events (report others outcome)
 report-append events others outcome =
-    ap (λ (all : List Event). record { reported = all; left = outcome.left })
+    ap (λ (all : List Event). record { reported = all; to_close = outcome.to_close })
     (append_assoc events others outcome.reported)
 
 pub with_bodies-report : (limit : Option ℕ) (events : List Event) (part : Outcome) (bodies : List (List ℕ))

@@ -1,8 +1,8 @@
 -- A place is after a stream if any further bytes add the same events to both (`IsAfter`). If bytes lead from it to
--- another place, that one is after the longer stream, and their events are added (`after-reads`).
+-- another place, that one is after the longer stream, and their events are added (`after-leads`).
 --
 -- `added-X` says what `added` is in the case X, and `after-X` what `IsAfter` says of X.
-use Rattle.vte_core.proofs.Common.{added, after, ap, append-nil, append_assoc, arith, AtEscape, body_outcome, body_rest, Bool, BytesLead, cases_Bool, class_of, closing_events_at, CommandToClose, cut_at_escape, drop-append_seam, drop_all, eqb, escape, Event, events, events_from, false, from_first, HasReadWithLimit, inl, inr, InText, is_cancel, is_key, is_truncated, is_well_formed, IsAfter, IsAtPlace, left_at, List, Machine, None, open_at, open_bytes, open_character, Option, Outcome, outcome, outcome_from, Place, Print, refl, replacement, report, rules, sequence_kind, sequence_outcome, SequenceKind, sym, system_command_outcome, TakesByte, TakesBytes, text_outcome, ToClose, true, with_bodies, ℕ, [], ◌++◌, ◌∙◌, ◌∷◌, ◌≡◌, ◌⊎◌}
+use Rattle.vte_core.proofs.Common.{added, after, ap, append-nil, append_assoc, arith, AtEscape, body_outcome, body_rest, Bool, BytesLead, cases_Bool, class_of, closing_events_at, CommandToClose, cut_at_escape, drop-append_seam, drop_all, eqb, escape, Event, events, events_from, false, from_first, HasReadWithLimit, inl, inr, InText, is_cancel, is_key, is_truncated, is_well_formed, IsAfter, IsAtPlace, List, Machine, None, open_at, open_bytes, open_character, Option, Outcome, outcome, outcome_from, Place, Print, refl, replacement, report, rules, sequence_kind, sequence_outcome, SequenceKind, sym, system_command_outcome, TakesByte, TakesBytes, text_outcome, to_close_at, ToClose, true, with_bodies, ℕ, [], ◌++◌, ◌∙◌, ◌∷◌, ◌≡◌, ◌⊎◌}
 use Rattle.std.proofs.Common.{eqb-true}
 use Rattle.vte_core.proofs.lemmas.bytes.Utf8.{ascii-breaks, Tests}
 use Rattle.vte_core.proofs.lemmas.shapes.Outcomes.{report-append}
@@ -87,12 +87,12 @@ module _ {A : Type 0} (view : ToClose → A)
     (same : (pieces others : List (List ℕ)) (lost other : Bool)
     → view (CommandToClose pieces lost) ≡ view (CommandToClose others other)) where
   view-shape : (limit : Option ℕ) (kind : SequenceKind) (key : ℕ) (bytes : List ℕ)
-      → view (sequence_outcome limit kind key bytes).left ≡ view (sequence_outcome None kind key bytes).left
+      → view (sequence_outcome limit kind key bytes).to_close ≡ view (sequence_outcome None kind key bytes).to_close
   unfolding system_command_outcome
   view-shape limit kind key bytes = search (rules, arith)
 
   view-rest : (limit : Option ℕ) (rest : List ℕ)
-      → view (body_rest limit rest).left ≡ view (body_rest None rest).left
+      → view (body_rest limit rest).to_close ≡ view (body_rest None rest).to_close
   view-rest limit [] = refl
   view-rest limit (key ∷ bytes) =
       elim (cases_Bool (is_cancel (class_of key))) [
@@ -101,31 +101,31 @@ module _ {A : Type 0} (view : ToClose → A)
       ]
 
   view-body : (limit : Option ℕ) (body : List ℕ)
-      → view (body_outcome limit body).left ≡ view (body_outcome None body).left
+      → view (body_outcome limit body).to_close ≡ view (body_outcome None body).to_close
   unfolding body_outcome
   view-body limit body = view-rest limit (from_first (λ b. is_key (class_of b)) body)
 
   view-bodies : (limit : Option ℕ) (part other : Outcome) (bodies : List (List ℕ))
-      → view part.left ≡ view other.left
-      → view (with_bodies limit part bodies).left ≡ view (with_bodies None other bodies).left
+      → view part.to_close ≡ view other.to_close
+      → view (with_bodies limit part bodies).to_close ≡ view (with_bodies None other bodies).to_close
   view-bodies limit part other [] agree = agree
   view-bodies limit part other (body ∷ bodies) agree =
       view-bodies limit (body_outcome limit body) (body_outcome None body) bodies (view-body limit body)
 
   view-any : (limit : Option ℕ) (stream : List ℕ)
-      → view (outcome limit stream).left ≡ view (outcome None stream).left
+      → view (outcome limit stream).to_close ≡ view (outcome None stream).to_close
   unfolding outcome
   view-any limit stream =
       let cut = cut_at_escape stream in
       view-bodies limit (text_outcome cut.text) (text_outcome cut.text) cut.bodies refl
 
 open_bytes-any : (limit : Option ℕ) (stream : List ℕ)
-    → open_bytes (outcome limit stream).left ≡ open_character stream
+    → open_bytes (outcome limit stream).to_close ≡ open_character stream
 unfolding open_character
 open_bytes-any limit stream = view-any open_bytes (λ _ _ _ _. refl) limit stream
 
 pub open_at_end-any : (limit : Option ℕ) (stream : List ℕ)
-    → kind_to_close (outcome limit stream).left ≡ open_at_end stream
+    → kind_to_close (outcome limit stream).to_close ≡ open_at_end stream
 unfolding open_at_end
 open_at_end-any limit stream = view-any kind_to_close (λ _ _ _ _. refl) limit stream
 
@@ -148,42 +148,44 @@ unfolding events
 after-events {limit} {stream} more is_after = search (rules, arith)
 
 -- What the stream leaves open is open at the place.
-pub after-left : {limit : Option ℕ} {stream : List ℕ} {place : Place} → IsAfter limit stream place → IsReachable place
-    → (outcome limit stream).left ≡ left_at limit place
-after-left {limit} {stream} {place} is_after is_reachable =
-    ap (λ s. (outcome limit s).left) (sym (append-nil stream)) ∙ ap (λ o. o.left) (is_after.goes_on [])
-    ∙ ap (λ o. o.left) (outcome_from-nothing limit place is_reachable)
+pub after-to_close : {limit : Option ℕ} {stream : List ℕ} {place : Place} → IsAfter limit stream place
+    → IsReachable place
+    → (outcome limit stream).to_close ≡ to_close_at limit place
+after-to_close {limit} {stream} {place} is_after is_reachable =
+    ap (λ s. (outcome limit s).to_close) (sym (append-nil stream)) ∙ ap (λ o. o.to_close) (is_after.same_outcomes [])
+    ∙ ap (λ o. o.to_close) (outcome_from-nothing limit place is_reachable)
 
 pub after-open_character : {limit : Option ℕ} {stream : List ℕ} {place : Place} → IsAfter limit stream place
     → IsReachable place
     → open_character stream ≡ open_at place
 after-open_character {limit} {stream} {place} is_after is_reachable =
-    sym (open_bytes-any limit stream) ∙ ap open_bytes (after-left is_after is_reachable) ∙ open_bytes-at limit place
+    sym (open_bytes-any limit stream) ∙ ap open_bytes (after-to_close is_after is_reachable) ∙ open_bytes-at limit place
 
 -- If the bytes after a stream lead from its place to a next one, the longer stream leads to that place.
-pub after-reads : {limit : Option ℕ} {stream bytes : List ℕ} {place next : Place} {these : List Event}
-    → IsAfter limit stream place → BytesLead limit place bytes these next → IsReachable next
+pub after-leads : {limit : Option ℕ} {stream bytes : List ℕ} {place next : Place} {reported : List Event}
+    → IsAfter limit stream place → BytesLead limit place bytes reported next → IsReachable next
     → IsAfter limit (stream ++ bytes) next
-after-reads {limit} {stream} {bytes} {next} {these} is_after reads is_reachable = record {
-  goes_on = λ more. outcome_reads more ∙ ap (λ events. report events (outcome_from limit next more)) (sym events_read);
+after-leads {limit} {stream} {bytes} {next} {reported} is_after leads is_reachable = record {
+  same_outcomes =
+      λ more. outcome_reads more ∙ ap (λ events. report events (outcome_from limit next more)) (sym events_read);
 }
   where
     outcome_reads : (more : List ℕ)
         → outcome limit ((stream ++ bytes) ++ more)
-        ≡ report (events limit stream ++ these) (outcome_from limit next more)
+        ≡ report (events limit stream ++ reported) (outcome_from limit next more)
     outcome_reads more =
         ap (outcome limit) (append_assoc stream bytes more)
-        ∙ is_after.goes_on (bytes ++ more)
-        ∙ ap (report (events limit stream)) (reads.leads more)
-        ∙ sym (report-append (events limit stream) these (outcome_from limit next more))
+        ∙ is_after.same_outcomes (bytes ++ more)
+        ∙ ap (report (events limit stream)) (leads.leads more)
+        ∙ sym (report-append (events limit stream) reported (outcome_from limit next more))
 
-    events_read : events limit (stream ++ bytes) ≡ events limit stream ++ these
+    events_read : events limit (stream ++ bytes) ≡ events limit stream ++ reported
     events_read =
         ap (events limit) (sym (append-nil (stream ++ bytes)))
         ∙ events-reported limit ((stream ++ bytes) ++ [])
         ∙ ap (λ o. o.reported) (outcome_reads [])
-        ∙ ap (λ es. (events limit stream ++ these) ++ es) (events_from-nothing limit next is_reachable)
-        ∙ append-nil (events limit stream ++ these)
+        ∙ ap (λ es. (events limit stream ++ reported) ++ es) (events_from-nothing limit next is_reachable)
+        ∙ append-nil (events limit stream ++ reported)
 
 -- What is added to a stream is what follows its place.
 pub added-after : {limit : Option ℕ} {stream : List ℕ} (bytes : List ℕ) {place : Place} → IsAfter limit stream place
@@ -191,13 +193,13 @@ pub added-after : {limit : Option ℕ} {stream : List ℕ} (bytes : List ℕ) {p
 added-after {limit} {stream} bytes {place} is_after = search (rules, arith, after-events, drop-append_seam)
 
 -- What bytes that lead to a place add is what they report.
-pub added-reads : {limit : Option ℕ} {stream bytes : List ℕ} {place next : Place} {these : List Event}
-    → IsAfter limit stream place → BytesLead limit place bytes these next → IsReachable next
-    → added limit stream bytes ≡ these
-added-reads {limit} {bytes} {place} {next} {these} is_after reads is_reachable =
+pub added-leads : {limit : Option ℕ} {stream bytes : List ℕ} {place next : Place} {reported : List Event}
+    → IsAfter limit stream place → BytesLead limit place bytes reported next → IsReachable next
+    → added limit stream bytes ≡ reported
+added-leads {limit} {bytes} {place} {next} {reported} is_after leads is_reachable =
     added-after bytes is_after
-    ∙ ap (events_from limit place) (sym (append-nil bytes)) ∙ ap (λ o. o.reported) (reads.leads [])
-    ∙ ap (λ events. these ++ events) (events_from-nothing limit next is_reachable) ∙ append-nil these
+    ∙ ap (events_from limit place) (sym (append-nil bytes)) ∙ ap (λ o. o.reported) (leads.leads [])
+    ∙ ap (λ events. reported ++ events) (events_from-nothing limit next is_reachable) ∙ append-nil reported
 
 -- A parser between characters of a text has read what gives no events.
 pub has_read-nothing : {B : Type 0} {limit : Option ℕ} {parser : Machine B} → IsAtPlace limit parser (InText [])

@@ -35,23 +35,10 @@ ends-after before {last} ends = record {
   joins = append_assoc before ends.prefix last ∙ ap (λ u. before ++ u) ends.joins;
 }
 
-ends-then : {whole middle last : List ℕ} → Ends whole middle → Ends middle last → Ends whole last
-ends-then {last} ends ends_on = record {
-  prefix = ends.prefix ++ ends_on.prefix;
-  joins = append_assoc ends.prefix ends_on.prefix last ∙ ap (λ u. ends.prefix ++ u) ends_on.joins ∙ ends.joins;
-}
-
-ends-from_first : (passes : ℕ → Bool) (bytes : List ℕ) → Ends bytes (from_first passes bytes)
-ends-from_first passes [] = ends-all []
-ends-from_first passes (b ∷ bytes) = elim (cases_Bool (passes b)) [
-  | inl asks ↦ rw asks (ends-all (b ∷ bytes))
-  | inr not ↦ rw not (ends-after (b ∷ []) (ends-from_first passes bytes))
-]
-
 -- ---- the open character of each part is its last bytes
 
 abbrev EndsOpen : List ℕ → Outcome → Type 0
-EndsOpen bytes o = Ends bytes (open_bytes o.left)
+EndsOpen bytes o = Ends bytes (open_bytes o.to_close)
 
 ends-segments : (parts : List (List ℕ)) → EndsOpen (concat parts) (segments_outcome parts)
 ends-segments [] = ends-all []
@@ -63,37 +50,35 @@ unfolding text_outcome
 ends-text text =
     subst (λ u. EndsOpen u (segments_outcome (segments text))) (all_divided text) (ends-segments (segments text))
 
+-- What the grammar cuts off: the first byte that passes and all that follow. Nothing is open before they come.
+ends-cut : (passes : ℕ → Bool) (rest : List ℕ → Outcome) (bytes : List ℕ) → open_bytes (rest []).to_close ≡ []
+    → ((end : ℕ) (text : List ℕ) → EndsOpen (end ∷ text) (rest (end ∷ text)))
+    → EndsOpen bytes (rest (from_first passes bytes))
+ends-cut passes rest [] nothing_open ends_on = record { prefix = []; joins = nothing_open }
+ends-cut passes rest (b ∷ bytes) nothing_open ends_on = elim (cases_Bool (passes b)) [
+  | inl asks ↦ rw asks (ends_on b bytes)
+  | inr not ↦ rw not (ends-after (b ∷ []) (ends-cut passes rest bytes nothing_open ends_on))
+]
+
+-- A text follows the end.
+ends-text_after : (end : ℕ) (text : List ℕ) → EndsOpen (end ∷ text) (text_outcome text)
+ends-text_after end text = ends-after (end ∷ []) (ends-text text)
+
 ends-escape : (bytes : List ℕ) → EndsOpen bytes (escape_outcome bytes)
 unfolding escape_outcome
-ends-escape bytes = ends-then (ends-from_first (λ b. ends_escape (class_of b)) bytes) (ends-rest _ _)
-  where
-    ends-rest : (intermediates bytes : List ℕ) → EndsOpen bytes (escape_rest intermediates bytes)
-    ends-rest intermediates [] = ends-all []
-    ends-rest intermediates (end ∷ text) = ends-after (end ∷ []) (ends-text text)
+ends-escape bytes = ends-cut (λ b. ends_escape (class_of b)) (escape_rest _) bytes refl ends-text_after
 
 ends-control : (bytes : List ℕ) → EndsOpen bytes (control_sequence_outcome bytes)
 unfolding control_sequence_outcome
-ends-control bytes = ends-then (ends-from_first (λ b. ends_head (class_of b)) bytes) (ends-rest _ _)
-  where
-    ends-rest : (head bytes : List ℕ) → EndsOpen bytes (control_sequence_rest head bytes)
-    ends-rest head [] = ends-all []
-    ends-rest head (end ∷ text) = ends-after (end ∷ []) (ends-text text)
+ends-control bytes = ends-cut (λ b. ends_head (class_of b)) (control_sequence_rest _) bytes refl ends-text_after
 
 ends-ignored : (bytes : List ℕ) → EndsOpen bytes (ignored_string_outcome bytes)
 unfolding ignored_string_outcome
-ends-ignored bytes = ends-then (ends-from_first (λ b. is_cancel (class_of b)) bytes) (ends-rest _)
-  where
-    ends-rest : (bytes : List ℕ) → EndsOpen bytes (ignored_string_rest bytes)
-    ends-rest [] = ends-all []
-    ends-rest (end ∷ text) = ends-after (end ∷ []) (ends-text text)
+ends-ignored bytes = ends-cut (λ b. is_cancel (class_of b)) ignored_string_rest bytes refl ends-text_after
 
 ends-data : (bytes : List ℕ) → EndsOpen bytes (device_data_outcome bytes)
 unfolding device_data_outcome
-ends-data bytes = ends-then (ends-from_first ends_device_data bytes) (ends-rest _)
-  where
-    ends-rest : (bytes : List ℕ) → EndsOpen bytes (device_data_rest bytes)
-    ends-rest [] = ends-nothing []
-    ends-rest (end ∷ text) = ends-after (end ∷ []) (ends-text text)
+ends-data bytes = ends-cut ends_device_data device_data_rest bytes refl ends-text_after
 
 ends-after_head : (head : List ℕ) (end : ℕ) (bytes : List ℕ)
     → EndsOpen bytes (device_control_after_head head end bytes)
@@ -102,20 +87,13 @@ ends-after_head head end bytes = search (rules, arith, ends-text, ends-data, end
 
 ends-device : (bytes : List ℕ) → EndsOpen bytes (device_control_outcome bytes)
 unfolding device_control_outcome
-ends-device bytes = ends-then (ends-from_first (λ b. ends_head (class_of b)) bytes) (ends-rest _ _)
-  where
-    ends-rest : (head bytes : List ℕ) → EndsOpen bytes (device_control_rest head bytes)
-    ends-rest head [] = ends-all []
-    ends-rest head (end ∷ bytes) = ends-after (end ∷ []) (ends-after_head head end bytes)
+ends-device bytes =
+    ends-cut (λ b. ends_head (class_of b)) (device_control_rest _) bytes refl
+    (λ end rest. ends-after (end ∷ []) (ends-after_head _ end rest))
 
 ends-command : (limit : Option ℕ) (bytes : List ℕ) → EndsOpen bytes (system_command_outcome limit bytes)
 unfolding system_command_outcome
-ends-command limit bytes = ends-then (ends-from_first ends_system_command bytes) (ends-rest _ _ _)
-  where
-    ends-rest : (pieces : List (List ℕ)) (lost : Bool) (bytes : List ℕ)
-        → EndsOpen bytes (system_command_rest pieces lost bytes)
-    ends-rest pieces lost [] = ends-nothing []
-    ends-rest pieces lost (end ∷ text) = ends-after (end ∷ []) (ends-text text)
+ends-command limit bytes = ends-cut ends_system_command (system_command_rest _ _) bytes refl ends-text_after
 
 ends-sequence : (limit : Option ℕ) (kind : SequenceKind) (key : ℕ) (bytes : List ℕ)
     → EndsOpen (key ∷ bytes) (sequence_outcome limit kind key bytes)
@@ -125,18 +103,16 @@ ends-sequence limit SystemCommand key bytes = ends-after (key ∷ []) (ends-comm
 ends-sequence limit IgnoredString key bytes = ends-after (key ∷ []) (ends-ignored bytes)
 ends-sequence limit EscapeSequence key bytes = ends-escape (key ∷ bytes)
 
-ends-body_rest : (limit : Option ℕ) (bytes : List ℕ) → EndsOpen bytes (body_rest limit bytes)
-ends-body_rest limit [] = ends-all []
-ends-body_rest limit (key ∷ bytes) = elim (cases_Bool (is_cancel (class_of key))) [
-  | inl cancels ↦ rw cancels (ends-after (key ∷ []) (ends-text bytes))
+ends-body_rest : (limit : Option ℕ) (key : ℕ) (bytes : List ℕ)
+    → EndsOpen (key ∷ bytes) (body_rest limit (key ∷ bytes))
+ends-body_rest limit key bytes = elim (cases_Bool (is_cancel (class_of key))) [
+  | inl cancels ↦ rw cancels (ends-text_after key bytes)
   | inr other ↦ rw other (ends-sequence limit (sequence_kind key) key bytes)
 ]
 
 ends-body : (limit : Option ℕ) (body : List ℕ) → EndsOpen body (body_outcome limit body)
 unfolding body_outcome
-ends-body limit body =
-    ends-then (ends-from_first (λ b. is_key (class_of b)) body)
-    (ends-body_rest limit (from_first (λ b. is_key (class_of b)) body))
+ends-body limit body = ends-cut (λ b. is_key (class_of b)) (body_rest limit) body refl (ends-body_rest limit)
 
 -- ---- so it is of a stream, whose parts are joined by ESC
 
@@ -173,21 +149,22 @@ cut-append : (stream more : List ℕ)
 cut-append [] more = refl
 cut-append (b ∷ stream) more = search (rules, arith, (cut-append stream more))
 
-left-last : (limit : Option ℕ) (part : Outcome) (before : List (List ℕ)) (body : List ℕ) (bodies : List (List ℕ))
-    → (with_bodies limit part (before ++ body ∷ bodies)).left
-    ≡ (with_bodies limit (body_outcome limit body) bodies).left
-left-last limit part [] body bodies = refl
-left-last limit part (first ∷ before) body bodies = left-last limit (body_outcome limit first) before body bodies
+to_close-last : (limit : Option ℕ) (part : Outcome) (before : List (List ℕ)) (body : List ℕ) (bodies : List (List ℕ))
+    → (with_bodies limit part (before ++ body ∷ bodies)).to_close
+    ≡ (with_bodies limit (body_outcome limit body) bodies).to_close
+to_close-last limit part [] body bodies = refl
+to_close-last limit part (first ∷ before) body bodies =
+    to_close-last limit (body_outcome limit first) before body bodies
 
 opens-escape : (stream more : List ℕ) → open_at_end (stream ++ escape ∷ more) ≡ open_at_end (escape ∷ more)
 unfolding open_at_end outcome
-opens-escape stream more = search (rules, arith, cut-append, left-last)
+opens-escape stream more = search (rules, arith, cut-append, to_close-last)
 
 -- ---- without an ESC nothing is open, or a character
 
 kind-segments : (parts : List (List ℕ))
-    → (kind_to_close (segments_outcome parts).left ≡ kind.Nothing)
-    ⊎ (kind_to_close (segments_outcome parts).left ≡ kind.Character)
+    → (kind_to_close (segments_outcome parts).to_close ≡ kind.Nothing)
+    ⊎ (kind_to_close (segments_outcome parts).to_close ≡ kind.Character)
 kind-segments [] = inl refl
 kind-segments (part ∷ []) = search (rules, arith)
 kind-segments (part ∷ next ∷ parts) = kind-segments (next ∷ parts)

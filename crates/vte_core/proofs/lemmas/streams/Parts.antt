@@ -6,7 +6,7 @@ use Rattle.std.specs.List.{position_or_len}
 use Rattle.vte_core.specs.Parts.{AreCuts, EndsWithEscape, GiveEvents, next_escape, parts_after, parts_at, parts_from, parts_of}
 use Rattle.vte_core.proofs.Common.{added, and_parts, ap, append-nil, append_assoc, arith, Bool, breaks, cases_lt, drop, drop-append_seam, drop-drop, drop_all, drop_more, eqb-true, escape, events, false, false≢true, flat_map, get_or-drop, inl, inr, InText, IsAfter, length, length-drop, List, min, not-true, open_at, open_character, Option, outcome, outcome_from, Place, Print, refl, replacement, report, rules, slice_index, slice_range, suc, sym, take, take-append-drop, take_all, take_more, take_rest, true, zero, ℕ, [], ◌++◌, ◌+◌, ◌-◌, ◌<◌, ◌∙◌, ◌∷◌, ◌≡◌}
 use Rattle.vte_core.specs.Outcome.{closing_events}
-use Rattle.vte_core.proofs.lemmas.streams.After.{added-reads, after-left, after-open_character, events-empty, events-reported, waits-broken}
+use Rattle.vte_core.proofs.lemmas.streams.After.{added-leads, after-open_character, after-to_close, events-empty, events-reported, waits-broken}
 use Rattle.vte_core.proofs.lemmas.places.BytesInStream.{bytes_lead-escape, outcome-after_nothing}
 use Rattle.vte_core.proofs.lemmas.streams.StreamSteps.{events_grow, leads_to, LeadsTo, resynchronises}
 use Rattle.vte_core.proofs.lemmas.fields.PlaceOfState.{IsReachable}
@@ -15,14 +15,14 @@ use Rattle.vte_core.proofs.lemmas.shapes.BrokenCharacters.{breaks-no_byte}
 
 -- ---- an ESC cuts a stream
 
-events-cut : (limit : Option ℕ) (stream : List ℕ) (cut : ℕ) → cut < length stream → slice_index stream cut ≡ escape
+events-cut : (limit : Option ℕ) (cut : ℕ) (stream : List ℕ) → cut < length stream → slice_index stream cut ≡ escape
     → events limit stream ≡ events limit (take (cut + 1) stream) ++ events limit (drop cut stream)
-events-cut limit stream cut within is_escape =
+events-cut limit cut stream before_end is_escape =
     let later = drop (cut + 1) stream in
     let rest : drop cut stream ≡ escape ∷ later =
-    drop_more stream cut 0 within ∙ ap (λ b. b ∷ later) is_escape in
+    drop_more stream cut 0 before_end ∙ ap (λ b. b ∷ later) is_escape in
     let part : take (cut + 1) stream ≡ take cut stream ++ escape ∷ [] =
-    take_more stream cut 0 within ∙ ap (λ b. take cut stream ++ b ∷ []) is_escape in
+    take_more stream cut 0 before_end ∙ ap (λ b. take cut stream ++ b ∷ []) is_escape in
     ap (events limit) (sym (take-append-drop cut stream) ∙ ap (λ s. take cut stream ++ s) rest)
     ∙ (resynchronises limit).escape (take cut stream) later
     ∙ ap (λ s. events limit s ++ events limit (escape ∷ later)) (sym part)
@@ -43,7 +43,7 @@ parts_from-events limit start (cut ∷ cuts) stream are_cuts =
     ap (λ es. events limit (slice_range stream start (cut + 1)) ++ es)
     (parts_from-events limit cut cuts stream are_cuts.3 ∙ ap (events limit) there)
     ∙ ap (λ n. events limit (take n later) ++ events limit (drop before later)) (omega (arith, are_cuts.0))
-    ∙ sym (events-cut limit later before (omega (arith, are_cuts.0, are_cuts.1, length-drop start stream)) is_escape)
+    ∙ sym (events-cut limit before later (omega (arith, are_cuts.0, are_cuts.1, length-drop start stream)) is_escape)
 
 pub parts_give_events : (limit : Option ℕ) (stream cuts : List ℕ) → AreCuts stream 0 cuts
     → GiveEvents limit (parts_at cuts stream) stream
@@ -74,7 +74,7 @@ escape_missing from stream searched {start} start_is searched_is nowhere =
 
 next_escape-within : (from : ℕ) (stream : List ℕ) → next_escape from stream < length stream
     → slice_index stream (next_escape from stream) ≡ escape
-next_escape-within from stream within = search (rules, arith, passes_at_first, length-drop, get_or-drop, eqb-true)
+next_escape-within from stream before_end = search (rules, arith, passes_at_first, length-drop, get_or-drop, eqb-true)
 
 next_escape-later : (from : ℕ) (stream : List ℕ) → 0 < from → 0 < length stream → 0 < next_escape from stream
 next_escape-later from stream some_from some_bytes = omega (arith, some_from, some_bytes)
@@ -119,7 +119,7 @@ parts_after-events limit size zero (b ∷ stream) some_size =
     (parts_after-events limit size (cut - 1) stream some_size
     ∙ ap (events limit) (drop-less cut b stream (next_escape-later size all some_size (omega arith))))
     ∙ elim (cases_lt cut (length all)) [
-      | inl within ↦ sym (events-cut limit all cut within (next_escape-within size all within))
+      | inl before_end ↦ sym (events-cut limit cut all before_end (next_escape-within size all before_end))
       | inr past ↦
           ap (λ s. events limit s ++ events limit (drop cut all)) (take_all (cut + 1) all (omega (arith, past)))
           ∙ ap (λ s. events limit all ++ events limit s) (drop_all cut all past)
@@ -136,9 +136,9 @@ ends_with_escape limit part =
     let leads : LeadsTo limit part = leads_to in
     events_grow limit part (escape ∷ [])
     ∙ ap (λ es. events limit part ++ es)
-    (added-reads leads.is_after (bytes_lead-escape leads.is_reachable) tt
-    ∙ ap closing_events (sym (after-left leads.is_after leads.is_reachable)))
-    ∙ ap (λ events. events ++ closing_events (outcome limit part).left) (events-reported limit part)
+    (added-leads leads.is_after (bytes_lead-escape leads.is_reachable) tt
+    ∙ ap closing_events (sym (after-to_close leads.is_after leads.is_reachable)))
+    ∙ ap (λ events. events ++ closing_events (outcome limit part).to_close) (events-reported limit part)
 
 -- ---- a stream goes on after a broken character as one that begins with the byte that broke it
 
@@ -160,7 +160,7 @@ outcome-broken limit stream (b ∷ unread) more broken =
     let here : breaks (open_at leads.place) (b ∷ unread) ≡ true =
     ap (λ (u : List ℕ). breaks u (b ∷ unread))
     (sym (after-open_character leads.is_after leads.is_reachable)) ∙ broken in
-    leads.is_after.goes_on (b ∷ (unread ++ more))
+    leads.is_after.same_outcomes (b ∷ (unread ++ more))
     ∙ ap (report (events limit stream))
     (outcome_from-broken limit leads.place b unread (unread ++ more) leads.is_reachable here)
     ∙ sym
@@ -184,13 +184,13 @@ pub resumes-after : (limit : Option ℕ) (stream unread : List ℕ) (place : Pla
     → IsAfter limit unread place
     → IsAfter limit (stream ++ unread) place
 resumes-after limit stream unread place broken is_after = record {
-  goes_on = λ more.
+  same_outcomes = λ more.
       let reported = events limit stream ++ Print replacement ∷ [] in
       let all : events limit (stream ++ unread) ≡ reported ++ events limit unread =
       rw append-nil at (events-broken limit stream unread [] broken) in
       ap (outcome limit) (append_assoc stream unread more)
       ∙ outcome-broken limit stream unread more broken
-      ∙ ap (report reported) (is_after.goes_on more)
+      ∙ ap (report reported) (is_after.same_outcomes more)
       ∙ sym (report-append reported (events limit unread) (outcome_from limit place more))
       ∙ ap (λ events. report events (outcome_from limit place more)) (sym all);
 }

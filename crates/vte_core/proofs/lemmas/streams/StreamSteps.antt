@@ -1,25 +1,25 @@
 -- A stream of any bytes, from its prefix: each byte leads from a place to a place (`arrives`), so what a stream gives
 -- stays as it is whatever follows, and it begins again when all places lead to the same.
 use Rattle.vte_core.specs.Laws.{Grows, OpensSilently, Resyncs, ResyncsAfter}
-use Rattle.vte_core.proofs.Common.{added, All, All-append, All-nil, ap, append_assoc, AreBrief, arith, AtEscape, BytesLead, Cancel, cases_lt, character_event, class_of, CommandToClose, CountsData, drop, escape, Event, events, events_from, inl, inr, InSystemCommand, InText, is_control_character, is_well_formed, IsAfter, IsBounded, IsOutsideRuns, left_at, length, length-append, List, nat_tests, None, open_at, open_character, open_data_count, Option, Place, PrintsNoAscii, refl, rules, scalar_of, Some, sym, ToClose, true, ℕ, [], ◌++◌, ◌+◌, ◌<◌, ◌∙◌, ◌∷◌, ◌≡◌, ◌≢◌, ◌≤◌}
+use Rattle.vte_core.proofs.Common.{added, All, All-append, All-nil, ap, append_assoc, AreBrief, arith, AtEscape, BytesLead, Cancel, cases_lt, character_event, class_of, CommandToClose, CountsData, drop, escape, Event, events, events_from, inl, inr, InSystemCommand, InText, is_control_character, is_well_formed, IsAfter, IsBounded, IsOutsideRuns, length, length-append, List, nat_tests, None, open_at, open_character, open_data_count, Option, Place, PrintsNoAscii, refl, rules, scalar_of, Some, sym, to_close_at, ToClose, true, ℕ, [], ◌++◌, ◌+◌, ◌<◌, ◌∙◌, ◌∷◌, ◌≡◌, ◌≢◌, ◌≤◌}
 use Rattle.vte_core.proofs.lemmas.places.BytesInStream.{bytes_lead-append, bytes_lead-byte, bytes_lead-escape, bytes_lead-nothing, cancel_is_no_escape, events-after_nothing, outcome_from-escape}
-use Rattle.vte_core.proofs.lemmas.places.Steps.{FitsLeft, Steps}
+use Rattle.vte_core.proofs.lemmas.places.Steps.{OpenPiecesFit, Steps}
 use Rattle.vte_core.proofs.lemmas.places.TextSteps.{byte-cancels}
-use Rattle.vte_core.proofs.lemmas.streams.After.{added-after, added-reads, after-events, after-left, after-nothing, after-open_character, after-reads, events-empty}
+use Rattle.vte_core.proofs.lemmas.streams.After.{added-after, added-leads, after-events, after-leads, after-nothing, after-open_character, after-to_close, events-empty}
 use Rattle.vte_core.proofs.lemmas.places.PlaceSteps.{steps}
 use Rattle.vte_core.proofs.lemmas.fields.PlaceOfState.{IsReachable}
 use Rattle.vte_core.proofs.lemmas.fields.Pieces.{pieces_fit}
 use Rattle.std.proofs.lemmas.Str.{length-encode}
 use Rattle.vte_core.proofs.lemmas.dividing.Utf8Agrees.{well_formed_is_encoded}
 
-left-fits : (limit : Option ℕ) (place : Place) → FitsLeft limit (left_at limit place)
-left-fits limit (InText []) = tt
-left-fits limit (InText (a ∷ opened)) = tt
-left-fits limit (InSystemCommand items) = pieces_fit limit items
-left-fits limit _ = tt
+to_close-fits : (limit : Option ℕ) (place : Place) → OpenPiecesFit limit (to_close_at limit place)
+to_close-fits limit (InText []) = tt
+to_close-fits limit (InText (a ∷ opened)) = tt
+to_close-fits limit (InSystemCommand items) = pieces_fit limit items
+to_close-fits limit _ = tt
 
 abbrev size_at : Option ℕ → Place → ℕ
-size_at limit place = open_data_count (left_at limit place)
+size_at limit place = open_data_count (to_close_at limit place)
 
 -- The bytes report events of a bounded size after the place, and lead to a next place.
 pub record Arrives (limit size : Option ℕ) (place : Place) (bytes : List ℕ) : Type 0 where
@@ -37,7 +37,7 @@ brief_bounded limit reported brief = search (rules, arith)
 -- The bytes arrive at a place, if the pieces that are left fit into the size at each place on the way.
 arrives : (limit size : Option ℕ) (place : Place) (bytes : List ℕ) → IsReachable place
     → ((on_way : Place) → (limit ≡ None → size_at limit on_way ≤ size_at limit place + length bytes)
-    → FitsLeft size (left_at limit on_way)) → Arrives limit size place bytes
+    → OpenPiecesFit size (to_close_at limit on_way)) → Arrives limit size place bytes
 arrives limit size place [] is_reachable fits =
     record {
       reported = [];
@@ -66,9 +66,9 @@ arrives limit size place (b ∷ bytes) is_reachable fits =
 
 pub reported_by_stream : {limit : Option ℕ} {next : Place} {stream : List ℕ} {reported : List Event} → IsReachable next
     → BytesLead limit (InText []) stream reported next → events limit stream ≡ reported
-reported_by_stream {limit} {stream} is_reachable reads =
+reported_by_stream {limit} {stream} is_reachable leads =
     ap (λ es. drop (length es) (events limit stream)) (sym (events-empty limit))
-    ∙ added-reads after-nothing reads is_reachable
+    ∙ added-leads after-nothing leads is_reachable
 
 -- The stream leads to a place, with events of bounded size.
 pub record LeadsTo (limit : Option ℕ) (stream : List ℕ) : Type 0 where
@@ -80,11 +80,11 @@ pub record LeadsTo (limit : Option ℕ) (stream : List ℕ) : Type 0 where
 pub leads_to : {limit : Option ℕ} {stream : List ℕ} → LeadsTo limit stream
 leads_to {limit} {stream} =
     let arrives_there : Arrives limit limit (InText []) stream =
-    arrives limit limit (InText []) stream refl (λ place _. left-fits limit place) in
+    arrives limit limit (InText []) stream refl (λ place _. to_close-fits limit place) in
     record {
       place = arrives_there.next;
       is_reachable = arrives_there.is_reachable;
-      is_after = after-reads after-nothing arrives_there.leads arrives_there.is_reachable;
+      is_after = after-leads after-nothing arrives_there.leads arrives_there.is_reachable;
       bounded = rw (reported_by_stream arrives_there.is_reachable arrives_there.leads) arrives_there.bounded;
     }
 
@@ -102,7 +102,7 @@ grows_after : {limit : Option ℕ} (stream : List ℕ) {bytes : List ℕ} (more 
     → BytesLead limit leads.place bytes reported next
     → events limit (stream ++ (bytes ++ more)) ≡ events limit (stream ++ bytes) ++ events_from limit next more
 grows_after {limit} stream {bytes} more leads is_reachable reads =
-    search (rules, arith, append_assoc, after-events, after-reads)
+    search (rules, arith, append_assoc, after-events, after-leads)
 
 -- After CAN or SUB, what follows is read as a new stream.
 resyncs_after : (limit : Option ℕ) (end : ℕ) → class_of end ≡ Cancel → ResyncsAfter limit end
@@ -143,18 +143,18 @@ pub added-byte : (limit : Option ℕ) (stream : List ℕ) (b : ℕ) → AddedByB
 added-byte limit stream b =
     let leads = leads_to in
     let step = steps leads.is_reachable in
-    let later = after-reads leads.is_after step.leads step.is_reachable in
+    let later = after-leads leads.is_after step.leads step.is_reachable in
     record {
       place = leads.place;
       begun = after-open_character leads.is_after leads.is_reachable;
       step = step;
       ends = after-open_character later step.is_reachable;
-      reported = added-reads leads.is_after step.leads step.is_reachable;
+      reported = added-leads leads.is_after step.leads step.is_reachable;
     }
 
 pub bytes_are_brief : (limit : Option ℕ) (stream : List ℕ) (b : ℕ) → AreBrief limit (added limit stream (b ∷ []))
 bytes_are_brief limit stream b =
-    let adds = added-byte limit stream b in rw adds.reported (adds.step.brief limit (left-fits limit adds.place))
+    let adds = added-byte limit stream b in rw adds.reported (adds.step.brief limit (to_close-fits limit adds.place))
 
 pub opens_silently : (limit : Option ℕ) → OpensSilently limit
 opens_silently limit stream b =
@@ -172,19 +172,21 @@ events_are_bounded limit stream = leads_to.bounded
 
 -- ---- how much data a command has that bytes dispatch or leave open, without a limit
 
-FitsLeft-by : (n : ℕ) (left : ToClose) → open_data_count left ≤ n → FitsLeft (Some n) left
-FitsLeft-by n (CommandToClose pieces lost) within = within
-FitsLeft-by n _ within = tt
+OpenPiecesFit-by : (n : ℕ) (to_close : ToClose) → open_data_count to_close ≤ n
+    → OpenPiecesFit (Some n) to_close
+OpenPiecesFit-by n (CommandToClose pieces lost) fits = fits
+OpenPiecesFit-by n _ fits = tt
 
 pub counts_data : (stream bytes : List ℕ) → CountsData stream bytes
 counts_data stream bytes =
     let leads = leads_to {limit = None} {stream = stream} in
     let c = arrives None (Some (size_at None leads.place + length bytes)) leads.place bytes leads.is_reachable
-    (λ place at_most. FitsLeft-by _ (left_at None place) (at_most refl)) in
-    let before = ap open_data_count (after-left leads.is_after leads.is_reachable) in
-    let later = ap open_data_count (after-left (after-reads leads.is_after c.leads c.is_reachable) c.is_reachable) in
+    (λ place at_most. OpenPiecesFit-by _ (to_close_at None place) (at_most refl)) in
+    let before = ap open_data_count (after-to_close leads.is_after leads.is_reachable) in
+    let later =
+    ap open_data_count (after-to_close (after-leads leads.is_after c.leads c.is_reachable) c.is_reachable) in
     record {
-      reported = rw (before, added-reads leads.is_after c.leads c.is_reachable) c.bounded;
+      reported = rw (before, added-leads leads.is_after c.leads c.is_reachable) c.bounded;
       left = omega (arith, before, later, c.grows refl);
     }
 

@@ -55,7 +55,7 @@ impl<const N: usize> Buffer for Option<ArrayVec<u8, N>> {
         }
         if let Some(bytes) = self {
             let kept = (to - from).min(bytes.remaining_capacity());
-            // It fits.
+            // No more bytes than there is room for are copied, so all fit.
             let _ = reader.copy_to_array(input, from, from + kept, bytes);
         }
     }
@@ -85,7 +85,7 @@ impl Buffer for Vec<u8> {
 
     #[inline]
     fn append(&mut self, reader: Reader, input: &[u8], from: usize, to: usize) {
-        // There is room.
+        // The caller has reserved memory for these bytes, so all fit.
         let _ = reader.copy_to_vec(input, from, to, self);
     }
 }

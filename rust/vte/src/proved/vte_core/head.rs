@@ -41,22 +41,23 @@ pub(crate) struct HeadEnd {
 
 /// What is collected of a sequence: intermediates and parameters.
 #[derive(Clone)]
-pub(crate) struct Collected {
+pub(crate) struct CollectedHead {
     // the first two, a marker among them
     pub(crate) intermediates: ArrayVec<u8, MAX_INTERMEDIATES>,
     // whether there were more
     pub(crate) too_many_intermediates: bool,
     // the first 32 numbers, without the one that is being read
     pub(crate) params: Params,
-    // the number that is being read, and whether it follows a colon
+    // the number that is being read
     pub(crate) number: u16,
+    // whether it follows a colon
     pub(crate) joined: bool,
 }
 
-impl Collected {
+impl CollectedHead {
     /// Creates an empty collection.
     pub(crate) const fn new() -> Self {
-        Collected {
+        CollectedHead {
             intermediates: ArrayVec::new(),
             too_many_intermediates: false,
             params: Params::new(),
@@ -105,7 +106,7 @@ impl Collected {
 
     /// Collects a digit or a separator.
     #[inline(always)]
-    fn collect_parameter_byte(&mut self, byte: u8) {
+    pub(crate) fn collect_parameter_byte(&mut self, byte: u8) {
         if let Some(digit) = digit_of(byte) {
             // 65,535 stands for all greater numbers.
             let number = (u32::from(self.number) * 10 + digit).min(u32::from(u16::MAX));

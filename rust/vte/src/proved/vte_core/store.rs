@@ -12,7 +12,7 @@ const MAX_PIECES: usize = 16;
 
 /// The items of a command, as far as they are kept.
 #[derive(Clone)]
-pub(crate) struct Store<B: Buffer> {
+pub(crate) struct CommandStore<B: Buffer> {
     // the data bytes, without the `;` between the pieces
     bytes: B,
     // the ends of the first 16 pieces in them
@@ -21,10 +21,10 @@ pub(crate) struct Store<B: Buffer> {
     lost: bool,
 }
 
-impl<B: Buffer> Store<B> {
+impl<B: Buffer> CommandStore<B> {
     /// Creates a store without items, over a buffer.
     pub(crate) const fn new(bytes: B) -> Self {
-        Store {
+        CommandStore {
             bytes,
             ends: ArrayVec::new(),
             lost: false,
@@ -111,7 +111,7 @@ impl<B: Buffer> Store<B> {
 }
 
 #[cfg(feature = "__own")]
-impl<const N: usize> Store<Option<ArrayVec<u8, N>>> {
+impl<const N: usize> CommandStore<Option<ArrayVec<u8, N>>> {
     /// Returns the data bytes, the ends of the first 16 pieces in them, and whether data bytes were
     /// dropped.
     pub(crate) fn raw_parts(&self) -> (&[u8], &[usize], bool) {
@@ -127,7 +127,7 @@ impl<const N: usize> Store<Option<ArrayVec<u8, N>>> {
         self.ends.clear();
         self.bytes = Some(ArrayVec::new());
         if let Some(array) = &mut self.bytes {
-            // They fit.
+            // A saved parser has at most N bytes, so all fit.
             let _ = array.try_extend_from_slice(bytes);
         }
         if are_piece_ends(ends, bytes.len()) {
@@ -138,7 +138,7 @@ impl<const N: usize> Store<Option<ArrayVec<u8, N>>> {
 }
 
 #[cfg(any(feature = "std", feature = "ansi"))]
-impl Store<Vec<u8>> {
+impl CommandStore<Vec<u8>> {
     /// Returns how many data bytes it has.
     #[inline]
     #[cfg(any(feature = "__own", feature = "ansi"))]

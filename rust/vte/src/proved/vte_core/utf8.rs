@@ -16,7 +16,7 @@ pub(crate) enum Unfinished {
 
 /// What one more byte makes of an unfinished character.
 #[derive(Clone, Copy)]
-pub(crate) enum Extended {
+pub(crate) enum Extension {
     /// More bytes, and still no character.
     Truncated(Unfinished),
     /// The character is whole.
@@ -27,30 +27,30 @@ pub(crate) enum Extended {
 
 impl Unfinished {
     /// Returns whether no character is open.
-    pub(crate) fn is_nothing(self) -> bool {
+    pub(crate) fn is_empty(self) -> bool {
         matches!(self, Unfinished::Empty)
     }
 
     /// Adds a byte to those of an open character.
     #[inline(always)]
-    pub(crate) fn extended_by(self, byte: u8) -> Extended {
+    pub(crate) fn extend(self, byte: u8) -> Extension {
         match self {
             Unfinished::One(first) if may_be_second(first, byte) => {
                 if first < 0xe0 {
                     return whole_character(code_point_of_two(first, byte));
                 }
-                Extended::Truncated(Unfinished::Two(first, byte))
+                Extension::Truncated(Unfinished::Two(first, byte))
             }
             Unfinished::Two(first, second) if is_continuation(byte) => {
                 if first < 0xf0 {
                     return whole_character(code_point_of_three(first, second, byte));
                 }
-                Extended::Truncated(Unfinished::Three(first, second, byte))
+                Extension::Truncated(Unfinished::Three(first, second, byte))
             }
             Unfinished::Three(first, second, third) if is_continuation(byte) => {
                 whole_character(code_point_of_four(first, second, third, byte))
             }
-            _ => Extended::Malformed,
+            _ => Extension::Malformed,
         }
     }
 }
@@ -120,10 +120,10 @@ fn code_point_of_four(first: u8, second: u8, third: u8, fourth: u8) -> u32 {
 
 /// Returns the character with this number, or `Malformed` for the number of a surrogate, which no
 /// well-formed sequence has.
-fn whole_character(code: u32) -> Extended {
+fn whole_character(code: u32) -> Extension {
     match char::from_u32(code) {
-        Some(c) => Extended::WellFormed(c),
-        None => Extended::Malformed,
+        Some(c) => Extension::WellFormed(c),
+        None => Extension::Malformed,
     }
 }
 

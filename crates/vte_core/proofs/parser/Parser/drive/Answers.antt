@@ -4,11 +4,11 @@ use Rattle.vte_core.proofs.lemmas.positions.Contracts.{costs-added, reads-bytes,
 use Rattle.vte_core.proofs.lemmas.positions.SettledStates.{all_read-unless_asked}
 use Rattle.vte_core.proofs.parser.Parser.drive.Goals as goal
 
-pub returns-in-Ok-clause-all : goal.returns-in-Ok-clause-all
-returns-in-Ok-clause-all g c = λ never.
+pub returns-in-Ok-clause-reads_all : goal.returns-in-Ok-clause-reads_all
+returns-in-Ok-clause-reads_all g c = λ never.
     let d = rw c.in-Ok.is at c.drive-result.ensures.reads in
     rw (← c.into_reader-reader.ensures.bytes)
-    (reads-bytes (all_read-unless_asked _ _ d.within (λ left. sym never ∙ d.asked left)) d
+    (reads-bytes (all_read-unless_asked _ _ d.within (λ left. sym never ∙ d.may_stop left)) d
     (costs-added c.into_reader-reader.ensures.looks c.add.ensures (rw c.in-Ok.is at c.drive-result.ensures.costs)))
 
 pub returns-in-Ok-clause-stops : goal.returns-in-Ok-clause-stops

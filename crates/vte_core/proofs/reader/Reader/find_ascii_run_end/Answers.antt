@@ -9,6 +9,6 @@ returns-clause-run g c =
     let ascii = c.find_ascii_end_by_words-end.ensures in
     let rest = c.find_run_end.ensures in
     run-append g.P.CountedPerform.layout c.args.input.bytes.now c.args.from c.find_ascii_end_by_words-end.result
-    c.find_run_end.result (omega (arith, ascii.scans.low)) rest.scans.low
+    c.find_run_end.result (omega (arith, ascii.scans.in_order)) rest.scans.in_order
     (run-ascii g.P.CountedPerform.layout _ _ _ (each-both IsPrintedAscii _ _ _ _ c.requires.printed ascii.scans.passed))
     (rw c.keeps_layout.ensures at rest.scans.passed)

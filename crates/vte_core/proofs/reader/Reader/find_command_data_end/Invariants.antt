@@ -6,8 +6,8 @@ use Rattle.vte_core.proofs.reader.Reader.find_command_data_end.Given as goal
 
 abbrev pub invariant-loop-end : goal.invariant-loop-end
 invariant-loop-end l = record {
-  low : l.from ≤ l.end;
-  high : l.end ≤ length l.input.bytes.now;
+  in_order : l.from ≤ l.end;
+  within : l.end ≤ length l.input.bytes.now;
   are_data : Each IsCommandData l.input.bytes.now l.from l.end;
 }
 

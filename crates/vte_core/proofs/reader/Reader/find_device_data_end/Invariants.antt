@@ -4,8 +4,8 @@ use Rattle.vte_core.proofs.reader.Reader.find_device_data_end.Given as goal
 
 abbrev pub invariant-loop-end : goal.invariant-loop-end
 invariant-loop-end l = record {
-  low : l.from ≤ l.end;
-  high : l.end ≤ length l.input.bytes.now;
+  in_order : l.from ≤ l.end;
+  within : l.end ≤ length l.input.bytes.now;
   are_put : ArePut l.input.bytes.now l.from l.end;
 }
 

@@ -11,15 +11,15 @@ pub returns-in-Some : goal.returns-in-Some
 returns-in-Some c =
     let first = c.in-Some.ensures in
     record {
-      low = omega arith;
-      high = search rules;
+      in_order = omega arith;
+      within = search rules;
       passed = λ k low high is_escape.
           let not_escape = first.0.before (k - c.args.from) (omega arith) (omega (arith, low, high)) in
           let is_there =
           rest-byte c.args.input.bytes.now c.args.from (k - c.args.from) k (omega (arith, low)) ∙ is_escape in
           grind (arith, nat_tests);
       ended =
-          λ within not_escape.
+          λ before_end not_escape.
           not_escape
           (sym (rest-byte c.args.input.bytes.now c.args.from c.in-Some.distance _ refl) ∙ eqb-true _ _ first.1);
       looks = search rules;
@@ -27,13 +27,13 @@ returns-in-Some c =
 
 pub returns-in-None : goal.returns-in-None
 returns-in-None c = record {
-  low = omega (arith, c.requires);
-  high = search rules;
+  in_order = omega (arith, c.requires);
+  within = search rules;
   passed = λ k low high is_escape.
       let not_escape = c.in-None.ensures (k - c.args.from) (omega arith) (omega (arith, low, high)) in
       let is_there =
       rest-byte c.args.input.bytes.now c.args.from (k - c.args.from) k (omega (arith, low)) ∙ is_escape in
       grind (arith, nat_tests);
-  ended = λ within not_escape. omega (arith, within);
+  ended = λ before_end not_escape. omega (arith, before_end);
   looks = search rules;
 }

@@ -66,7 +66,7 @@ pub returns-else-is_printed_pair-clause-ended : goal.returns-else-is_printed_pai
 returns-else-is_printed_pair-clause-ended c no_run =
     let lead = in_range-bounds (from_to 0xc2 0xf4) c.args.first (sym c.is_lead.ensures ∙ c.if-not-is_lead.false) in
     let second = c.in_ok-second.ensures.1 in
-    no_run-two c.args.layout _ c.args.from c.args.first c.requires.within c.requires.looked_at lead.0
+    no_run-two c.args.layout _ c.args.from c.args.first c.requires.before_end c.requires.looked_at lead.0
     c.if-first-lt224.true
     (λ more continues plain.
     false≢true

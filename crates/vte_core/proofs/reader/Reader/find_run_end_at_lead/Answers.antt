@@ -12,7 +12,7 @@ returns-then-is_printed_pair-clause-run g c = λ _.
     let pair = c.if-is_printed_pair.ensures in
     let rest = c.find_run_end_after_non_ascii.ensures in
     run-append g.P.CountedPerform.layout bytes c.args.from (c.args.from + 2) c.find_run_end_after_non_ascii.result
-    (omega arith) rest.scans.low
+    (omega arith) rest.scans.in_order
     (run-two bytes c.args.from
     (omega (arith, second.0)) c.requires.looked_at second.1 c.requires.lead c.if-first-lt224.true
     (pair.0 refl).0 (pair.0 refl).1) rest.scans.passed
@@ -26,7 +26,7 @@ returns-in-Some-2-clause-run g c = λ _.
     let rest = c.find_run_end_after_non_ascii-in-Some-2.ensures in
     run-append g.P.CountedPerform.layout bytes c.args.from (c.args.from + 3)
     c.find_run_end_after_non_ascii-in-Some-2.result
-    (omega arith) rest.scans.low
+    (omega arith) rest.scans.in_order
     (run-three bytes c.args.from
     (omega (arith, third.0)) c.requires.looked_at second.1 third.1
     (omega (arith, c.if-first-lt224.false)) c.if-first-lt240.true

@@ -9,8 +9,8 @@ use Rattle.vte_core.proofs.reader.Reader.skip_run_blocks.Given as goal
 
 abbrev pub invariant-loop-window : goal.invariant-loop-window
 invariant-loop-window l = record {
-  low : l.from ≤ l.end;
-  high : l.end ≤ length l.input.bytes.now;
+  in_order : l.from ≤ l.end;
+  within : l.end ≤ length l.input.bytes.now;
   leads : IsAllowedAt l.input.bytes.now l.from l.end;
   kept : l.layout ≡ false → Each (λ byte. 0x20 ≤ byte) l.input.bytes.now l.from l.end;
   whole : l.from < l.end → l.from + 16 ≤ l.end;

@@ -6,7 +6,7 @@ use crate::proved::vte_core::parser::{Machine, State};
 use crate::proved::vte_core::reader::{text_between, CountedPerform, Granularity, Reader};
 use crate::proved::vte_core::utf8::{
     character_of_four, character_of_three, character_of_two, is_continuation, may_begin_four,
-    may_begin_three, Extended, Unfinished,
+    may_begin_three, Extension, Unfinished,
 };
 
 impl<B: Buffer> Machine<B> {
@@ -47,7 +47,7 @@ impl<B: Buffer> Machine<B> {
         }
     }
 
-    /// Reads the second byte, at `second_position`, and the third of a character of three bytes.
+    /// Continues the character of three bytes whose second byte, at `second_position`, was read.
     #[inline(always)]
     pub(crate) fn complete_three<
         P: CountedPerform<G> + ?Sized,
@@ -162,14 +162,14 @@ impl<B: Buffer> Machine<B> {
     ) -> usize {
         let mut unfinished = begun;
         for position in from..input.len() {
-            match unfinished.extended_by(reader.byte_at(input, position)) {
-                Extended::Truncated(more) => unfinished = more,
-                Extended::WellFormed(c) => {
+            match unfinished.extend(reader.byte_at(input, position)) {
+                Extension::Truncated(more) => unfinished = more,
+                Extension::WellFormed(c) => {
                     reader.report_character(performer, c);
                     self.state = State::Text(Unfinished::Empty);
                     return position + 1;
                 }
-                Extended::Malformed => {
+                Extension::Malformed => {
                     performer.print_char(reader, char::REPLACEMENT_CHARACTER);
                     self.state = State::Text(Unfinished::Empty);
                     return position;

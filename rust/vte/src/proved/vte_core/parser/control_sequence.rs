@@ -70,7 +70,7 @@ impl<B: Buffer> Machine<B> {
 
     /// Continues a control sequence, whose head was read as far as `reached`. There is a short path
     /// for numbers with `;` between them and a final byte after them. Most bytes take it if each
-    /// call has one byte.
+    /// call has one byte and may stop.
     #[inline(always)]
     pub(crate) fn read_control_sequence<
         P: CountedPerform<G> + ?Sized,

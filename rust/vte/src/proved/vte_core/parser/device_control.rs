@@ -107,7 +107,7 @@ impl<B: Buffer> Machine<B> {
         byte: u8,
     ) -> usize {
         if ends_sequence(byte) {
-            return self.read_end::<P, G, MAY_STOP>(reader, performer, input, from, byte);
+            return self.read_ending_byte::<P, G, MAY_STOP>(reader, performer, input, from, byte);
         }
         if byte == STRING_TERMINATOR {
             performer.unhook(reader);

@@ -15,7 +15,7 @@ impl<B: Buffer> Machine<B> {
         performer: &mut P,
         byte: u8,
     ) {
-        self.report_end(reader, performer);
+        self.report_string_end(reader, performer);
         if byte == ESCAPE {
             self.collected.clear_intermediates();
             self.state = State::Escape;
@@ -26,7 +26,11 @@ impl<B: Buffer> Machine<B> {
     }
 
     /// Reads a byte that ends what is open, and after ESC also the bytes that follow it.
-    pub(crate) fn read_end<P: CountedPerform<G> + ?Sized, G: Granularity, const MAY_STOP: bool>(
+    pub(crate) fn read_ending_byte<
+        P: CountedPerform<G> + ?Sized,
+        G: Granularity,
+        const MAY_STOP: bool,
+    >(
         &mut self,
         reader: Reader,
         performer: &mut P,
@@ -38,11 +42,11 @@ impl<B: Buffer> Machine<B> {
         if byte != ESCAPE || (MAY_STOP && performer.terminated()) {
             return from + 1;
         }
-        self.read_escape::<P, G, MAY_STOP>(reader, performer, input, from + 1)
+        self.read_after_escape::<P, G, MAY_STOP>(reader, performer, input, from + 1)
     }
 
     /// Reports the end of a string: `unhook`, or the operating system command.
-    fn report_end<P: CountedPerform<G> + ?Sized, G: Granularity>(
+    fn report_string_end<P: CountedPerform<G> + ?Sized, G: Granularity>(
         &self,
         reader: Reader,
         performer: &mut P,

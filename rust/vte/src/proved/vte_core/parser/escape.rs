@@ -13,7 +13,7 @@ use crate::proved::vte_core::reader::{CountedPerform, Granularity, Reader};
 impl<B: Buffer> Machine<B> {
     /// Begins an escape sequence at an ESC in a text, and reads the bytes after the ESC.
     #[inline(never)]
-    pub(crate) fn read_from_escape<
+    pub(crate) fn read_escape_in_text<
         P: CountedPerform<G> + ?Sized,
         G: Granularity,
         const MAY_STOP: bool,
@@ -32,13 +32,13 @@ impl<B: Buffer> Machine<B> {
             return self.read_short_head::<P, G, MAY_STOP>(reader, performer, input, next + 1);
         }
         self.state = State::Escape;
-        self.read_escape::<P, G, MAY_STOP>(reader, performer, input, next)
+        self.read_after_escape::<P, G, MAY_STOP>(reader, performer, input, next)
     }
 
     /// Reads bytes after ESC, up to the one that says what begins. After `[` it reads the control
     /// sequence too.
     #[inline(never)]
-    pub(crate) fn read_escape<
+    pub(crate) fn read_after_escape<
         P: CountedPerform<G> + ?Sized,
         G: Granularity,
         const MAY_STOP: bool,

@@ -20,7 +20,9 @@ impl<B: Buffer> Machine<B> {
     ) -> usize {
         let end = reader.find_ignored_string_end(input, from);
         match reader.get_byte(input, end) {
-            Some(byte) => self.read_end::<P, G, MAY_STOP>(reader, performer, input, end, byte),
+            Some(byte) => {
+                self.read_ending_byte::<P, G, MAY_STOP>(reader, performer, input, end, byte)
+            }
             None => end,
         }
     }

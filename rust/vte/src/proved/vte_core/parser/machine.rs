@@ -2,16 +2,16 @@
 //! The state of a parser, and what it has collected.
 
 use crate::proved::vte_core::buffer::Buffer;
-use crate::proved::vte_core::head::Collected;
+use crate::proved::vte_core::head::CollectedHead;
 use crate::proved::vte_core::parser::{Open, State, Unfinished};
-use crate::proved::vte_core::store::Store;
+use crate::proved::vte_core::store::CommandStore;
 
 /// A parser over any buffer for operating system commands. The state functions are its methods.
 #[derive(Clone)]
 pub(crate) struct Machine<B: Buffer> {
     pub(crate) state: State,
-    pub(crate) collected: Collected,
-    pub(crate) command: Store<B>,
+    pub(crate) collected: CollectedHead,
+    pub(crate) command: CommandStore<B>,
 }
 
 impl<B: Buffer> Machine<B> {
@@ -19,8 +19,8 @@ impl<B: Buffer> Machine<B> {
     pub(crate) const fn new(bytes: B) -> Self {
         Machine {
             state: State::Text(Unfinished::Empty),
-            collected: Collected::new(),
-            command: Store::new(bytes),
+            collected: CollectedHead::new(),
+            command: CommandStore::new(bytes),
         }
     }
 

@@ -52,7 +52,7 @@ fn collect_front<T: Element, const N: usize>(array: &[T; N], count: usize) -> Ar
 }
 
 /// Returns the number of a state, and the bytes of an unfinished character.
-fn saved_state(state: State) -> [u8; 4] {
+fn encode_state(state: State) -> [u8; 4] {
     match state {
         State::Text(Unfinished::Empty) => [0, 0, 0, 0],
         State::Text(Unfinished::One(first)) => [1, first, 0, 0],
@@ -75,7 +75,7 @@ fn saved_state(state: State) -> [u8; 4] {
 }
 
 /// Returns the state with this number. Each number above 16 also stands for an ignored string.
-fn restored_state(saved: [u8; 4]) -> State {
+fn decode_state(saved: [u8; 4]) -> State {
     let [number, first, second, third] = saved;
     match number {
         0 => State::Text(Unfinished::Empty),
@@ -154,7 +154,7 @@ impl Parser<MAX_OSC_RAW> {
             }
             _ => {}
         }
-        saved.state = saved_state(machine.state);
+        saved.state = encode_state(machine.state);
         let collected = &machine.collected;
         let intermediates = collected.intermediates.as_slice();
         saved.intermediate_count = copy_to_front(intermediates, &mut saved.intermediates);
@@ -178,7 +178,7 @@ impl Parser<MAX_OSC_RAW> {
     #[inline(never)]
     fn restore_open(&mut self, saved: &Saved) {
         let machine = &mut self.machine;
-        machine.state = restored_state(saved.state);
+        machine.state = decode_state(saved.state);
         match machine.state {
             State::ControlSequence(_) | State::DeviceControl(_) => {
                 machine.collected.params = Params::from_raw_parts(

@@ -34,7 +34,7 @@ impl<B: Buffer> Machine<B> {
             None => return Ok(end),
         };
         if ends_sequence(byte) {
-            return Ok(self.read_end::<P, G, MAY_STOP>(reader, performer, input, end, byte));
+            return Ok(self.read_ending_byte::<P, G, MAY_STOP>(reader, performer, input, end, byte));
         }
         if byte == b';' {
             self.command.end_piece();

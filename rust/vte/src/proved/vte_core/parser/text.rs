@@ -13,7 +13,7 @@ const SHORT_TEXT: usize = 128;
 
 /// The end of a run of ASCII, and the byte there if it was read and isn't printed ASCII.
 #[derive(Clone, Copy)]
-struct AsciiRun {
+struct AsciiEnd {
     end: usize,
     next_byte: Option<u8>,
 }
@@ -21,19 +21,19 @@ struct AsciiRun {
 /// Prints the run of ASCII at a position. If it is short, only its first byte is printed.
 #[inline(always)]
 #[allow(unsafe_code)]
-fn print_ascii<P: CountedPerform<G> + ?Sized, G: Granularity>(
+fn print_ascii_run<P: CountedPerform<G> + ?Sized, G: Granularity>(
     reader: Reader,
     performer: &mut P,
     input: &[u8],
     from: usize,
     first: u8,
-) -> AsciiRun {
+) -> AsciiEnd {
     let next_byte = reader.get_byte(input, from + 1);
     if reader.begins_ascii_run(input, from, next_byte) {
         let end = reader.find_ascii_run_end(performer, input, from);
         // SAFETY: ASCII is at `from`, and the search passes whole characters.
         performer.print_text(reader, unsafe { text_between(input, from, end) });
-        return AsciiRun {
+        return AsciiEnd {
             end,
             next_byte: None,
         };
@@ -41,8 +41,8 @@ fn print_ascii<P: CountedPerform<G> + ?Sized, G: Granularity>(
     performer.print_char(reader, char::from(first));
     let end = from + 1;
     match next_byte {
-        Some(byte) if !is_printed_ascii(byte) => AsciiRun { end, next_byte },
-        _ => AsciiRun {
+        Some(byte) if !is_printed_ascii(byte) => AsciiEnd { end, next_byte },
+        _ => AsciiEnd {
             end,
             next_byte: None,
         },
@@ -82,7 +82,7 @@ impl<B: Buffer> Machine<B> {
         while position < input.len() {
             let mut byte = reader.byte_at(input, position);
             if is_printed_ascii(byte) {
-                let run = print_ascii(reader, performer, input, position, byte);
+                let run = print_ascii_run(reader, performer, input, position, byte);
                 position = run.end;
                 match run.next_byte {
                     Some(next_byte) => byte = next_byte,
@@ -93,7 +93,7 @@ impl<B: Buffer> Machine<B> {
             if byte < 0xa0 {
                 if byte == ESCAPE {
                     return self
-                        .read_from_escape::<P, G, MAY_STOP>(reader, performer, input, position);
+                        .read_escape_in_text::<P, G, MAY_STOP>(reader, performer, input, position);
                 }
                 reader.report_lone_byte(performer, byte);
                 position += 1;
@@ -123,7 +123,8 @@ impl<B: Buffer> Machine<B> {
         from: usize,
     ) -> usize {
         let mut position = from;
-        // The length of `prefix` bounds the position, so that the loop has no test of the index.
+        // The length of `prefix` bounds the position, so that the inner loop has no test of the
+        // index. As a function of its own, it would return a position and why it ended.
         let mut prefix = up_to(input, (from + SHORT_TEXT).min(input.len()));
         while position < input.len() {
             while position < prefix.len() {
@@ -139,7 +140,8 @@ impl<B: Buffer> Machine<B> {
                     }
                     continue;
                 } else if byte == ESCAPE {
-                    return self.read_from_escape::<P, G, true>(reader, performer, input, position);
+                    return self
+                        .read_escape_in_text::<P, G, true>(reader, performer, input, position);
                 } else {
                     reader.report_lone_byte(performer, byte);
                 }
@@ -158,9 +160,9 @@ impl<B: Buffer> Machine<B> {
         position
     }
 
-    /// Reads text character by character, for a call that can't stop. Each round reads the byte of
-    /// the next one, which takes fewer instructions here, but more in a call that may stop
-    /// (DECISIONS).
+    /// Reads text character by character, for a call that can't stop.
+    // Each round reads the byte of the next one, which takes fewer instructions here, but more in a
+    // call that may stop (DECISIONS).
     #[inline(always)]
     fn read_characters<P: CountedPerform<G> + ?Sized, G: Granularity>(
         &mut self,
@@ -186,7 +188,7 @@ impl<B: Buffer> Machine<B> {
                 return position;
             }
         }
-        self.read_from_escape::<P, G, false>(reader, performer, input, position)
+        self.read_escape_in_text::<P, G, false>(reader, performer, input, position)
     }
 
     /// Reads the character, malformed sequence or control that begins with a byte of text. Returns

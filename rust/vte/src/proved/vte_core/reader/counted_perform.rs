@@ -1,7 +1,7 @@
 // Written by tools/erase from crates/vte_core/src/reader/counted_perform.rt: edit that one.
 //! Performers, as the functions of a parser see them.
 
-use crate::proved::vte_core::head::Collected;
+use crate::proved::vte_core::head::CollectedHead;
 use crate::proved::vte_core::perform::Perform;
 use crate::proved::vte_core::reader::granularity::{Granularity, ReceiveAs};
 use crate::proved::vte_core::reader::Reader;
@@ -21,7 +21,7 @@ pub(crate) trait CountedPerform<G: Granularity> {
     fn execute_control(&mut self, reader: Reader, byte: u8);
 
     /// Reports that a device control string begins, with the final byte of its head.
-    fn hook(&mut self, reader: Reader, collected: &Collected, ignore: bool, byte: u8);
+    fn hook(&mut self, reader: Reader, collected: &CollectedHead, ignore: bool, byte: u8);
 
     /// Reports a data byte of the device control string.
     fn put_byte(&mut self, reader: Reader, byte: u8);
@@ -36,10 +36,10 @@ pub(crate) trait CountedPerform<G: Granularity> {
     fn osc_dispatch(&mut self, reader: Reader, pieces: &[&[u8]], bell: bool);
 
     /// Reports a control sequence with this final byte.
-    fn csi_dispatch(&mut self, reader: Reader, collected: &Collected, ignore: bool, byte: u8);
+    fn csi_dispatch(&mut self, reader: Reader, collected: &CollectedHead, ignore: bool, byte: u8);
 
     /// Reports an escape sequence with this final byte.
-    fn esc_dispatch(&mut self, reader: Reader, collected: &Collected, byte: u8);
+    fn esc_dispatch(&mut self, reader: Reader, collected: &CollectedHead, byte: u8);
 
     /// Returns whether a call that may stop ends here. The question takes no look.
     fn terminated(&self) -> bool;
@@ -70,7 +70,7 @@ impl<P: ReceiveAs<G> + ?Sized, G: Granularity> CountedPerform<G> for P {
     }
 
     #[inline(always)]
-    fn hook(&mut self, reader: Reader, collected: &Collected, ignore: bool, byte: u8) {
+    fn hook(&mut self, reader: Reader, collected: &CollectedHead, ignore: bool, byte: u8) {
         reader.count_looks(1);
         let (intermediates, action) = (collected.intermediates.as_slice(), char::from(byte));
         Perform::hook(self, &collected.params, intermediates, ignore, action);
@@ -101,14 +101,14 @@ impl<P: ReceiveAs<G> + ?Sized, G: Granularity> CountedPerform<G> for P {
     }
 
     #[inline(always)]
-    fn csi_dispatch(&mut self, reader: Reader, collected: &Collected, ignore: bool, byte: u8) {
+    fn csi_dispatch(&mut self, reader: Reader, collected: &CollectedHead, ignore: bool, byte: u8) {
         reader.count_looks(1);
         let (intermediates, action) = (collected.intermediates.as_slice(), char::from(byte));
         Perform::csi_dispatch(self, &collected.params, intermediates, ignore, action);
     }
 
     #[inline(always)]
-    fn esc_dispatch(&mut self, reader: Reader, collected: &Collected, byte: u8) {
+    fn esc_dispatch(&mut self, reader: Reader, collected: &CollectedHead, byte: u8) {
         reader.count_looks(1);
         let intermediates = collected.intermediates.as_slice();
         Perform::esc_dispatch(self, intermediates, collected.too_many_intermediates, byte);

@@ -120,10 +120,10 @@ fn continues_run(window: &Window, layout: bool) -> bool {
 #[inline(always)]
 fn may_follow(three_back: u8, two_back: u8, one_back: u8, byte: u8, layout: bool) -> bool {
     // Vectors have one instruction for each of these, and two for a comparison.
-    let wanted = two_back
+    let begun_earlier = two_back
         .saturating_sub(0xdf)
         .max(three_back.saturating_sub(0xef));
-    let is_open = one_back.saturating_sub(0xbf).max(wanted) > 0;
+    let is_open = one_back.saturating_sub(0xbf).max(begun_earlier) > 0;
     let is_unused = (byte == 0xc0) | (byte == 0xc1);
     let is_other = ((byte < 0x20) | (byte >= 0xf5)) & !(is_layout(byte) & layout);
     // These exclude the second bytes of overlong forms, surrogates, numbers above U+10FFFF

@@ -42,7 +42,7 @@ returns-else-begins_ignored_string-clause-takes g c = λ s.
     let holds = is_at-escape _ s in
     takes-byte
     (rw (holds.kept, holds.too_many_intermediates) at dispatched.reports.value)
-    (is_at-text_begun dispatched.text)
+    (is_at-text_begun dispatched.in_text)
     (escape-end (class-final _ c.requires.ends) refl key)
 
 pub returns-else-begins_ignored_string-clause-handles : goal.returns-else-begins_ignored_string-clause-handles

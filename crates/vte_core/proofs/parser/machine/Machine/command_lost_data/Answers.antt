@@ -1,8 +1,8 @@
 -- Data of a command were dropped if the store says so: by the state, and so the place, of the parser.
-use Rattle.vte_core.proofs.Common.{arith, HoldsItems, InSystemCommand, InText, IsAtPlace, IsPlaceOfState, left_at, List, Machine, Option, Place, rules, SaysLoss, State, sym, SystemCommand, ℕ, [], ◌∷◌}
+use Rattle.vte_core.proofs.Common.{arith, HoldsItems, InSystemCommand, InText, IsAtPlace, IsPlaceOfState, List, Machine, Option, Place, rules, SaysLoss, State, sym, SystemCommand, to_close_at, ℕ, [], ◌∷◌}
 use Rattle.vte_core.proofs.lemmas.fields.PlaceOfState.{is_at-place}
 use Rattle.vte_core.proofs.lemmas.fields.Stores.{loses_held}
-use Rattle.vte_core.proofs.lemmas.streams.After.{after-left}
+use Rattle.vte_core.proofs.lemmas.streams.After.{after-to_close}
 use Rattle.vte_core.proofs.parser.machine.Machine.command_lost_data.Goals as goal
 
 by_state : {B : Type 0} (limit : Option ℕ) (state : State) (parser : Machine B) (items : List ℕ)
@@ -11,7 +11,7 @@ by_state limit SystemCommand parser items s = s
 by_state limit _ parser items s = absurd s
 
 by_place : {B : Type 0} (limit : Option ℕ) (parser : Machine B) (place : Place)
-    → IsAtPlace limit parser place → SaysLoss (left_at limit place) parser.command.lost
+    → IsAtPlace limit parser place → SaysLoss (to_close_at limit place) parser.command.lost
 by_place limit parser (InText []) s = tt
 by_place limit parser (InText (a ∷ u)) s = tt
 by_place limit parser (InSystemCommand items) s =
@@ -19,4 +19,4 @@ by_place limit parser (InSystemCommand items) s =
 by_place limit parser _ s = tt
 
 pub returns-clause-open : goal.returns-clause-open
-returns-clause-open g c = search (rules, arith, after-left, is_at-place, by_place)
+returns-clause-open g c = search (rules, arith, after-to_close, is_at-place, by_place)

@@ -1,10 +1,11 @@
 -- The second, third and fourth byte of a character of four: each fits or breaks it, or the bytes of the call end. The
--- lemmas `goes-*` say how far it has gone, `completes-*` how it ends there, from the second byte on; `advances-first`
+-- lemmas `goes-*` say how far it has gone, `completes-*` how it ends there, from the second byte on; `advances-four`
 -- leads from the first. A run that it begins is reported as a text.
-use Rattle.vte_core.proofs.Common.{ap, arith, false≢true, IsRun, length, slice_index, subst, sym, ℕ, ◌+◌, ◌<◌, ◌∙◌, ◌≡◌, ◌≤◌}
+use Rattle.vte_core.proofs.Common.{Advances, ap, arith, ChunkCall, Empty, false, false≢true, HasNoRunAt, IsRun, length, Machine, One, slice_index, subst, sym, Text, ℕ, ◌+◌, ◌<◌, ◌∙◌, ◌≡◌, ◌≤◌}
+use Rattle.vte_core.specs.private.Prelude.{BeginsFour, Completes, MayReadByte}
 use Rattle.vte_core.proofs.lemmas.bytes.Scalars.{fourth-broken, second-broken, spells-four, third-broken}
 use Rattle.vte_core.proofs.lemmas.bytes.Runs.{run-append}
-use Rattle.vte_core.proofs.lemmas.positions.Characters.{completes-malformed, completes-then, completes-well_formed, goes-nowhere, goes-second, goes-third, unfinished-some}
+use Rattle.vte_core.proofs.lemmas.positions.Characters.{completes-malformed, completes-then, completes-well_formed, goes_on-nowhere, goes_on-second, goes_on-third, unfinished-some}
 use Rattle.vte_core.proofs.lemmas.positions.BetweenCharacters.{advances-first}
 use Rattle.vte_core.proofs.lemmas.positions.Stretches.{advances-weaker}
 use Rattle.vte_core.proofs.lemmas.positions.TextRuns.{advances-text}
@@ -15,11 +16,15 @@ use Rattle.vte_core.proofs.parser.machine.Machine.complete_four.Goals as goal
 lead_of_three : (first : ℕ) → 0xf0 ≤ first → 0xe0 ≤ first
 lead_of_three first low = omega arith
 
-lead_of_two : (first : ℕ) → 0xf0 ≤ first → 0xc2 ≤ first
-lead_of_two first low = omega arith
-
 next_counted : (next : ℕ) → next + 3 ≡ next + 2 + 1
 next_counted next = omega arith
+
+-- The first byte is a lead byte, C2 to F4, so the call goes on by a character.
+advances-four : {V B given : Type 0} {call : ChunkCall V} {old new : V} {i j first : ℕ} {parser next : Machine B}
+    → MayReadByte call old (Text Empty) parser i first → BeginsFour first
+    → Completes call old new (i + 1) j (One first) next
+    → Advances (given × HasNoRunAt false call.bytes i) call old new i j parser next
+advances-four may_read lead completes = advances-first may_read (omega (arith, lead.low)) lead.high completes
 
 -- The second byte does not fit the first one: broken.
 pub returns-then-not-may_begin_four-clause-advances : goal.returns-then-not-may_begin_four-clause-advances
@@ -27,24 +32,23 @@ returns-then-not-may_begin_four-clause-advances g c =
     let requires = c.requires in
     -- The call's `ensures` says what its result means, and the test that it is false.
     let misfits = sym c.may_begin_four.ensures ∙ c.if-not-may_begin_four.true in
-    -- The first byte is a lead byte, C2 to F4, so the call goes on by a character.
-    advances-first requires.may_read (lead_of_two _ requires.lead.low) requires.lead.high
-    -- No further byte belongs to the character (`goes-nowhere`), and the next one breaks it.
-    (completes-malformed (goes-nowhere c.args.self.now (unfinished-some _ _))
+    advances-four requires.may_read requires.lead
+    -- No further byte belongs to the character (`goes_on-nowhere`), and the next one breaks it.
+    (completes-malformed (goes_on-nowhere c.args.self.now (unfinished-some _ _))
     -- The definition says so, and the code printed U+FFFD.
     (λ more. second-broken c.args.first c.args.second more misfits) requires.may_read.in_state
     c.print_char.ensures.value
     -- The next byte is within the call, and the one that was read.
-    requires.within requires.looked_at)
+    requires.before_end requires.looked_at)
 
 -- The call has two bytes or three: another function reads the last ones, one at a time.
 pub returns-then-next-len-clause-advances : goal.returns-then-next-len-clause-advances
 returns-then-next-len-clause-advances g c =
     let requires = c.requires in
     let second = sym c.may_begin_four.ensures ∙ c.if-not-may_begin_four.false in
-    advances-first requires.may_read (lead_of_two _ requires.lead.low) requires.lead.high
-    (completes-then (goes-second c.args.self.now
-    (lead_of_three _ requires.lead.low) second requires.within requires.looked_at)
+    advances-four requires.may_read requires.lead
+    (completes-then (goes_on-second c.args.self.now
+    (lead_of_three _ requires.lead.low) second requires.before_end requires.looked_at)
     c.continue_near_end.ensures.completes)
 
 -- The third byte does not continue: broken after two.
@@ -53,12 +57,12 @@ returns-then-not-is_continuation-clause-advances g c =
     let requires = c.requires in
     let second = sym c.may_begin_four.ensures ∙ c.if-not-may_begin_four.false in
     let misfits = sym c.is_continuation.ensures ∙ c.if-not-is_continuation.true in
-    advances-first requires.may_read (lead_of_two _ requires.lead.low) requires.lead.high
-    (completes-malformed (goes-second c.args.self.now
-    (lead_of_three _ requires.lead.low) second requires.within requires.looked_at)
+    advances-four requires.may_read requires.lead
+    (completes-malformed (goes_on-second c.args.self.now
+    (lead_of_three _ requires.lead.low) second requires.before_end requires.looked_at)
     (λ more. third-broken c.args.first c.args.second c.byte_at-third.result more misfits)
     requires.may_read.in_state c.print_char-then-not-is_continuation.ensures.value
-    (omega (arith, requires.within, c.if-next-len.false)) c.byte_at-third.ensures.value)
+    (omega (arith, requires.before_end, c.if-next-len.false)) c.byte_at-third.ensures.value)
 
 -- The fourth byte does not continue: broken after three.
 pub returns-then-not-is_continuation-2-clause-advances : goal.returns-then-not-is_continuation-2-clause-advances
@@ -67,13 +71,13 @@ returns-then-not-is_continuation-2-clause-advances g c =
     let second = sym c.may_begin_four.ensures ∙ c.if-not-may_begin_four.false in
     let third = sym c.is_continuation.ensures ∙ c.if-not-is_continuation.false in
     let misfits = sym c.is_continuation-2.ensures ∙ c.if-not-is_continuation-2.true in
-    let within : c.args.from + 1 + 2 < length c.args.input.bytes.now =
-    omega (arith, requires.within, c.if-next-len.false) in
-    advances-first requires.may_read (lead_of_two _ requires.lead.low) requires.lead.high
-    (completes-malformed (goes-third c.args.self.now requires.lead.low second third within requires.looked_at
+    let before_end : c.args.from + 1 + 2 < length c.args.input.bytes.now =
+    omega (arith, requires.before_end, c.if-next-len.false) in
+    advances-four requires.may_read requires.lead
+    (completes-malformed (goes_on-third c.args.self.now requires.lead.low second third before_end requires.looked_at
     c.byte_at-third.ensures.value)
     (λ more. fourth-broken c.args.first c.args.second c.byte_at-third.result c.byte_at-fourth.result more misfits)
-    requires.may_read.in_state c.print_char-then-not-is_continuation-2.ensures.value within
+    requires.may_read.in_state c.print_char-then-not-is_continuation-2.ensures.value before_end
     c.byte_at-fourth.ensures.value)
 
 -- The run that the character begins: the four bytes, and what follows them.
@@ -87,9 +91,9 @@ report_text-requires-clause-run g c =
     let to_third : from + 1 + 1 ≡ from + 2 = omega arith in
     let to_fourth : from + 1 + 2 ≡ from + 3 = omega arith in
     run-append g.P.CountedPerform.layout bytes from (from + 4) c.find_run_end_after_non_ascii-end.result (omega arith)
-    (omega (arith, rest.scans.low))
+    (omega (arith, rest.scans.in_order))
     (run-four bytes from
-    (omega (arith, requires.within, c.if-next-len.false)) requires.may_read.looked_at requires.looked_at
+    (omega (arith, requires.before_end, c.if-next-len.false)) requires.may_read.looked_at requires.looked_at
     (c.byte_at-third.ensures.value ∙ ap (slice_index bytes) to_third)
     (c.byte_at-fourth.ensures.value ∙ ap (slice_index bytes) to_fourth) requires.lead.low requires.lead.high
     (sym c.may_begin_four.ensures ∙ c.if-not-may_begin_four.false)
@@ -105,8 +109,8 @@ returns-then-IN_RUNS-clause-advances g c =
     let in_runs = sym c.IN_RUNS.ensures ∙ c.if-IN_RUNS.true in
     advances-weaker (λ given. absurd (false≢true (sym given.0 ∙ in_runs)))
     (advances-text (requires.no_stop in_runs) requires.may_read.may_go_on requires.may_read.in_state
-    (omega (arith, c.find_run_end_after_non_ascii-end.ensures.scans.low))
-    c.find_run_end_after_non_ascii-end.ensures.scans.high
+    (omega (arith, c.find_run_end_after_non_ascii-end.ensures.scans.in_order))
+    c.find_run_end_after_non_ascii-end.ensures.scans.within
     c.report_text.ensures.printed)
 
 -- Four bytes spell a character.
@@ -119,10 +123,10 @@ returns-clause-advances g c =
     let spells =
     spells-four requires.lead.low requires.lead.high
     second third fourth in
-    let within : c.args.from + 1 + 2 < length c.args.input.bytes.now =
-    omega (arith, requires.within, c.if-next-len.false) in
-    advances-first requires.may_read (lead_of_two _ requires.lead.low) requires.lead.high
-    (completes-well_formed (goes-third c.args.self.now requires.lead.low second third within requires.looked_at
+    let before_end : c.args.from + 1 + 2 < length c.args.input.bytes.now =
+    omega (arith, requires.before_end, c.if-next-len.false) in
+    advances-four requires.may_read requires.lead
+    (completes-well_formed (goes_on-third c.args.self.now requires.lead.low second third before_end requires.looked_at
     c.byte_at-third.ensures.value)
     (λ more. (spells.is_whole, c.character_of_four.ensures)) requires.may_read.in_state
-    c.report_character.ensures.value within c.byte_at-fourth.ensures.value (next_counted _))
+    c.report_character.ensures.value before_end c.byte_at-fourth.ensures.value (next_counted _))

@@ -1,7 +1,7 @@
 -- The second and third byte of a character of three: each fits or breaks it, or the bytes of the call end.
 use Rattle.vte_core.proofs.Common.{arith, rules, sym, ℕ, ◌+◌, ◌∙◌, ◌≡◌}
 use Rattle.vte_core.proofs.lemmas.bytes.Scalars.{second-broken, spells-three, third-broken}
-use Rattle.vte_core.proofs.lemmas.positions.Characters.{completes-all, completes-malformed, completes-well_formed, goes-nowhere, goes-second, unfinished-some}
+use Rattle.vte_core.proofs.lemmas.positions.Characters.{completes-all, completes-malformed, completes-well_formed, goes_on-nowhere, goes_on-second, unfinished-some}
 use Rattle.vte_core.proofs.parser.machine.Machine.complete_three.Goals as goal
 
 -- `omega` proves this over plain numbers, so that it has little to read.
@@ -13,14 +13,14 @@ pub returns-then-not-may_begin_three-clause-completes : goal.returns-then-not-ma
 returns-then-not-may_begin_three-clause-completes g c =
     let requires = c.requires.may_read in
     let misfits = sym c.may_begin_three.ensures ∙ c.if-not-may_begin_three.true in
-    completes-malformed (goes-nowhere c.args.self.now (unfinished-some _ _))
+    completes-malformed (goes_on-nowhere c.args.self.now (unfinished-some _ _))
     (λ more. second-broken c.args.first c.args.second more misfits) requires.in_state c.print_char.ensures.value
-    requires.within
+    requires.before_end
     requires.looked_at
 
 -- The call ends after two bytes: still open.
 pub returns-then-second_position-len-clause-completes : goal.returns-then-second_position-len-clause-completes
-returns-then-second_position-len-clause-completes g c = search (rules, arith, completes-all, goes-second)
+returns-then-second_position-len-clause-completes g c = search (rules, arith, completes-all, goes_on-second)
 
 -- The third byte does not continue: broken after two.
 pub returns-then-not-is_continuation-clause-completes : goal.returns-then-not-is_continuation-clause-completes
@@ -28,10 +28,11 @@ returns-then-not-is_continuation-clause-completes g c =
     let requires = c.requires.may_read in
     let second = sym c.may_begin_three.ensures ∙ c.if-not-may_begin_three.false in
     let misfits = sym c.is_continuation.ensures ∙ c.if-not-is_continuation.true in
-    completes-malformed (goes-second c.args.self.now c.requires.lead.low second requires.within requires.looked_at)
+    completes-malformed
+    (goes_on-second c.args.self.now c.requires.lead.low second requires.before_end requires.looked_at)
     (λ more. third-broken c.args.first c.args.second c.byte_at-third.result more misfits) requires.in_state
     c.print_char-then-not-is_continuation.ensures.value
-    (omega (arith, requires.within, c.if-second_position-len.false)) c.byte_at-third.ensures.value
+    (omega (arith, requires.before_end, c.if-second_position-len.false)) c.byte_at-third.ensures.value
 
 -- Three bytes spell a character.
 pub returns-clause-completes : goal.returns-clause-completes
@@ -41,6 +42,7 @@ returns-clause-completes g c =
     let third = sym c.is_continuation.ensures ∙ c.if-not-is_continuation.false in
     let spells =
     spells-three c.requires.lead.low c.requires.lead.high second third in
-    completes-well_formed (goes-second c.args.self.now c.requires.lead.low second requires.within requires.looked_at)
+    completes-well_formed
+    (goes_on-second c.args.self.now c.requires.lead.low second requires.before_end requires.looked_at)
     (λ more. (spells.is_whole, c.character_of_three.ensures)) requires.in_state c.report_character.ensures.value
-    (omega (arith, requires.within, c.if-second_position-len.false)) c.byte_at-third.ensures.value (counted _)
+    (omega (arith, requires.before_end, c.if-second_position-len.false)) c.byte_at-third.ensures.value (counted _)

@@ -1,15 +1,15 @@
--- Each byte goes on with the character (`goes-more`), until one completes or breaks it, or no byte is left.
+-- Each byte goes on with the character (`goes_on-more`), until one completes or breaks it, or no byte is left.
 use Rattle.vte_core.proofs.Common.{arith, refl, rules}
-use Rattle.vte_core.proofs.lemmas.positions.Characters.{completes-all, completes-malformed, completes-well_formed, goes-more, goes-nowhere}
+use Rattle.vte_core.proofs.lemmas.positions.Characters.{completes-all, completes-malformed, completes-well_formed, goes_on-more, goes_on-nowhere}
 use Rattle.vte_core.proofs.parser.machine.Machine.continue_character.Goals as goal
 
 pub loop-position-init : goal.loop-position-init
 loop-position-init g c =
-    record { goes = goes-nowhere c.args.self.now c.requires.some_open; same = refl; spends = search rules }
+    record { goes = goes_on-nowhere c.args.self.now c.requires.some_open; same = refl; spends = search rules }
 
 -- After one more byte that continues the character, the loop goes on.
 pub loop-position-preserved : goal.loop-position-preserved
-loop-position-preserved g c = search (rules, arith, goes-more)
+loop-position-preserved g c = search (rules, arith, goes_on-more)
 
 -- The byte ends the character.
 pub returns-in-WellFormed-clause-completes : goal.returns-in-WellFormed-clause-completes

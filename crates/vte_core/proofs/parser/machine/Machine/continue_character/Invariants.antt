@@ -1,5 +1,5 @@
 -- The call is inside the character that was begun, and has reported nothing.
-use Rattle.vte_core.proofs.Common.{ahead, chunk_call, eqb, not, per_byte, seen, SpendsWithin, ◌≡◌}
+use Rattle.vte_core.proofs.Common.{caller_looks, chunk_call, eqb, lookahead, not, per_byte, SpendsWithin, ◌≡◌}
 use Rattle.vte_core.proofs.lemmas.positions.Characters.{GoesOn}
 use Rattle.vte_core.proofs.parser.machine.Machine.continue_character.Given as goal
 
@@ -9,6 +9,6 @@ invariant-loop-position g l = record {
       g.B.Buffer.limit l.input.bytes.now) (g.P.CountedPerform.value_of l.initial.performer) l.from l.position l.fn.begun
       l.unfinished l.self;
   same : g.P.CountedPerform.value_of l.performer ≡ g.P.CountedPerform.value_of l.initial.performer;
-  spends : SpendsWithin (per_byte 1) (seen 0) (ahead 0)
+  spends : SpendsWithin (per_byte 1) (caller_looks 0) (lookahead 0)
       l.input.bytes.now l.from l.position l.initial.self l.self l.initial.reader l.reader;
 }

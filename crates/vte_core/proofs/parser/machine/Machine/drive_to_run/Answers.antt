@@ -8,11 +8,11 @@ use Rattle.vte_core.proofs.parser.machine.Machine.drive_to_run.Goals.{else-loop-
 use Rattle.vte_core.proofs.parser.machine.Machine.drive_to_run.Goals as goal
 
 -- A stretch that reports no run leads from one position before a run to another.
-before_run-then : {V B known : Type 0} {call : ChunkCall V} {old value new : V} {i j : ℕ}
-    {before parser next : Machine B} → IsBeforeRun call old value i before parser → known
-    → Advances known call value new i j parser next → IsBeforeRun call old new j before next
+before_run-then : {V B known : Type 0} {call : ChunkCall V} {first value new : V} {i j : ℕ}
+    {before parser next : Machine B} → IsBeforeRun call first value i before parser → known
+    → Advances known call value new i j parser next → IsBeforeRun call first new j before next
 before_run-then is_before given advances = record {
-  is_at_position = λ stream has_read. advances.goes_on _ stream (is_before.is_at_position stream has_read);
+  is_at_position = λ stream has_read. advances.is_at_position _ stream (is_before.is_at_position stream has_read);
   outside_runs = λ stream has_read. reports-more (is_before.outside_runs stream has_read)
       (advances.outside_runs given _ stream (is_before.is_at_position stream has_read));
 }
@@ -27,7 +27,7 @@ returns-then-end-position-clause-comes g c =
     let invariant = c.loop-position.invariant in
     let found = c.find_run_end-end.ensures in
     let settled = settled-text c.in-Text.is (invariant.settled (omega arith)) in
-    comes-to_run (has-text settled (omega arith) found.scans.high found.scans.passed found.ended) (omega arith)
+    comes-to_run (has-text settled (omega arith) found.scans.within found.scans.passed found.ended) (omega arith)
     (sym c.terminated.ensures ∙ c.if-not-terminated.true) invariant.before_run.is_at_position
 
 -- In data, the search has found data that are put.
@@ -35,7 +35,7 @@ pub returns-then-end-position-2-clause-comes : goal.returns-then-end-position-2-
 returns-then-end-position-2-clause-comes g c =
     let invariant = c.loop-position.invariant in
     let found = c.find_device_data_end-end.ensures in
-    comes-to_run (has-data c.in-DeviceData.is (omega arith) found.high found.passed found.ended) (omega arith)
+    comes-to_run (has-data c.in-DeviceData.is (omega arith) found.within found.passed found.ended) (omega arith)
     (sym c.terminated.ensures ∙ c.if-not-terminated.true) invariant.before_run.is_at_position
 
 -- In a text that begins with no run, what is read belongs to no run.
@@ -79,7 +79,7 @@ returns-in_err-position-in_default g c =
     record {
       comes = search rules;
       refuses = rw (error.1 ∙ ap Err error.2) (record {
-        within = omega (arith, c.loop-position-test.true, c.len.ensures, failed.refuses.stays);
+        before_end = omega (arith, c.loop-position-test.true, c.len.ensures, failed.refuses.stays);
         is_at_position = refused.is_at_position;
         may_go_on = failed.refuses.may_go_on;
         refused = failed.refuses.refused;
@@ -93,7 +93,7 @@ pub returns-clause-comes : goal.returns-clause-comes
 returns-clause-comes g c =
     let invariant = c.loop-position.invariant in
     let empty = c.empty.ensures in
-    comes-nowhere invariant.spends.high empty.start empty.end empty.kind invariant.before_run.is_at_position
+    comes-nowhere invariant.spends.within empty.start empty.end empty.kind invariant.before_run.is_at_position
     (λ left. elim c.loop-position-test.branch [
       | then-loop-position-test+else-not-terminated branch ↦ sym branch.terminated.ensures
           ∙ branch.if-not-terminated.false

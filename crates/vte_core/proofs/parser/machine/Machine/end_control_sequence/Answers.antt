@@ -30,7 +30,7 @@ returns-clause-takes g c = λ head s.
       performed = dispatch.reports.value
           ∙ ap (g.P.CountedPerform.step (g.P.CountedPerform.value_of c.args.performer.now))
           (dispatched-ready CsiDispatch c.args.byte ready);
-      is_at = is_at-text_begun dispatch.text;
+      is_at = is_at-text_begun dispatch.in_text;
       leads = control-dispatched (class-final _ c.requires.final_byte) ready.well_shaped;
     }
 

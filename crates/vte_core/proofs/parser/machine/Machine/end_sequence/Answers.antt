@@ -18,7 +18,8 @@ returns-clause-takes g c = λ place s b.
     let is_cancel = ends_by_cancel c.args.byte c.requires c.if-byte-eq-ESCAPE.false in
     takes_bytes-one (cancel_is_no_escape c.args.byte is_cancel)
     (takes-byte
-    (c.execute_control.ensures.value ∙ ap (λ v. step v (Execute c.args.byte)) (c.report_end.ensures.reported place s b)
+    (c.execute_control.ensures.value
+    ∙ ap (λ v. step v (Execute c.args.byte)) (c.report_string_end.ensures.reported place s b)
     ∙ sym
     (after_events-append step (g.P.CountedPerform.value_of c.args.performer.now) (closing_events_at limit place)
     (Execute c.args.byte ∷ [])))

@@ -7,13 +7,13 @@ use Rattle.vte_core.proofs.lemmas.positions.CallEnds.{starts-at, starts-inside}
 use Rattle.vte_core.proofs.parser.machine.Machine.finish_character.Goals as goal
 
 -- A text without an open character.
-pub returns-then-is_nothing-clause-is_at_position : goal.returns-then-is_nothing-clause-is_at_position
-returns-then-is_nothing-clause-is_at_position g c =
+pub returns-then-is_empty-clause-is_at_position : goal.returns-then-is_empty-clause-is_at_position
+returns-then-is_empty-clause-is_at_position g c =
     search (rules, arith, starts-at, settled-same_state, settled-nothing)
 
 -- An open character: what completes it begins inside it.
-pub returns-else-is_nothing-clause-is_at_position : goal.returns-else-is_nothing-clause-is_at_position
-returns-else-is_nothing-clause-is_at_position g c =
+pub returns-else-is_empty-clause-is_at_position : goal.returns-else-is_empty-clause-is_at_position
+returns-else-is_empty-clause-is_at_position g c =
     λ stream has_read.
     c.continue_character.ensures.completes.is_at_position _ stream c.args.self.now c.in-Text.is (starts-inside has_read)
 
@@ -23,21 +23,21 @@ returns-in_default-clause-is_at_position g c = λ stream has_read.
     starts-at (settled-outside _ c.in_default.not-Text) has_read
 
 -- The same three, of what is reported by no run.
-pub returns-then-is_nothing-clause-outside_runs : goal.returns-then-is_nothing-clause-outside_runs
-returns-then-is_nothing-clause-outside_runs g c stream has_read =
+pub returns-then-is_empty-clause-outside_runs : goal.returns-then-is_empty-clause-outside_runs
+returns-then-is_empty-clause-outside_runs g c stream has_read =
     reports-nothing
-    (settled-same_state c.in-Text.is (settled-nothing c.in-Text.begun (c.is_nothing.ensures.0 c.if-is_nothing.true)))
+    (settled-same_state c.in-Text.is (settled-nothing c.in-Text.begun (c.is_empty.ensures.0 c.if-is_empty.true)))
     has_read
 
 pub returns-in_default-clause-outside_runs : goal.returns-in_default-clause-outside_runs
 returns-in_default-clause-outside_runs g c stream has_read =
     reports-nothing (settled-outside _ c.in_default.not-Text) has_read
 
-pub returns-else-is_nothing-clause-outside_runs : goal.returns-else-is_nothing-clause-outside_runs
-returns-else-is_nothing-clause-outside_runs g c stream has_read =
+pub returns-else-is_empty-clause-outside_runs : goal.returns-else-is_empty-clause-outside_runs
+returns-else-is_empty-clause-outside_runs g c stream has_read =
     let reported =
     c.continue_character.ensures.completes.adds _ stream c.args.self.now c.in-Text.is (starts-inside has_read) in
     reports-open reported
     (λ closed.
     opens-text c.args.self.now c.in-Text.is
-    (λ empty. false≢true (sym c.if-is_nothing.false ∙ c.is_nothing.ensures.1 empty)) has_read closed)
+    (λ empty. false≢true (sym c.if-is_empty.false ∙ c.is_empty.ensures.1 empty)) has_read closed)

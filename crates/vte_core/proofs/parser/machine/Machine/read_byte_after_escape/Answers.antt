@@ -35,7 +35,7 @@ returns-then-is_head_byte-clause-takes g c =
     (takes-at_escape c.args.self.now
     (λ holds. takes-byte
     (rw (holds.kept, holds.too_many_intermediates) at dispatched.reports.value)
-    (is_at-text_begun dispatched.text)
+    (is_at-text_begun dispatched.in_text)
     (escape-end refl ends (below_finals b (below_final b head)))))
 
 -- A control is executed; the place stays after ESC.

@@ -42,7 +42,7 @@ returns-in-Some g c =
             takes-byte refl (is_at-by refl is_at)
             (device-dropped refl dropped))) tt)
       ];
-      moves = search rules;
+      reads_within = search rules;
     }
 
 -- All bytes are of the head.
@@ -52,5 +52,5 @@ returns g c =
     let all = match-none _ c.read_head-head.result.next_byte c.in_default.not-Some read.reads.next_byte in
     record {
       advances = advances-head DeviceHead c.requires.in_state read.reads.head c.requires.may_go_on refl;
-      moves = search rules;
+      reads_within = search rules;
     }

@@ -45,7 +45,7 @@ returns-then-not-this-clause-advances g c =
     first-put c.args.input.bytes.now c.byte_at-byte.ensures.value
     (sym c.is_device_data.ensures ∙ c.if-not-is_device_data.false) found.passed in
     advances-then invariant.advances
-    (advances-data invariant.in_state (omega (arith, found.low)) found.high are_put
+    (advances-data invariant.in_state (omega (arith, found.in_order)) found.within are_put
     (rw c.if-not-this.true refl) c.report_data.ensures.put)
 
 -- A byte that is no data ends them or is dropped.

@@ -27,10 +27,10 @@ advances-by {call} {parser} (suc n) i in_state within are_ignored may_go_on =
 advances-ignored : {outside V B : Type 0} {call : ChunkCall V} {value : V} {i j : ℕ} {parser : Machine B}
     → parser.state ≡ IgnoredString → i ≤ j → j ≤ length call.bytes → AreIgnored call.bytes i j → MayGoOn call value
     → Advances outside call value value i j parser parser
-advances-ignored {i} {j} in_state low high are_ignored may_go_on =
-    advances-to_same (omega (arith, low))
-    (advances-by (j - i) i in_state (omega (arith, low, high))
-    (λ k from to. are_ignored k from (omega (arith, low, to))) may_go_on)
+advances-ignored {i} {j} in_state in_order within are_ignored may_go_on =
+    advances-to_same (omega (arith, in_order))
+    (advances-by (j - i) i in_state (omega (arith, in_order, within))
+    (λ k from to. are_ignored k from (omega (arith, in_order, to))) may_go_on)
 
 pub returns-in-None-clause-advances : goal.returns-in-None-clause-advances
 returns-in-None-clause-advances g c = search (rules, arith, advances-ignored)

@@ -72,8 +72,8 @@ returns-then-dispatches_escape-clause-advances g c =
     (dispatch_ends_nothing (class_of b) ends)
     (takes-in_escape c.loop-position.self
     (λ ints holds. takes-byte
-    (rw (holds.kept, holds.too_many_intermediates) at dispatched.reports.value) (is_at-text_begun dispatched.text)
-    (intermediate-end refl ends))) (settled-same_state dispatched.text tt)))
+    (rw (holds.kept, holds.too_many_intermediates) at dispatched.reports.value) (is_at-text_begun dispatched.in_text)
+    (intermediate-end refl ends))) (settled-same_state dispatched.in_text tt)))
 
 -- CAN, SUB or ESC: the sequence is left without being reported.
 pub returns-then-ends_sequence-clause-advances : goal.returns-then-ends_sequence-clause-advances

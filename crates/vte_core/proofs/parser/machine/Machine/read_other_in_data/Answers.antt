@@ -20,7 +20,7 @@ returns-clause-advances g c =
           let is_terminator = branch.if-byte-eq-STRING_TERMINATOR.true in
           rw (branch.self-is, branch.performer-is)
           (advances-given c.requires.no_data
-          (advances-in requires.in_state requires.within requires.looked_at requires.may_go_on ordinary
+          (advances-in requires.in_state requires.before_end requires.looked_at requires.may_go_on ordinary
           (takes-in_data parser
           (takes-byte branch.unhook.ensures.value (record { fields = (refl, refl) })
           (data-terminator (terminator_is_high is_terminator) (rw is_terminator refl)))) tt))
@@ -31,7 +31,7 @@ returns-clause-advances g c =
           (ends_no_data c.args.byte ordinary branch.if-byte-eq-STRING_TERMINATOR.false) c.requires.no_data in
           rw (branch.self-is, branch.performer-is)
           (advances-given c.requires.no_data
-          (advances-in requires.in_state requires.within requires.looked_at requires.may_go_on ordinary
+          (advances-in requires.in_state requires.before_end requires.looked_at requires.may_go_on ordinary
           (takes-in_data parser (takes-byte refl (is_at-by requires.in_state tt) dropped))
           (settled-same_state requires.in_state tt)))
     ]

@@ -28,13 +28,13 @@ loop-byte-preserved g c =
       may_read = record {
         in_state = invariant.may_read.in_state;
         may_go_on = λ _. sym c.terminated.ensures ∙ c.if-terminated.false;
-        within = omega arith;
+        before_end = omega arith;
         looked_at = c.byte_at-byte-in-loop-byte.ensures.value;
       };
       other = sym c.is_printed_ascii.ensures ∙ c.if-is_printed_ascii.false;
       lone = sym c.is_lead-else-is_printed_ascii.ensures ∙ c.if-is_lead-2.false;
       spends = search rules;
-      seen = search rules;
+      caller_looks = search rules;
     }
 
 -- The byte was the last one, or the performer was terminated after it.
@@ -50,8 +50,8 @@ returns-then-is_printed_ascii-clause-advances g c =
     reported.control reported.malformed
 
 -- ESC: the looks at the bytes before it and at the sequence add up.
-pub returns-clause-moves : goal.returns-clause-moves
-returns-clause-moves g c = search (rules, arith)
+pub returns-clause-reads_within : goal.returns-clause-reads_within
+returns-clause-reads_within g c = search (rules, arith)
 
 pub returns-clause-advances : goal.returns-clause-advances
-returns-clause-advances g c = advances-then c.loop-byte.invariant.advances c.read_from_escape.ensures.advances
+returns-clause-advances g c = advances-then c.loop-byte.invariant.advances c.read_escape_in_text.ensures.advances

@@ -31,9 +31,9 @@ returns-clause-advances g c =
     let here = rw c.in-Some.is at c.get_byte.ensures in
     let after_data : Machine _ =
     record { state = c.args.self.now.state; collected = c.args.self.now.collected; command = c.push_data.new.self } in
-    let within : c.find_command_data_end-end.result < length c.args.input.bytes.now = here.0 in
+    let before_end : c.find_command_data_end-end.result < length c.args.input.bytes.now = here.0 in
     let ordinary = sym c.ends_sequence.ensures ∙ c.if-ends_sequence.false in
-    let no_data : IsCommandData byte → ⊥ = λ is_data. found.ended within (rw here.1 at is_data) in
+    let no_data : IsCommandData byte → ⊥ = λ is_data. found.ended before_end (rw here.1 at is_data) in
     advances-then
     (advances-items {next =
     after_data} requires found in_state c.reserve_if_kept.ensures.same_items c.push_data.ensures.holds)
@@ -42,7 +42,7 @@ returns-clause-advances g c =
       | then-byte-eq59 branch ↦
           let is_semicolon : byte ≡ 0x3b = branch.if-byte-eq59.true in
           rw (branch.self-is, branch.performer-is)
-          (advances-given tt (advances-in in_state within here.1 requires.may_go_on ordinary
+          (advances-given tt (advances-in in_state before_end here.1 requires.may_go_on ordinary
           (takes-in_system_command after_data (λ items keeps. takes-byte refl
           (is_at-by in_state
           (subst (λ b. HoldsItems limit branch.end_piece.new.self (items ++ b ∷ [])) (sym is_semicolon)
@@ -51,7 +51,7 @@ returns-clause-advances g c =
       -- BEL: the command is reported.
       | else-byte-eq59+then-byte-eq-BELL branch ↦
           rw (branch.self-is, branch.performer-is)
-          (advances-given tt (advances-in in_state within here.1 requires.may_go_on ordinary
+          (advances-given tt (advances-in in_state before_end here.1 requires.may_go_on ordinary
           (takes-in_system_command after_data
           (λ items keeps. takes-byte
           (rw (pieces_held keeps) branch.dispatch.ensures.value) (record { fields = (refl, refl) })
@@ -60,7 +60,7 @@ returns-clause-advances g c =
       -- Another control is dropped.
       | else-byte-eq59+else-byte-eq-BELL branch ↦
           rw (branch.self-is, branch.performer-is)
-          (advances-given tt (advances-in in_state within here.1 requires.may_go_on ordinary
+          (advances-given tt (advances-in in_state before_end here.1 requires.may_go_on ordinary
           (takes-in_system_command after_data
           (λ items keeps. takes-byte refl (is_at-by in_state keeps)
           (command-control (other_is_control byte ordinary no_data branch.if-byte-eq59.false)

@@ -5,7 +5,7 @@ use Rattle.vte_core.proofs.parser.saved.Parser+MAX_OSC_RAW.save_open.Goals as go
 
 pub returns : goal.returns
 returns c = λ stream has_read. reads_saved (record {
-  state = c.saved_state-saved.ensures;
+  state = c.encode_state-saved.ensures;
   intermediates = search rules;
   too_many_intermediates = search rules;
   params = search rules;

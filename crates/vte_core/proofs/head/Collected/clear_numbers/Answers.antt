@@ -1,7 +1,0 @@
--- A head begins with no intermediates and no numbers.
-use Rattle.vte_core.proofs.Common.{arith, rules}
-use Rattle.vte_core.proofs.lemmas.fields.Heads.{counts-nothing, holds-nothing}
-use Rattle.vte_core.proofs.head.Collected.clear_numbers.Goals as goal
-
-pub returns-clause-head : goal.returns-clause-head
-returns-clause-head c = search (rules, arith, holds-nothing, counts-nothing)

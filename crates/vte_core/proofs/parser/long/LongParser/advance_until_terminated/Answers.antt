@@ -1,8 +1,0 @@
--- As for `advance_text_until_terminated`.
-use Rattle.vte_core.proofs.lemmas.positions.Contracts.{advance-until}
-use Rattle.vte_core.proofs.parser.long.LongParser.advance_until_terminated.Goals as goal
-
-pub returns : goal.returns
-returns g c =
-    rw (← c.new.ensures)
-    (advance-until c.drive.result c.drive.ensures.reads c.drive.ensures.refuses c.drive.ensures.costs)

@@ -1,0 +1,7 @@
+-- What the machine's `drive` ensures, of a reader that begins with no looks.
+use Rattle.vte_core.proofs.Common.{arith, rules}
+use Rattle.vte_core.proofs.lemmas.positions.Contracts.{costs-added}
+use Rattle.vte_core.proofs.parser.long_parser.LongParser.drive.Goals as goal
+
+pub returns : goal.returns
+returns g c = search (rules, arith, costs-added)

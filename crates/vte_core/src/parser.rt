@@ -4,18 +4,20 @@ ghost use Rattle.vte_core.specs.Advance.{ReadsBytes, ReadsUntilTerminated};
 ghost use Rattle.vte_core.specs.EarlyStop.{NoCharacterStops};
 ghost use Rattle.vte_core.specs.Open.{SaysOpen, SaysWhetherOpen};
 ghost use Rattle.vte_core.specs.Outcome.{SaysLoss};
-ghost use Rattle.vte_core.specs.Parser.{HasRead, IsCloneOfParser, lost_data, reading_of};
+ghost use Rattle.vte_core.specs.Parser.{HasRead, IsCloneOfParser, lost_data, parser_facts};
 ghost use Rattle.vte_core.specs.Stream.{outcome};
 
 mod character;
 mod control_sequence;
 mod device_control;
 mod drive;
+mod drive_one;
+mod drive_to_run;
 mod ending;
 mod escape;
 mod ignored_string;
 // cargo: #[cfg(any(feature = "std", feature = "ansi"))]
-mod long;
+mod long_parser;
 mod machine;
 mod open;
 mod refused;
@@ -23,14 +25,13 @@ mod refused;
 mod saved;
 mod system_command;
 mod text;
-mod to_run;
 
 use crate::head::HeadProgress;
 use crate::reader::{Chunk, CountedPerform, Granularity, Looks};
 use crate::utf8::Unfinished;
 use arrayvec::ArrayVec;
 // cargo: #[cfg(any(feature = "std", feature = "ansi"))]
-pub use long::LongParser;
+pub use long_parser::LongParser;
 use machine::Machine;
 pub use open::Open;
 pub use refused::Refused;
@@ -113,7 +114,7 @@ impl<const OSC_RAW_BUF_SIZE: usize> Default for Parser<OSC_RAW_BUF_SIZE> {
 
 /// A clone goes on as the parser would.
 impl<const OSC_RAW_BUF_SIZE: usize> Clone for Parser<OSC_RAW_BUF_SIZE> {
-    ghost is_clone = { λ parser clone. IsCloneOfParser (reading_of parser) (reading_of clone) };
+    ghost is_clone = { λ parser clone. IsCloneOfParser (parser_facts parser) (parser_facts clone) };
 
     // A clone doesn't allocate.
     ghost is_infallible = { λ _. ⊤ };
@@ -162,7 +163,7 @@ impl<const OSC_RAW_BUF_SIZE: usize> Parser<OSC_RAW_BUF_SIZE> {
     pub fn command_lost_data(&self) -> bool
         ensures lost { result ≡ lost_data self.now }
         ensures open { (stream : List ℕ) → HasRead self.now stream
-            → SaysLoss (outcome (Some OSC_RAW_BUF_SIZE) stream).left result }
+            → SaysLoss (outcome (Some OSC_RAW_BUF_SIZE) stream).to_close result }
     {
         self.machine.command_lost_data()
     }
@@ -176,13 +177,13 @@ impl<const OSC_RAW_BUF_SIZE: usize> Parser<OSC_RAW_BUF_SIZE> {
     ) -> usize
         requires no_stop { G.IN_RUNS ≡ true → MAY_STOP ≡ true
             → NoCharacterStops P.layout P.step P.is_terminated }
-        ensures all { MAY_STOP ≡ false
+        ensures reads_all { MAY_STOP ≡ false
             → ReadsBytes P.step (P.value_of performer.old) (P.value_of performer.new)
-            chunk.entry.bytes.now (reading_of self.old) (reading_of self.new) }
+            chunk.entry.bytes.now (parser_facts self.old) (parser_facts self.new) }
         ensures stops { MAY_STOP ≡ true
             → ReadsUntilTerminated P.step P.is_terminated result (P.value_of performer.old)
-            (P.value_of performer.new) chunk.entry.bytes.now (reading_of self.old)
-            (reading_of self.new) }
+            (P.value_of performer.new) chunk.entry.bytes.now (parser_facts self.old)
+            (parser_facts self.new) }
     {
         let (mut reader, input) = chunk.into_reader();
         let result = self

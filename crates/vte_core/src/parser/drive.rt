@@ -1,18 +1,47 @@
-//! The loop over the bytes of a call.
+//! The bytes of a call, and the loop over them.
 ghost use Rattle.std.specs.Prelude.{IfErr, IfOk, length, List, true, ℕ, ◌<◌, ◌≡◌};
-ghost use Rattle.vte_core.specs.private.Prelude.{Advances, ahead, chunk_call, Costs, HasReadWithLimit, IsAtPosition, IsOutsideTextAndData, IsRefusedAt, IsSettled, looks_of, MayReadAt, MovesWithin, NoCharacterStops, per_byte, read_count, ReadsUntilRefused, ReadsUpTo, ReportsOutsideRuns, seen, SpendsWithin};
+ghost use Rattle.vte_core.specs.private.Prelude.{Advances, caller_looks, chunk_call, Costs, HasReadWithLimit, IsAtPosition, IsOutsideTextAndData, IsRefusedAt, IsSettled, lookahead, looks_of, MayReadAt, NoCharacterStops, per_byte, read_count, ReadsUntilRefused, ReadsUpTo, ReadsWithin, ReportsOutsideRuns, SpendsWithin};
 
 use crate::buffer::Buffer;
 use crate::parser::{Machine, Refused, State};
 use crate::reader::{CountedPerform, Granularity, Input, Reader};
 
 impl<B: Buffer> Machine<B> {
+    /// Reads the bytes of a call as `drive_loop` does, and one byte that can't stop it without a
+    /// loop.
+    #[inline(always)]
+    pub(crate) fn drive<P: CountedPerform<G>, G: Granularity, const MAY_STOP: bool>(
+        &mut self,
+        reader: &mut Reader,
+        performer: &mut P,
+        input: Input<'_>,
+    ) -> Result<usize, Refused>
+        requires no_stop { G.IN_RUNS ≡ true → MAY_STOP ≡ true
+            → NoCharacterStops P.layout P.step P.is_terminated }
+        ensures reads { IfOk result
+            (λ read. ReadsUpTo
+            (chunk_call MAY_STOP P.step P.is_terminated B.limit input.entry.bytes.now)
+            (P.value_of performer.old) (P.value_of performer.new) read self.old self.new) }
+        ensures refuses { IfErr result
+            (λ refused. ReadsUntilRefused
+            (chunk_call MAY_STOP P.step P.is_terminated B.limit input.entry.bytes.now)
+            (P.value_of performer.old) (P.value_of performer.new) refused.read self.old self.new) }
+        ensures costs { Costs (per_byte 5) input.entry.bytes.now result
+            (read_count result) self.old self.new
+            (looks_of reader.old) (looks_of reader.new) }
+    {
+        if !MAY_STOP && input.len() == 1 {
+            return self.drive_one(reader, performer, input);
+        }
+        self.drive_loop::<P, G, MAY_STOP>(reader, performer, input)
+    }
+
     /// Reads the bytes of a call, as many as there is memory for, and returns how many: all of
     /// them, or up to a stop if `MAY_STOP`.
     // inlined into a program's own function, its loops would keep their variables on the stack
     // (DECISIONS)
     // cargo: #[inline(never)]
-    pub(crate) fn drive<P: CountedPerform<G>, G: Granularity, const MAY_STOP: bool>(
+    fn drive_loop<P: CountedPerform<G>, G: Granularity, const MAY_STOP: bool>(
         &mut self,
         reader: &mut Reader,
         performer: &mut P,
@@ -42,7 +71,8 @@ impl<B: Buffer> Machine<B> {
         Ok(position)
     }
 
-    /// Completes the character that an earlier call began, if one is open.
+    /// Continues the character that an earlier call began, if one is open, as far as the bytes of
+    /// this call go.
     pub(crate) fn finish_character<P: CountedPerform<G>, G: Granularity, const MAY_STOP: bool>(
         &mut self,
         reader: &mut Reader,
@@ -53,14 +83,14 @@ impl<B: Buffer> Machine<B> {
             IsAtPosition (chunk_call MAY_STOP P.step P.is_terminated B.limit input.entry.bytes.now)
             (P.value_of performer.old) (P.value_of performer.new) stream result self.new }
         ensures settled { result < length input.entry.bytes.now → IsSettled self.new.state }
-        ensures spends { SpendsWithin (per_byte 2) (seen 0) (ahead 2)
+        ensures spends { SpendsWithin (per_byte 2) (caller_looks 0) (lookahead 2)
             input.entry.bytes.now 0 result self.old self.new reader.old reader.new }
         ensures outside_runs { (stream : List ℕ) → HasReadWithLimit B.limit self.old stream
             → ReportsOutsideRuns B.limit stream input.entry.bytes.now result }
     {
         match self.state {
             State::Text(begun) => {
-                if begun.is_nothing() {
+                if begun.is_empty() {
                     return 0;
                 }
                 self.continue_character::<P, G, MAY_STOP>(reader, performer, begun, input, 0)
@@ -89,8 +119,8 @@ impl<B: Buffer> Machine<B> {
             (chunk_call MAY_STOP P.step P.is_terminated B.limit input.entry.bytes.now)
             (P.value_of performer.old) (P.value_of performer.new) from (read_count result) self.old
             self.new }
-        ensures moves { IfOk result
-            (λ read. MovesWithin (per_byte 5) (seen 0)
+        ensures reads_within { IfOk result
+            (λ read. ReadsWithin (per_byte 5) (caller_looks 0)
             input.entry.bytes.now from read self.old self.new reader.old reader.new) }
         ensures refuses { IfErr result
             (λ refused.
@@ -104,7 +134,9 @@ impl<B: Buffer> Machine<B> {
         Ok(match self.state {
             // this was tested above
             State::Text(_) => unreachable!(),
-            State::Escape => self.read_escape::<P, G, MAY_STOP>(reader, performer, input, from),
+            State::Escape => self.read_after_escape::<P, G, MAY_STOP>(
+                reader, performer, input, from,
+            ),
             State::EscapeIntermediate => {
                 self.read_intermediates::<P, G, MAY_STOP>(reader, performer, input, from)
             }

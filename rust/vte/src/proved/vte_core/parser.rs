@@ -5,11 +5,13 @@ mod character;
 mod control_sequence;
 mod device_control;
 mod drive;
+mod drive_one;
+mod drive_to_run;
 mod ending;
 mod escape;
 mod ignored_string;
 #[cfg(any(feature = "std", feature = "ansi"))]
-mod long;
+mod long_parser;
 mod machine;
 mod open;
 mod refused;
@@ -17,14 +19,13 @@ mod refused;
 mod saved;
 mod system_command;
 mod text;
-mod to_run;
 
 use crate::adapter::array_vec::ArrayVec;
 use crate::proved::vte_core::head::HeadProgress;
 use crate::proved::vte_core::reader::{CountedPerform, Granularity, Reader};
 use crate::proved::vte_core::utf8::Unfinished;
 #[cfg(any(feature = "std", feature = "ansi"))]
-pub use long::LongParser;
+pub use long_parser::LongParser;
 use machine::Machine;
 pub use open::Open;
 pub use refused::Refused;

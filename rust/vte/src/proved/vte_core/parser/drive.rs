@@ -1,17 +1,32 @@
 // Written by tools/erase from crates/vte_core/src/parser/drive.rt: edit that one.
-//! The loop over the bytes of a call.
+//! The bytes of a call, and the loop over them.
 
 use crate::proved::vte_core::buffer::Buffer;
 use crate::proved::vte_core::parser::{Machine, Refused, State};
 use crate::proved::vte_core::reader::{CountedPerform, Granularity, Reader};
 
 impl<B: Buffer> Machine<B> {
+    /// Reads the bytes of a call as `drive_loop` does, and one byte that can't stop it without a
+    /// loop.
+    #[inline(always)]
+    pub(crate) fn drive<P: CountedPerform<G> + ?Sized, G: Granularity, const MAY_STOP: bool>(
+        &mut self,
+        reader: Reader,
+        performer: &mut P,
+        input: &[u8],
+    ) -> Result<usize, Refused> {
+        if !MAY_STOP && input.len() == 1 {
+            return self.drive_one(reader, performer, input);
+        }
+        self.drive_loop::<P, G, MAY_STOP>(reader, performer, input)
+    }
+
     /// Reads the bytes of a call, as many as there is memory for, and returns how many: all of
     /// them, or up to a stop if `MAY_STOP`.
     // inlined into a program's own function, its loops would keep their variables on the stack
     // (DECISIONS)
     #[inline(never)]
-    pub(crate) fn drive<P: CountedPerform<G> + ?Sized, G: Granularity, const MAY_STOP: bool>(
+    fn drive_loop<P: CountedPerform<G> + ?Sized, G: Granularity, const MAY_STOP: bool>(
         &mut self,
         reader: Reader,
         performer: &mut P,
@@ -27,7 +42,8 @@ impl<B: Buffer> Machine<B> {
         Ok(position)
     }
 
-    /// Completes the character that an earlier call began, if one is open.
+    /// Continues the character that an earlier call began, if one is open, as far as the bytes of
+    /// this call go.
     pub(crate) fn finish_character<
         P: CountedPerform<G> + ?Sized,
         G: Granularity,
@@ -40,7 +56,7 @@ impl<B: Buffer> Machine<B> {
     ) -> usize {
         match self.state {
             State::Text(begun) => {
-                if begun.is_nothing() {
+                if begun.is_empty() {
                     return 0;
                 }
                 self.continue_character::<P, G, MAY_STOP>(reader, performer, begun, input, 0)
@@ -70,7 +86,9 @@ impl<B: Buffer> Machine<B> {
         Ok(match self.state {
             // this was tested above
             State::Text(_) => unreachable!(),
-            State::Escape => self.read_escape::<P, G, MAY_STOP>(reader, performer, input, from),
+            State::Escape => {
+                self.read_after_escape::<P, G, MAY_STOP>(reader, performer, input, from)
+            }
             State::EscapeIntermediate => {
                 self.read_intermediates::<P, G, MAY_STOP>(reader, performer, input, from)
             }

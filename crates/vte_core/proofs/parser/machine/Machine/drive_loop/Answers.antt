@@ -3,7 +3,7 @@
 use Rattle.vte_core.proofs.Common.{ap, arith, Err, err_from_is_err_and, rules, ◌∙◌}
 use Rattle.vte_core.proofs.lemmas.positions.SettledStates.{may_stop-some}
 use Rattle.vte_core.proofs.lemmas.positions.CallEnds.{call_ends-at_stop, call_ends-with_all}
-use Rattle.vte_core.proofs.parser.machine.Machine.drive.Goals as goal
+use Rattle.vte_core.proofs.parser.machine.Machine.drive_loop.Goals as goal
 
 -- The loop begins where the open character was completed.
 pub loop-position-init : goal.loop-position-init
@@ -29,9 +29,9 @@ returns-in_err-position-clause-refuses g c =
     let error = err_from_is_err_and c.from_residual.result c.from_residual.ensures.1 in
     let failed = c.in_err-position.ensures in
     rw (error.1 ∙ ap Err error.2) (record {
-      within = omega (arith, c.loop-position-test.true, c.len.ensures, failed.refuses.stays);
+      before_end = omega (arith, c.loop-position-test.true, c.len.ensures, failed.refuses.stays);
       is_at_position = λ stream has_read.
-          failed.advances.goes_on _ stream (c.loop-position.invariant.is_at_position stream has_read);
+          failed.advances.is_at_position _ stream (c.loop-position.invariant.is_at_position stream has_read);
       may_go_on = failed.refuses.may_go_on;
       refused = failed.refuses.refused;
     })

@@ -1,0 +1,271 @@
+//! A call of one byte that can't stop.
+//!
+//! `drive_loop` saves registers for its loops at each call. These functions have none, and those
+//! that most bytes take do nothing after a call of another one, so they save no registers.
+ghost use Rattle.std.specs.Prelude.{false, IfErr, IfOk, length, List, ℕ, [], ◌+◌, ◌≡◌, ◌≢◌};
+ghost use Rattle.vte_core.specs.Event.{Print, replacement};
+ghost use Rattle.vte_core.specs.Utf8.{from_to, is_in};
+ghost use Rattle.vte_core.specs.private.Prelude.{Advances, any_events, bytes_of, caller_looks, chunk_call, Costs, DeviceData, Empty, events_outside_runs, HasReadWithLimit, IsAtPosition, IsRefusedAt, lookahead, looks_of, MayReadAt, MayReadByte, per_byte, read_count, ReadsUntilRefused, ReadsUpTo, ReadsWithin, SpendsWithin, Text};
+
+use crate::buffer::Buffer;
+use crate::class::{ESCAPE, is_device_data, is_parameter_byte};
+use crate::head::HeadProgress;
+use crate::parser::{Machine, Refused, State};
+use crate::reader::{CountedPerform, Granularity, Input, Reader};
+use crate::utf8::{Extension, Unfinished, is_lead, is_printed_ascii};
+
+impl<B: Buffer> Machine<B> {
+    /// Reads the one byte of a call that can't stop, or none if memory is refused for it.
+    // cargo: #[inline(never)]
+    pub(crate) fn drive_one<P: CountedPerform<G>, G: Granularity>(
+        &mut self,
+        reader: &mut Reader,
+        performer: &mut P,
+        input: Input<'_>,
+    ) -> Result<usize, Refused>
+        requires one_byte { length input.bytes.now ≡ 1 }
+        ensures reads { IfOk result
+            (λ read. ReadsUpTo
+            (chunk_call false P.step P.is_terminated B.limit input.entry.bytes.now)
+            (P.value_of performer.old) (P.value_of performer.new) read self.old self.new) }
+        ensures refuses { IfErr result
+            (λ refused. ReadsUntilRefused
+            (chunk_call false P.step P.is_terminated B.limit input.entry.bytes.now)
+            (P.value_of performer.old) (P.value_of performer.new) refused.read self.old self.new) }
+        ensures costs { Costs (per_byte 5) input.entry.bytes.now result
+            (read_count result) self.old self.new
+            (looks_of reader.old) (looks_of reader.new) }
+    {
+        if let State::Text(begun) = self.state {
+            if begun.is_empty() {
+                return Ok(self.read_last_of_text(reader, performer, input, 0));
+            }
+            return Ok(self.read_continuing_byte(reader, performer, begun, input));
+        }
+        if let State::ControlSequence(reached) = self.state {
+            return Ok(self.read_parameter_byte(reader, performer, input, reached, 0));
+        }
+        self.read_outside_text(reader, performer, input, 0)
+    }
+
+    /// Reads the last byte of a call in a text.
+    #[inline(always)]
+    fn read_last_of_text<P: CountedPerform<G>, G: Granularity>(
+        &mut self,
+        reader: &mut Reader,
+        performer: &mut P,
+        input: Input<'_>,
+        from: usize,
+    ) -> usize
+        requires may_read { MayReadAt
+            (chunk_call false P.step P.is_terminated B.limit input.bytes.now)
+            (P.value_of performer.old) (Text Empty) self.old from }
+        requires last { from + 1 ≡ length input.bytes.now }
+        ensures advances { Advances any_events
+            (chunk_call false P.step P.is_terminated B.limit input.entry.bytes.now)
+            (P.value_of performer.old) (P.value_of performer.new) from result self.old self.new }
+        ensures reads_within { ReadsWithin (per_byte 5) (caller_looks 0)
+            input.entry.bytes.now from result self.old self.new reader.old reader.new }
+    {
+        let byte = reader.byte_at(input, from);
+        if is_printed_ascii(byte) {
+            performer.print_char(reader, char::from(byte));
+            return from + 1;
+        }
+        self.read_other_last(reader, performer, input, from, byte)
+    }
+
+    /// Reads the last byte of a call in a text, if it isn't printed ASCII.
+    #[inline(never)]
+    fn read_other_last<P: CountedPerform<G>, G: Granularity>(
+        &mut self,
+        reader: &mut Reader,
+        performer: &mut P,
+        input: Input<'_>,
+        from: usize,
+        byte: u8,
+    ) -> usize
+        requires may_read { MayReadByte
+            (chunk_call false P.step P.is_terminated B.limit input.bytes.now)
+            (P.value_of performer.old) (Text Empty) self.old from byte }
+        requires not_printed { is_in (from_to 0x20 0x7f) byte ≡ false }
+        requires last { from + 1 ≡ length input.bytes.now }
+        ensures advances { Advances any_events
+            (chunk_call false P.step P.is_terminated B.limit input.entry.bytes.now)
+            (P.value_of performer.old) (P.value_of performer.new) from result self.old self.new }
+        ensures reads_within { ReadsWithin (per_byte 5) (caller_looks 1)
+            input.entry.bytes.now from result self.old self.new reader.old reader.new }
+    {
+        if byte == ESCAPE {
+            return self.read_escape_in_text::<P, G, false>(reader, performer, input, from);
+        }
+        if is_lead(byte) {
+            self.state = State::Text(Unfinished::One(byte));
+        } else {
+            reader.report_lone_byte(performer, byte);
+        }
+        from + 1
+    }
+
+    /// Reads the one byte of a call after those that began a character.
+    #[inline(never)]
+    fn read_continuing_byte<P: CountedPerform<G>, G: Granularity>(
+        &mut self,
+        reader: &mut Reader,
+        performer: &mut P,
+        begun: Unfinished,
+        input: Input<'_>,
+    ) -> usize
+        requires one_byte { length input.bytes.now ≡ 1 }
+        requires in_state { self.old.state ≡ Text begun }
+        requires some_open { bytes_of begun ≢ [] }
+        ensures is_at_position { (stream : List ℕ) → HasReadWithLimit B.limit self.old stream →
+            IsAtPosition (chunk_call false P.step P.is_terminated B.limit input.entry.bytes.now)
+            (P.value_of performer.old) (P.value_of performer.new) stream result self.new }
+        ensures reads_all { result ≡ 1 }
+        ensures spends { SpendsWithin (per_byte 5) (caller_looks 0) (lookahead 2)
+            input.entry.bytes.now 0 result self.old self.new reader.old reader.new }
+    {
+        let byte = reader.byte_at(input, 0);
+        match begun.extend(byte) {
+            Extension::Truncated(more) => {
+                self.state = State::Text(more);
+                1
+            }
+            Extension::WellFormed(c) => {
+                self.state = State::Text(Unfinished::Empty);
+                reader.report_character(performer, c);
+                1
+            }
+            Extension::Malformed => {
+                self.state = State::Text(Unfinished::Empty);
+                self.read_breaking_byte(reader, performer, input)
+            }
+        }
+    }
+
+    /// Prints U+FFFD for the bytes before, and reads the one byte of a call, which broke them. Not
+    /// inlined, because whatever goes on after a call saves registers.
+    #[inline(never)]
+    fn read_breaking_byte<P: CountedPerform<G>, G: Granularity>(
+        &mut self,
+        reader: &mut Reader,
+        performer: &mut P,
+        input: Input<'_>,
+    ) -> usize
+        requires one_byte { length input.bytes.now ≡ 1 }
+        requires in_text { self.old.state ≡ Text Empty }
+        ensures advances { Advances any_events
+            (chunk_call false P.step P.is_terminated B.limit input.entry.bytes.now)
+            (P.step (P.value_of performer.old) (Print replacement)) (P.value_of performer.new) 0
+            result self.old self.new }
+        ensures reads_all { result ≡ 1 }
+        ensures spends { SpendsWithin (per_byte 5) (caller_looks 0) (lookahead 1)
+            input.entry.bytes.now 0 result self.old self.new reader.old reader.new }
+    {
+        performer.print_char(reader, char::REPLACEMENT_CHARACTER);
+        self.read_last_of_text(reader, performer, input, 0)
+    }
+
+    /// Reads a byte of the head of a control sequence: of its parameters, like most, or another.
+    #[inline(always)]
+    fn read_parameter_byte<P: CountedPerform<G>, G: Granularity>(
+        &mut self,
+        reader: &mut Reader,
+        performer: &mut P,
+        input: Input<'_>,
+        reached: HeadProgress,
+        from: usize,
+    ) -> usize
+        requires may_read { MayReadAt
+            (chunk_call false P.step P.is_terminated B.limit input.bytes.now)
+            (P.value_of performer.old) (State.ControlSequence reached) self.old from }
+        ensures advances { Advances events_outside_runs
+            (chunk_call false P.step P.is_terminated B.limit input.entry.bytes.now)
+            (P.value_of performer.old) (P.value_of performer.new) from result self.old self.new }
+        ensures reads_within { ReadsWithin (per_byte 5) (caller_looks 0)
+            input.entry.bytes.now from result self.old self.new reader.old reader.new }
+    {
+        if reached.may_have_parameters() {
+            let byte = reader.byte_at(input, from);
+            if is_parameter_byte(byte) {
+                self.collected.collect_parameter_byte(byte);
+                self.state = State::ControlSequence(HeadProgress::Parameters);
+                return from + 1;
+            }
+        }
+        self.read_rest_of_head::<P, G, false>(reader, performer, input, reached, from)
+    }
+
+    /// Reads a byte of the data of a device control string, or the byte that ends it.
+    #[inline(always)]
+    fn read_data_byte<P: CountedPerform<G>, G: Granularity>(
+        &mut self,
+        reader: &mut Reader,
+        performer: &mut P,
+        input: Input<'_>,
+        from: usize,
+    ) -> usize
+        requires { MayReadAt (chunk_call false P.step P.is_terminated B.limit input.bytes.now)
+            (P.value_of performer.old) DeviceData self.old from }
+        ensures advances { Advances any_events
+            (chunk_call false P.step P.is_terminated B.limit input.entry.bytes.now)
+            (P.value_of performer.old) (P.value_of performer.new) from result self.old self.new }
+        ensures reads_within { ReadsWithin (per_byte 5) (caller_looks 0)
+            input.entry.bytes.now from result self.old self.new reader.old reader.new }
+    {
+        let byte = reader.byte_at(input, from);
+        if is_device_data(byte) {
+            performer.put_byte(reader, byte);
+            return from + 1;
+        }
+        self.read_other_in_data::<P, G, false>(reader, performer, input, from, byte)
+    }
+
+    /// Reads a byte outside text and control sequences, or none if memory is refused for it.
+    #[inline(never)]
+    fn read_outside_text<P: CountedPerform<G>, G: Granularity>(
+        &mut self,
+        reader: &mut Reader,
+        performer: &mut P,
+        input: Input<'_>,
+        from: usize,
+    ) -> Result<usize, Refused>
+        requires may_read { MayReadAt
+            (chunk_call false P.step P.is_terminated B.limit input.bytes.now)
+            (P.value_of performer.old) self.old.state self.old from }
+        requires outside_text { (begun : Unfinished) → self.old.state ≢ Text begun }
+        ensures advances { Advances any_events
+            (chunk_call false P.step P.is_terminated B.limit input.entry.bytes.now)
+            (P.value_of performer.old) (P.value_of performer.new) from (read_count result) self.old
+            self.new }
+        ensures reads_within { IfOk result
+            (λ read. ReadsWithin (per_byte 5) (caller_looks 0)
+            input.entry.bytes.now from read self.old self.new reader.old reader.new) }
+        ensures refuses { IfErr result
+            (λ refused.
+            IsRefusedAt (chunk_call false P.step P.is_terminated B.limit input.entry.bytes.now)
+            (P.value_of performer.new) from refused.read self.old self.new reader.old reader.new) }
+    {
+        Ok(match self.state {
+            State::Text(_) => unreachable!(),
+            State::Escape => self.read_after_escape::<P, G, false>(reader, performer, input, from),
+            State::EscapeIntermediate => {
+                self.read_intermediates::<P, G, false>(reader, performer, input, from)
+            }
+            State::ControlSequence(reached) => {
+                self.read_rest_of_head::<P, G, false>(reader, performer, input, reached, from)
+            }
+            State::DeviceControl(reached) => {
+                self.read_device_control::<P, G, false>(reader, performer, input, reached, from)
+            }
+            State::DeviceData => self.read_data_byte(reader, performer, input, from),
+            State::SystemCommand => {
+                self.read_system_command::<P, G, false>(reader, performer, input, from)?
+            }
+            State::IgnoredString => {
+                self.read_ignored_string::<P, G, false>(reader, performer, input, from)
+            }
+        })
+    }
+}

@@ -1,0 +1,181 @@
+// Written by tools/erase from crates/vte_core/src/parser/drive_one.rt: edit that one.
+//! A call of one byte that can't stop.
+//!
+//! `drive_loop` saves registers for its loops at each call. These functions have none, and those
+//! that most bytes take do nothing after a call of another one, so they save no registers.
+
+use crate::proved::vte_core::buffer::Buffer;
+use crate::proved::vte_core::class::{is_device_data, is_parameter_byte, ESCAPE};
+use crate::proved::vte_core::head::HeadProgress;
+use crate::proved::vte_core::parser::{Machine, Refused, State};
+use crate::proved::vte_core::reader::{CountedPerform, Granularity, Reader};
+use crate::proved::vte_core::utf8::{is_lead, is_printed_ascii, Extension, Unfinished};
+
+impl<B: Buffer> Machine<B> {
+    /// Reads the one byte of a call that can't stop, or none if memory is refused for it.
+    #[inline(never)]
+    pub(crate) fn drive_one<P: CountedPerform<G> + ?Sized, G: Granularity>(
+        &mut self,
+        reader: Reader,
+        performer: &mut P,
+        input: &[u8],
+    ) -> Result<usize, Refused> {
+        if let State::Text(begun) = self.state {
+            if begun.is_empty() {
+                return Ok(self.read_last_of_text(reader, performer, input, 0));
+            }
+            return Ok(self.read_continuing_byte(reader, performer, begun, input));
+        }
+        if let State::ControlSequence(reached) = self.state {
+            return Ok(self.read_parameter_byte(reader, performer, input, reached, 0));
+        }
+        self.read_outside_text(reader, performer, input, 0)
+    }
+
+    /// Reads the last byte of a call in a text.
+    #[inline(always)]
+    fn read_last_of_text<P: CountedPerform<G> + ?Sized, G: Granularity>(
+        &mut self,
+        reader: Reader,
+        performer: &mut P,
+        input: &[u8],
+        from: usize,
+    ) -> usize {
+        let byte = reader.byte_at(input, from);
+        if is_printed_ascii(byte) {
+            performer.print_char(reader, char::from(byte));
+            return from + 1;
+        }
+        self.read_other_last(reader, performer, input, from, byte)
+    }
+
+    /// Reads the last byte of a call in a text, if it isn't printed ASCII.
+    #[inline(never)]
+    fn read_other_last<P: CountedPerform<G> + ?Sized, G: Granularity>(
+        &mut self,
+        reader: Reader,
+        performer: &mut P,
+        input: &[u8],
+        from: usize,
+        byte: u8,
+    ) -> usize {
+        if byte == ESCAPE {
+            return self.read_escape_in_text::<P, G, false>(reader, performer, input, from);
+        }
+        if is_lead(byte) {
+            self.state = State::Text(Unfinished::One(byte));
+        } else {
+            reader.report_lone_byte(performer, byte);
+        }
+        from + 1
+    }
+
+    /// Reads the one byte of a call after those that began a character.
+    #[inline(never)]
+    fn read_continuing_byte<P: CountedPerform<G> + ?Sized, G: Granularity>(
+        &mut self,
+        reader: Reader,
+        performer: &mut P,
+        begun: Unfinished,
+        input: &[u8],
+    ) -> usize {
+        let byte = reader.byte_at(input, 0);
+        match begun.extend(byte) {
+            Extension::Truncated(more) => {
+                self.state = State::Text(more);
+                1
+            }
+            Extension::WellFormed(c) => {
+                self.state = State::Text(Unfinished::Empty);
+                reader.report_character(performer, c);
+                1
+            }
+            Extension::Malformed => {
+                self.state = State::Text(Unfinished::Empty);
+                self.read_breaking_byte(reader, performer, input)
+            }
+        }
+    }
+
+    /// Prints U+FFFD for the bytes before, and reads the one byte of a call, which broke them. Not
+    /// inlined, because whatever goes on after a call saves registers.
+    #[inline(never)]
+    fn read_breaking_byte<P: CountedPerform<G> + ?Sized, G: Granularity>(
+        &mut self,
+        reader: Reader,
+        performer: &mut P,
+        input: &[u8],
+    ) -> usize {
+        performer.print_char(reader, char::REPLACEMENT_CHARACTER);
+        self.read_last_of_text(reader, performer, input, 0)
+    }
+
+    /// Reads a byte of the head of a control sequence: of its parameters, like most, or another.
+    #[inline(always)]
+    fn read_parameter_byte<P: CountedPerform<G> + ?Sized, G: Granularity>(
+        &mut self,
+        reader: Reader,
+        performer: &mut P,
+        input: &[u8],
+        reached: HeadProgress,
+        from: usize,
+    ) -> usize {
+        if reached.may_have_parameters() {
+            let byte = reader.byte_at(input, from);
+            if is_parameter_byte(byte) {
+                self.collected.collect_parameter_byte(byte);
+                self.state = State::ControlSequence(HeadProgress::Parameters);
+                return from + 1;
+            }
+        }
+        self.read_rest_of_head::<P, G, false>(reader, performer, input, reached, from)
+    }
+
+    /// Reads a byte of the data of a device control string, or the byte that ends it.
+    #[inline(always)]
+    fn read_data_byte<P: CountedPerform<G> + ?Sized, G: Granularity>(
+        &mut self,
+        reader: Reader,
+        performer: &mut P,
+        input: &[u8],
+        from: usize,
+    ) -> usize {
+        let byte = reader.byte_at(input, from);
+        if is_device_data(byte) {
+            performer.put_byte(reader, byte);
+            return from + 1;
+        }
+        self.read_other_in_data::<P, G, false>(reader, performer, input, from, byte)
+    }
+
+    /// Reads a byte outside text and control sequences, or none if memory is refused for it.
+    #[inline(never)]
+    fn read_outside_text<P: CountedPerform<G> + ?Sized, G: Granularity>(
+        &mut self,
+        reader: Reader,
+        performer: &mut P,
+        input: &[u8],
+        from: usize,
+    ) -> Result<usize, Refused> {
+        Ok(match self.state {
+            State::Text(_) => unreachable!(),
+            State::Escape => self.read_after_escape::<P, G, false>(reader, performer, input, from),
+            State::EscapeIntermediate => {
+                self.read_intermediates::<P, G, false>(reader, performer, input, from)
+            }
+            State::ControlSequence(reached) => {
+                self.read_rest_of_head::<P, G, false>(reader, performer, input, reached, from)
+            }
+            State::DeviceControl(reached) => {
+                self.read_device_control::<P, G, false>(reader, performer, input, reached, from)
+            }
+            State::DeviceData => self.read_data_byte(reader, performer, input, from),
+            State::SystemCommand => {
+                self.read_system_command::<P, G, false>(reader, performer, input, from)?
+            }
+            State::IgnoredString => {
+                self.read_ignored_string::<P, G, false>(reader, performer, input, from)
+            }
+        })
+    }
+}

@@ -67,7 +67,7 @@ impl<A: Allocator, B: Allocator> Run<A, B> {
                 bytes.add_bytes(alloc, &mut chunk)?;
                 self.processor.advance(&mut self.handler, chunk.as_slice());
                 self.given.extend_from_slice(chunk.as_slice())?;
-                self.same = self.same && self.holds_well();
+                self.same = self.same && self.keeps_hold_invariant();
             }
             Line::StopSync => {
                 self.settle()?;
@@ -85,7 +85,7 @@ impl<A: Allocator, B: Allocator> Run<A, B> {
     }
 
     /// Returns whether the promises about held bytes are kept.
-    fn holds_well(&self) -> bool {
+    fn keeps_hold_invariant(&self) -> bool {
         let (processor, given) = (&self.processor, self.given.as_slice());
         let is_kept = matches!(processor.sync_timeout().answers, Answers::Counting);
         is_within_limits(processor, given) && (!is_kept || is_inside_an_update(processor, given))

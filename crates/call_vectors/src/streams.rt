@@ -82,16 +82,16 @@ fn makes_with_stop(alloc: Global, stream: &[u8], cut: usize, calls: &str) -> io:
     let mut processor = new_processor(alloc, Answers::Counting)?;
     let mut handler = ByCall(CallLines::new(alloc));
     processor.advance(&mut handler, front);
-    let mut well = holds_well(&processor, front);
+    let mut well = keeps_hold_invariant(&processor, front);
     processor.stop_sync(&mut handler);
-    well = well && holds_well(&processor, front) && processor.sync_bytes_count() == 0;
+    well = well && keeps_hold_invariant(&processor, front) && processor.sync_bytes_count() == 0;
     processor.advance(&mut handler, back);
-    well = well && holds_well(&processor, stream);
+    well = well && keeps_hold_invariant(&processor, stream);
     Ok(well && shown_lines(alloc, text_of(&handler.0)?)?.as_str() == calls)
 }
 
 /// Returns whether a processor that was given these bytes keeps the promises about held bytes.
-fn holds_well(processor: &Processor<TestTimeout, Global>, given: &[u8]) -> bool {
+fn keeps_hold_invariant(processor: &Processor<TestTimeout, Global>, given: &[u8]) -> bool {
     is_within_limits(processor, given) && is_inside_an_update(processor, given)
 }
 

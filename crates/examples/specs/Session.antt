@@ -3,8 +3,9 @@ use Rattle.std.specs.Prelude.{Bool, false, length, List, ℕ, [], ◌++◌, ◌�
 use Rattle.examples.specs.Page.{rung_after}
 use Rattle.examples.specs.declared.session.Session.{Session}
 use Rattle.vte.specs.Handler.{after}
+use Rattle.vte.specs.ProcessorFacts.{processor_facts}
 use Rattle.vte.specs.Processor.{AreInOrder, calls_with_stops, Meaning, State, TakesSteps}
-use Rattle.vte.specs.ProcessorCalls.{HasParsedAndHolds, IsAt}
+use Rattle.vte.specs.ProcessorCalls.{IsAt}
 use Rattle.vte.specs.StdSyncHandler.{pending_meaning}
 use Rattle.vte.specs.Stream.{default_limit}
 use Rattle.vte.specs.declared.ansi.laws.replays.Step.{Step}
@@ -20,7 +21,7 @@ start = record { parsed = []; stops = []; held = []; timeout = false; handler = 
 pub record HasMade (session : Session) (steps : List Step) : Type 0 where
   pub state : State Bool Bool
   pub takes : TakesSteps meaning start steps state
-  pub is_at : IsAt (HasParsedAndHolds (λ timeout. timeout.pending) session.processor)
+  pub is_at : IsAt (processor_facts (λ timeout. timeout.pending) session.processor)
       session.page.0.rung state
 
 -- The bell has rung, or not, by the calls of a beginning of the given bytes. The others are held.

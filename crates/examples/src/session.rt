@@ -2,8 +2,8 @@
 //! terminal was to ring.
 ghost use Rattle.examples.specs.Session.{HasMade, RangBy};
 ghost use Rattle.std.specs.Prelude.{IfOk, List, [], ◌++◌, ◌∷◌};
+ghost use Rattle.vte.specs.ProcessorFacts.{processor_facts};
 ghost use Rattle.vte.specs.Processor.{given_bytes};
-ghost use Rattle.vte.specs.ProcessorCalls.{held_in};
 ghost use Rattle.vte.specs.declared.ansi.laws.replays.Step.{Step};
 ghost use Rattle.vte.specs.declared.ansi.laws.replays.Step.TheVariants.{Advance, StopSync};
 
@@ -60,7 +60,8 @@ impl Session {
     /// Whether the terminal was to ring.
     pub fn has_rung(&self) -> bool
         ensures { (steps : List Step) → HasMade self.now steps
-            → RangBy (given_bytes steps) (held_in self.now.processor) result }
+            → RangBy (given_bytes steps)
+            (processor_facts (λ timeout. timeout.pending) self.now.processor).held result }
     {
         laws::calls_are_received::<ByCall<Page>, UntilEnded>();
         self.page.0.rung

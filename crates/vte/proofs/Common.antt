@@ -24,14 +24,14 @@ pub use Rattle.vte_core.specs.EarlyStop.{breaks_at, reported_before, resumed_str
 pub use Rattle.vte_core.specs.Event.{Event, OscDispatch, Print, replacement}
 pub use Rattle.vte_core.specs.Stream.{added, default_limit, open_character}
 unfoldable pub use Rattle.vte_core.specs.Stream.{events, outcome}
-pub use Rattle.vte_core.specs.declared.parser.long.LongParser.{LongParser}
+pub use Rattle.vte_core.specs.declared.parser.long_parser.LongParser.{LongParser}
 pub use Rattle.vte_core.specs.declared.parser.refused.Refused.{Refused}
 pub use Rattle.vte_handler.specs.Call.{Call, Input, ResetColor}
 pub use Rattle.vte_handler.specs.Handler.{after}
 pub use Rattle.vte_handler.specs.Timeout.{AllowsOnly, IsSteady, timeout_meaning, TimeoutMeaning}
-pub use Rattle.vte.specs.Processor.{added_calls, all_bytes, AreInOrder, calls_between, calls_with_stops, done, EndsInBegin, ExpiredTurn, extend, given_bytes, hold_turn, HoldsWellAt, IsInsideUpdate, IsOutsideUpdate, max_held, Meaning, parse, parsing_turn, ParsingTurn, prefix_to_begin, processor_meaning, release, State, stop, TakesAllTurns, TakesSteps, TakesTurns, timeout_set_times, turn, turn_kind_of, turns, update_nanos, with_held}
+pub use Rattle.vte.specs.Processor.{added_calls, all_bytes, AreInOrder, calls_between, calls_with_stops, done, EndsInBegin, ExpiredTurn, extend, given_bytes, hold_turn, HoldInvariantAt, IsInsideUpdate, IsOutsideUpdate, max_held, Meaning, parse, parsing_turn, ParsingTurn, prefix_to_begin, processor_meaning, release, State, stop, TakesAllTurns, TakesSteps, TakesTurns, timeout_set_times, turn, turn_kind_of, turns, update_nanos, with_held}
 pub use Rattle.vte.specs.Refusal.{between_turns, HasAdvancedPart, inside_turn, ParsingTurnIsRefused, TakesTurnsUntilRefused, TurnIsRefused}
-pub use Rattle.vte.specs.Synchronized.{after_last_end, begin_count, begin_count_in_event, begin_update, begins_ending_in_last, begins_with, end_update, from_begin_update, is_update_group, part_after_last_end, update_group_count}
+pub use Rattle.vte.specs.Synchronized.{after_last_end, begin_count, begin_count_in_event, begin_update, begins_ending_in_last, end_update, from_begin_update, is_prefix_of, is_update_group, part_after_last_end, update_group_count}
 pub use Rattle.vte.specs.Calls.{calls, calls_after, calls_from, calls_of, last_printed, last_printed_after, last_printed_from}
 pub use Rattle.vte.specs.ControlSequenceCalls.{change_calls}
 pub use Rattle.vte.specs.Colors.{kind_reading}
@@ -39,15 +39,15 @@ pub use Rattle.vte.specs.CommandCalls.{dynamic_calls, id_of, joined_texts, link_
 unfoldable pub use Rattle.vte.specs.CommandCalls.{all_reset}
 pub use Rattle.vte.specs.private.Performer.{first_component, fits_text_capacity, FitsText, FitsTextCapacity, joined_size, parts_left, performer_with_event, PerformerValue, text_to_join}
 pub use Rattle.vte.specs.private.Hold.{AddsToHold, FindsRelease, IsHeldTail, released_of, still_held}
-pub use Rattle.vte.specs.ProcessorCalls.{AdvancesInTurns, HasAdvanced, HasDelivered, HasParsedAll, HasParsedAndHolds, HasReplayed, held_of, IsAt, ProcessorPredicate, Replays, StopsSync}
+pub use Rattle.vte.specs.ProcessorFacts.{engine_facts, engine_facts_with, HasParsedAndHolds, held_of, long_facts, processor_facts, ProcessorFacts}
+pub use Rattle.vte.specs.ProcessorCalls.{AdvancesInTurns, HasAdvanced, HasDelivered, HasParsedAll, HasReplayed, IsAt, Replays, StopsSync}
 pub use Rattle.vte.specs.private.Performing.{AdvancesAll, AdvancesUntilStop, performer_value, with_private_mode, with_private_modes}
-pub use Rattle.vte.specs.BoundedProcessor.{HasParsedAndHoldsBounded}
-pub use Rattle.vte.specs.LongProcessor.{AdvancesLong, EngineAdvances, EngineLacksMemory, EngineReserves, EngineStopsSync, HasParsedAndHoldsLong, LacksMemoryLong}
-pub use Rattle.vte.specs.Memory.{HasMemoryLong, HasTextMemory, KeepsMemory, ParserHasMemory}
+pub use Rattle.vte.specs.LongProcessor.{AdvancesLong, AdvancesUntilRefused, ProcessorLacksMemory, Reserves}
+pub use Rattle.vte.specs.Memory.{HasTextMemory, KeepsMemory, ParserHasMemory}
 pub use Rattle.vte.specs.Numbers.{decimal_number, first_number, first_numbers}
 pub use Rattle.vte.specs.Split.{first_after, split_by}
-pub use Rattle.vte.specs.private.Engine.{EndsParsingTurn, EndsTurn, EngineIsAt, EngineIsAtKeepingMemory, HasBeenRefused, HasParsedPrefix, HasParsedWithoutBegin, HasTakenParsingTurn, HasTurned, PartsAreAt, PartsAreAtKeepingMemory, PartsAreAtWithMemory}
-pub use Rattle.vte.specs.Views.{bounded_engine_view, engine_view, EngineHasMemory, EngineHasParsedAndHolds, EngineView, limited_parser_view, long_engine_view, long_parser_view, ParserView}
+pub use Rattle.vte.specs.private.Engine.{EndsParsingTurn, EndsTurn, EngineIsAt, HasBeenRefused, HasParsedPrefix, HasParsedWithoutBegin, HasTakenParsingTurn, HasTurned, IsAtKeepingMemory, PartsAreAt, PartsAreAtKeepingMemory, PartsAreAtWithMemory}
+pub use Rattle.vte.specs.Views.{engine_view, EngineView, limited_engine_view, limited_parser_view, long_parser_view, ParserView}
 pub use Rattle.vte.specs.Rendition.{attribute_calls, attributes_from}
 pub use Rattle.vte_types.specs.Words.{after_word}
 pub use Rattle.vte.specs.declared.ansi.laws.replays.Step.{Step}

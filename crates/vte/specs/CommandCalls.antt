@@ -5,7 +5,7 @@ use Rattle.std.specs.Str.{is_utf8, trim}
 use Rattle.vte_handler.specs.Call.{Call, SetTitle}
 use Rattle.std.specs.Fmt.{decimal}
 use Rattle.vte.specs.Colors.{xparse_color_of}
-use Rattle.vte.specs.OptionalCalls.{for_some}
+use Rattle.vte.specs.OptionalCalls.{call_some}
 use Rattle.vte.specs.Numbers.{decimal_number}
 use Rattle.vte.specs.Split.{first_after, split_by}
 use Rattle.vte_types.specs.Words.{after_word, entry_of, entry_of_word, Row}
@@ -45,7 +45,7 @@ terminator_of false = 0x1b ∷ 0x5c ∷ []
 abbrev pub color_calls : List ℕ → ℕ → List ℕ → List ℕ → List Call
 color_calls prefix index terminator text =
     if bytes_eq text (codes "?") then call.DynamicColorSequence prefix index terminator ∷ []
-    else for_some (λ color. call.SetColor index color) (xparse_color_of text)
+    else call_some (λ color. call.SetColor index color) (xparse_color_of text)
 
 -- 4: colours of the palette, each an index and a text
 abbrev pub palette_entry_calls : List ℕ → Option ℕ → List ℕ → List Call
@@ -96,7 +96,7 @@ dynamic_calls code terminator (text ∷ texts) =
 
 -- 22: the pointer's icon, by its keyword
 abbrev pub pointer_calls : List (List ℕ) → List Call
-pointer_calls (name ∷ []) = for_some (λ icon. call.SetMouseCursorIcon icon) (icon_of name)
+pointer_calls (name ∷ []) = call_some (λ icon. call.SetMouseCursorIcon icon) (icon_of name)
 pointer_calls _ = []
 
 -- 50: the cursor's shape, by the first byte after `CursorShape=`
@@ -111,7 +111,7 @@ shape_after (Some (byte ∷ bytes)) = entry_of shapes byte
 abbrev pub shape_calls : List (List ℕ) → List Call
 shape_calls [] = []
 shape_calls (text ∷ texts) =
-    for_some (λ shape. call.SetCursorShape shape)
+    call_some (λ shape. call.SetCursorShape shape)
     (shape_after (after_word (codes "CursorShape=") text))
 
 -- 52: the clipboard. The first byte selects it, `c` if there is none.

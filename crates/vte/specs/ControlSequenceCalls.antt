@@ -7,7 +7,7 @@ use Rattle.vte_handler.specs.Call as call
 use Rattle.vte_types.specs.Mode.{mode_of, private_mode_of}
 use Rattle.vte.specs.Numbers.{asks_for_modify_other_keys, first_nonzero_or, first_numbers, first_of}
 use Rattle.vte.specs.Rendition.{attribute_calls}
-use Rattle.vte.specs.OptionalCalls.{for_both, for_some}
+use Rattle.vte.specs.OptionalCalls.{call_both, call_some}
 use Rattle.vte_types.specs.Words.{entry_of, Row}
 use Rattle.vte.specs.SelectedValues.{behavior_of, bottom_of, char_path_table, clear_line_table, clear_screen_table, clear_tabs_table, cursor_style_table, keyboard_modes, modify_other_keys_table, scp_update_table}
 
@@ -45,14 +45,14 @@ window_operation_table =
 -- How modified keys are reported (XTMODKEYS): only resource 4, `modifyOtherKeys`, is known.
 abbrev pub modify_keys_calls : ℕ → ℕ → List Call
 modify_keys_calls resource value =
-    if resource == 4 then for_some (λ keys. call.SetModifyOtherKeys keys)
+    if resource == 4 then call_some (λ keys. call.SetModifyOtherKeys keys)
     (entry_of modify_other_keys_table value)
     else []
 
 -- The path of characters and how it is updated, or nothing if one of them is unknown (SCP).
 abbrev pub scp_calls : ℕ → ℕ → List Call
 scp_calls path update =
-    for_both (λ path update. call.SetScp path update) (entry_of char_path_table path)
+    call_both (λ path update. call.SetScp path update) (entry_of char_path_table path)
     (entry_of scp_update_table update)
 
 module _ (last : Option ℕ) (groups : List (List ℕ)) where
@@ -83,8 +83,8 @@ module _ (last : Option ℕ) (groups : List (List ℕ)) where
       (0x47, call.GotoCol (pn - 1) ∷ []) ∷  -- G: CHA
       (0x48, call.Goto (pos (pn - 1)) (pn2 - 1) ∷ []) ∷  -- H: CUP
       (0x49, call.MoveForwardTabs pn ∷ []) ∷  -- I: CHT
-      (0x4a, for_some (λ part. call.ClearScreen part) (entry_of clear_screen_table ps)) ∷  -- J: ED
-      (0x4b, for_some (λ part. call.ClearLine part) (entry_of clear_line_table ps)) ∷  -- K: EL
+      (0x4a, call_some (λ part. call.ClearScreen part) (entry_of clear_screen_table ps)) ∷  -- J: ED
+      (0x4b, call_some (λ part. call.ClearLine part) (entry_of clear_line_table ps)) ∷  -- K: EL
       (0x4c, call.InsertBlankLines pn ∷ []) ∷  -- L: IL
       (0x4d, call.DeleteLines pn ∷ []) ∷  -- M: DL
       (0x50, call.DeleteChars pn ∷ []) ∷  -- P: DCH
@@ -98,7 +98,7 @@ module _ (last : Option ℕ) (groups : List (List ℕ)) where
       (0x64, call.GotoLine (pos (pn - 1)) ∷ []) ∷  -- d: VPA
       (0x65, call.MoveDown pn ∷ []) ∷  -- e: VPR
       (0x66, call.Goto (pos (pn - 1)) (pn2 - 1) ∷ []) ∷  -- f: HVP
-      (0x67, for_some (λ which. call.ClearTabs which) (entry_of clear_tabs_table ps)) ∷  -- g: TBC
+      (0x67, call_some (λ which. call.ClearTabs which) (entry_of clear_tabs_table ps)) ∷  -- g: TBC
       (0x68, change_calls change.Set (first_numbers groups)) ∷  -- h: SM
       (0x6c, change_calls change.Reset (first_numbers groups)) ∷  -- l: RM
       (0x6d, attribute_calls groups) ∷  -- m: SGR
@@ -143,7 +143,7 @@ module _ (last : Option ℕ) (groups : List (List ℕ)) where
       (0x6b, scp_calls ps ps2) ∷  -- k: SCP
       (
         0x71,
-        for_some (λ x. call.SetCursorStyle x)
+        call_some (λ x. call.SetCursorStyle x)
             (entry_of cursor_style_table ps),
       ) ∷  -- q: DECSCUSR
       []

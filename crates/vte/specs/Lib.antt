@@ -16,15 +16,14 @@ pub mod CommandCalls
 pub mod Calls
 -- What begins and ends a synchronized update.
 pub mod Synchronized
--- What a processor does, and what its calls ensure.
+-- What a processor does, what contracts know of one, and what its calls ensure.
 pub mod Processor
-pub mod ProcessorCalls
-pub mod StdSyncHandler
--- The same with any limit.
 pub mod Memory
 pub mod Views
-pub mod BoundedProcessor
--- The same without a limit, where memory may be refused.
+pub mod ProcessorFacts
+pub mod ProcessorCalls
+pub mod StdSyncHandler
+-- The same where memory may be refused.
 pub mod Refusal
 pub mod LongProcessor
 -- Examples, worked out by hand.

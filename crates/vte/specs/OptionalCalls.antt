@@ -2,10 +2,10 @@
 use Rattle.std.specs.Prelude.{List, None, Option, Some, [], ◌∷◌}
 use Rattle.vte_handler.specs.Call.{Call}
 
-abbrev pub for_some : {X : Type 0} → (X → Call) → Option X → List Call
-for_some call_with None = []
-for_some call_with (Some x) = call_with x ∷ []
+abbrev pub call_some : {X : Type 0} → (X → Call) → Option X → List Call
+call_some call_with None = []
+call_some call_with (Some x) = call_with x ∷ []
 
-abbrev pub for_both : {X Y : Type 0} → (X → Y → Call) → Option X → Option Y → List Call
-for_both call_with (Some x) (Some y) = call_with x y ∷ []
-for_both call_with _ _ = []
+abbrev pub call_both : {X Y : Type 0} → (X → Y → Call) → Option X → Option Y → List Call
+call_both call_with (Some x) (Some y) = call_with x y ∷ []
+call_both call_with _ _ = []

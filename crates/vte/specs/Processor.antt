@@ -6,7 +6,7 @@ use Rattle.vte_core.specs.Stream.{added, events}
 use Rattle.vte_handler.specs.Call.{Call}
 use Rattle.vte_handler.specs.Handler.{after}
 use Rattle.vte_handler.specs.Timeout.{AllowsOnly, IsSteady, timeout_meaning, TimeoutMeaning}
-use Rattle.vte.specs.Synchronized.{after_last_end, begin_count, begin_update, begins_ending_in_last, begins_with, from_begin_update, part_after_last_end, update_ended_call}
+use Rattle.vte.specs.Synchronized.{after_last_end, begin_count, begin_update, begins_ending_in_last, from_begin_update, is_prefix_of, part_after_last_end, update_ended_call}
 use Rattle.vte.specs.Calls.{calls_after}
 use Rattle.vte.specs.declared.ansi.laws.replays.Step.{Step}
 use Rattle.vte.specs.declared.ansi.laws.replays.Step.TheVariants.{Advance, StopSync}
@@ -194,21 +194,21 @@ pub record IsOutsideUpdate {W : Type 0} (meaning : TimeoutMeaning W) (held : Lis
 pub record IsInsideUpdate {W : Type 0} (limit : Option ℕ) (meaning : TimeoutMeaning W)
     (parsed held : List ℕ) (timeout : W) : Type 0 where
   pub pending : AllowsOnly meaning timeout true
-  pub begun : EndsInBegin limit parsed ⊎ (begins_with begin_update held ≡ true)
+  pub update_began : EndsInBegin limit parsed ⊎ (is_prefix_of begin_update held ≡ true)
 
 -- The hold contains no end-update, and has at most `max_held` bytes. If the timeout is steady,
 -- nothing is held outside an update.
-pub record HoldsWell {W : Type 0} (limit : Option ℕ) (meaning : TimeoutMeaning W)
+pub record HoldInvariant {W : Type 0} (limit : Option ℕ) (meaning : TimeoutMeaning W)
     (parsed held : List ℕ) (timeout : W) : Type 0 where
   pub no_end : after_last_end held ≡ None
   pub fits : length held ≤ max_held
   pub steady : IsSteady meaning → IsOutsideUpdate meaning held timeout
       ⊎ IsInsideUpdate limit meaning parsed held timeout
 
--- `HoldsWell` at a state.
-abbrev pub HoldsWellAt : {V W : Type 0} → Meaning V W → State V W → Type 0
-HoldsWellAt meaning state =
-    HoldsWell meaning.limit meaning.timeout state.parsed state.held state.timeout
+-- `HoldInvariant` at a state.
+abbrev pub HoldInvariantAt : {V W : Type 0} → Meaning V W → State V W → Type 0
+HoldInvariantAt meaning state =
+    HoldInvariant meaning.limit meaning.timeout state.parsed state.held state.timeout
 
 -- ---- calls one after another
 

@@ -3,7 +3,7 @@
 use Rattle.std.specs.Prelude.{Bool, drop, length, List, take, ℕ, ◌++◌, ◌-◌, ◌<◌, ◌∷◌, ◌≡◌}
 use Rattle.vte_core.specs.Stream.{added}
 use Rattle.vte.specs.Synchronized.{begin_count}
-use Rattle.vte.specs.Processor.{all_bytes, ExpiredTurn, FullTurn, given_bytes, HoldsWellAt, HoldTurn, Meaning, parse, ParsingTurn, State, stop, TakesTurns, turn_kind_of, TurnKind}
+use Rattle.vte.specs.Processor.{all_bytes, ExpiredTurn, FullTurn, given_bytes, HoldInvariantAt, HoldTurn, Meaning, parse, ParsingTurn, State, stop, TakesTurns, turn_kind_of, TurnKind}
 use Rattle.vte.specs.ProcessorCalls.{HasReplayed}
 use Rattle.vte.specs.declared.ansi.laws.replays.RefusedStep.{RefusedStep}
 use Rattle.vte.specs.declared.ansi.laws.replays.Step.{Step}
@@ -23,18 +23,18 @@ module _ {V W : Type 0} (meaning : Meaning V W) where
 
   -- A turn of this kind was refused memory: never a hold turn, which reads nothing until it has
   -- all the memory that it needs.
-  abbrev pub KindIsRefused : TurnKind → State V W → List ℕ → State V W → List ℕ → Type 0
-  KindIsRefused ParsingTurn state bytes next left = ParsingTurnIsRefused state bytes next left
-  KindIsRefused ExpiredTurn state bytes next left =
+  abbrev pub TurnOfKindIsRefused : TurnKind → State V W → List ℕ → State V W → List ℕ → Type 0
+  TurnOfKindIsRefused ParsingTurn state bytes next left = ParsingTurnIsRefused state bytes next left
+  TurnOfKindIsRefused ExpiredTurn state bytes next left =
       ParsingTurnIsRefused (stop meaning state) bytes next left
-  KindIsRefused HoldTurn state bytes next left = ⊥
-  KindIsRefused FullTurn state bytes next left =
+  TurnOfKindIsRefused HoldTurn state bytes next left = ⊥
+  TurnOfKindIsRefused FullTurn state bytes next left =
       ParsingTurnIsRefused (stop meaning state) bytes next left
 
   -- A turn was refused memory, after this answer of the timeout.
   abbrev pub TurnIsRefused : Bool → State V W → List ℕ → State V W → List ℕ → Type 0
   TurnIsRefused pending state bytes =
-      KindIsRefused (turn_kind_of pending (length state.held) (length bytes)) state bytes
+      TurnOfKindIsRefused (turn_kind_of pending (length state.held) (length bytes)) state bytes
 
   -- The turns of a call up to a refusal, before a turn or inside one.
   pub data TakesTurnsUntilRefused (state : State V W) (bytes : List ℕ) (next : State V W)
@@ -57,8 +57,8 @@ module _ {V W : Type 0} (meaning : Meaning V W) where
     pub takes : TakesTurnsUntilRefused state bytes next (drop read bytes)
     -- Each byte read is parsed or held, once and in order.
     pub each_once : all_bytes next ≡ all_bytes state ++ take read bytes
-    -- `HoldsWell` stays true.
-    pub holds_well : HoldsWellAt meaning state → HoldsWellAt meaning next
+    -- `HoldInvariant` stays true.
+    pub hold_invariant : HoldInvariantAt meaning state → HoldInvariantAt meaning next
     -- Processor and handler are at that state.
     pub is_at : IsNowAt next
 

@@ -52,8 +52,8 @@ abbrev pub end_update : List ℕ
 end_update = codes "\u{1b}[?2026l"
 
 -- The text starts with the sequence.
-abbrev pub begins_with : List ℕ → List ℕ → Bool
-begins_with sequence text = is_some (after_word sequence text)
+abbrev pub is_prefix_of : List ℕ → List ℕ → Bool
+is_prefix_of sequence text = is_some (after_word sequence text)
 
 -- What follows the last end-update of a text: of `a ESC [?2026l b`, the `b`.
 abbrev pub after_last_end : List ℕ → Option (List ℕ)
@@ -64,7 +64,7 @@ after_last_end (byte ∷ text) = option_or (after_last_end text) (after_word end
 abbrev pub from_begin_update : List ℕ → List ℕ
 from_begin_update [] = []
 from_begin_update (byte ∷ text) =
-    if begins_with begin_update (byte ∷ text) then byte ∷ text else from_begin_update text
+    if is_prefix_of begin_update (byte ∷ text) then byte ∷ text else from_begin_update text
 
 -- How many begin-updates have their last byte among the last n bytes of the text: of
 -- `ESC [?2026h b`, one among the last two, and none in the last one.

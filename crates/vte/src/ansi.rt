@@ -8,7 +8,6 @@ pub mod laws;
 mod long_processor;
 // cargo lacks: the adapter has it
 mod processor;
-mod split;
 // cargo lacks: the adapter has it
 mod std_sync_handler;
 #[cfg(test)]

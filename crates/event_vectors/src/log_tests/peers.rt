@@ -68,7 +68,7 @@ impl Written {
 
     fn call(&mut self, bytes: &[u8]) -> Result<(), ()>
         ensures fails { is_err result ≡ self.new.failed }
-        ensures stays { IsTrue self.old.failed → IsTrue self.new.failed }
+        ensures stays_failed { IsTrue self.old.failed → IsTrue self.new.failed }
     {
         let fails = self.failed || self.failing_call == Some(self.calls);
         self.calls = self.calls.saturating_add(1);

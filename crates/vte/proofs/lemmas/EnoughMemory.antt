@@ -4,7 +4,7 @@ use Rattle.vte.proofs.Common.{added, added-append, AdvancesAll, AdvancesUntilSto
 use Rattle.vte_core.specs.EventBounds.{IsBounded}
 use Rattle.vte_core.specs.LongParserCalls.{ReadsLong}
 use Rattle.vte_core.specs.LongParser.{memory_of, open_command_size, read_count}
-use Rattle.vte_core.specs.Parser.{reading_of}
+use Rattle.vte_core.specs.Parser.{parser_facts}
 use Rattle.vte_core.specs.declared.parser.Parser.{Parser}
 use Rattle.vte_core.specs.Advance.{ReadsBytes, ReadsUntilTerminated}
 use Rattle.vte_core.specs.Looks.{per_byte}
@@ -38,13 +38,13 @@ short_fits limit size stream bytes memory =
 module _ {N : ℕ} {V W : Type 0} {step : PerformerValue V W → Event → PerformerValue V W}
     {old new : PerformerValue V W} {bytes : List ℕ}
     {parser next : Parser N} where
-  pub short_parses : ReadsBytes step old new bytes (reading_of parser) (reading_of next)
+  pub short_parses : ReadsBytes step old new bytes (parser_facts parser) (parser_facts next)
       → AdvancesAll limited_parser_view (Some N) step parser next old new bytes
   short_parses reads = search (rules, arith, short_fits)
 
   pub short_stops : {read : ℕ}
-      → ReadsUntilTerminated step (λ performer. performer.terminated) read old new bytes (reading_of parser)
-      (reading_of next)
+      → ReadsUntilTerminated step (λ performer. performer.terminated) read old new bytes (parser_facts parser)
+      (parser_facts next)
       → AdvancesUntilStop limited_parser_view (Some N) step parser next old new bytes read
   short_stops reads = record {
     within = reads.within;
@@ -90,16 +90,16 @@ module _ {A V W : Type 0} {step : PerformerValue V W → Event → PerformerValu
       performs = reads_long.reads.performs stream has_read;
       fits = long_fits stream bytes spare memory;
       reads = reads_long.reads.reads stream has_read;
-      memory = memory_left stream bytes spare memory next reads_long.memory;
+      memory = memory_left stream bytes spare memory next reads_long.keeps_memory;
     };
-    keeps_memory = λ size. keeps_memory-grown reads_long.memory (omega arith);
+    keeps_memory = λ size. keeps_memory-grown reads_long.keeps_memory (omega arith);
   }
   long_parses (Err refused) reads_long = record {
     parses =
         λ stream spare has_read memory.
         absurd
         (omega (arith, reads_long.refuses.lacks_all stream has_read, open_command-fits stream bytes spare memory));
-    keeps_memory = λ size. keeps_memory-grown reads_long.memory (omega arith);
+    keeps_memory = λ size. keeps_memory-grown reads_long.keeps_memory (omega arith);
   }
 
   pub long_stops : (result : Result ℕ Refused)
@@ -114,13 +114,13 @@ module _ {A V W : Type 0} {step : PerformerValue V W → Event → PerformerValu
           fits = long_fits stream bytes spare memory;
           reads = reads_long.reads.reads stream has_read;
         };
-    keeps_memory = λ size. keeps_memory-grown reads_long.memory (omega arith);
+    keeps_memory = λ size. keeps_memory-grown reads_long.keeps_memory (omega arith);
   }
   long_stops (Err refused) reads_long = record {
-    within = omega (arith, reads_long.refuses.within);
+    within = omega (arith, reads_long.refuses.before_end);
     stops =
         λ stream spare has_read memory.
         absurd
         (omega (arith, reads_long.refuses.lacks_all stream has_read, open_command-fits stream bytes spare memory));
-    keeps_memory = λ size. keeps_memory-grown reads_long.memory (omega arith);
+    keeps_memory = λ size. keeps_memory-grown reads_long.keeps_memory (omega arith);
   }

@@ -8,7 +8,8 @@ use Rattle.vte.specs.Memory.{KeepsMemory}
 use Rattle.vte.specs.Processor.{Meaning, parse, parsing_turn, prefix_to_begin, State, turn}
 use Rattle.vte.specs.ProcessorCalls.{IsAt}
 use Rattle.vte.specs.Refusal.{TakesTurnsUntilRefused}
-use Rattle.vte.specs.Views.{EngineHasMemory, EngineHasParsedAndHolds, EngineView}
+use Rattle.vte.specs.ProcessorFacts.{engine_facts, ProcessorFacts}
+use Rattle.vte.specs.Views.{EngineView}
 use Rattle.vte.specs.declared.ansi.calls.performer.ProcessorState.{ProcessorState}
 use Rattle.vte.specs.declared.ansi.updates.engine.Engine.{Engine}
 
@@ -65,21 +66,19 @@ PartsLeaveMemory {W} view parser lent old next returned bytes =
 abbrev pub EngineIsAt : {P B T A V W : Type 0} → EngineView P B T W → Engine P B T A → V
     → State V W
     → Type 0
-EngineIsAt view engine = IsAt (EngineHasParsedAndHolds view engine)
+EngineIsAt view engine = IsAt (engine_facts view engine)
 
 -- The engine is at a state, with the memory that was there before.
-pub record EngineIsAtKeepingMemory {P B T A V W : Type 0} (view : EngineView P B T W)
-    (engine next : Engine P B T A)
-    (value : V) (state : State V W) : Type 0 where
-  pub engine_at : EngineIsAt view next value state
-  pub keeps_memory : KeepsMemory (EngineHasMemory view engine) (EngineHasMemory view next)
+pub record IsAtKeepingMemory {T V W : Type 0} (engine next : ProcessorFacts T W) (value : V)
+    (state : State V W) : Type 0 where
+  pub engine_at : IsAt next value state
+  pub keeps_memory : KeepsMemory engine.has_memory next.has_memory
 
 -- From each state that the engine is at, it leads on as `ends` says.
-abbrev pub EngineLeadsOn : {P B T A V W : Type 0} → EngineView P B T W → Engine P B T A
-    → Engine P B T A → V → V → (State V W → (State V W → Type 0) → Type 0) → Type 0
-EngineLeadsOn view engine next old new ends =
-    (state : State _ _) → EngineIsAt view engine old state
-    → ends state (EngineIsAtKeepingMemory view engine next new)
+abbrev pub LeadsOn : {T V W : Type 0} → (engine next : ProcessorFacts T W) → (old new : V)
+    → (State V W → (State V W → Type 0) → Type 0) → Type 0
+LeadsOn engine next old new ends =
+    (state : State _ _) → IsAt engine old state → ends state (IsAtKeepingMemory engine next new)
 
 -- ---- how a turn ends
 

@@ -1,7 +1,7 @@
 -- The bytes of a hold.
 use Rattle.std.specs.Prelude.{drop, eqb, false, length, List, None, Option, slice_index, Some, take, ℕ, ◌&&◌, ◌++◌, ◌+◌, ◌-◌, ◌<◌, ◌≡◌, ◌≤◌}
-use Rattle.vte.specs.ProcessorCalls.{held_of}
-use Rattle.vte.specs.Synchronized.{after_last_end, begin_update, begins_ending_in_last, begins_with, end_update, from_begin_update, part_after_last_end}
+use Rattle.vte.specs.ProcessorFacts.{held_of}
+use Rattle.vte.specs.Synchronized.{after_last_end, begin_update, begins_ending_in_last, end_update, from_begin_update, is_prefix_of, part_after_last_end}
 use Rattle.vte.specs.declared.ansi.updates.hold.SyncState.{SyncState}
 use Rattle.vte.specs.declared.ansi.updates.release.Release.{Release}
 
@@ -39,8 +39,8 @@ pub record AddsToHold {A : Type 0} (held more : List ℕ) (hold : SyncState A)
 
 -- Neither an update begins nor one ends with the sequence at this position.
 pub record HasNoSequenceAt (text : List ℕ) (position : ℕ) : Type 0 where
-  pub no_begin : begins_with begin_update (drop position text) ≡ false
-  pub no_end : begins_with end_update (drop position text) ≡ false
+  pub no_begin : is_prefix_of begin_update (drop position text) ≡ false
+  pub no_end : is_prefix_of end_update (drop position text) ≡ false
 
 -- Neither an update begins nor one ends at a position from one on, before another.
 abbrev pub HasNoSequenceBetween : List ℕ → ℕ → ℕ → Type 0

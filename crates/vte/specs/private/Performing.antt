@@ -61,7 +61,7 @@ pub record HasPerformed {P V W : Type 0} (view : ParserView P) (limit : Option �
 
 -- A parser has read `read` of the bytes after a stream: up to an event that terminates the
 -- performer, or all.
-pub record HasStopped {P V W : Type 0} (view : ParserView P) (limit : Option ℕ)
+pub record HasPerformedToStop {P V W : Type 0} (view : ParserView P) (limit : Option ℕ)
     (step : PerformerValue V W → Event → PerformerValue V W) (next : P)
     (old new : PerformerValue V W)
     (stream bytes : List ℕ) (read : ℕ) : Type 0 where
@@ -88,6 +88,6 @@ pub record AdvancesUntilStop {P V W : Type 0} (view : ParserView P) (limit : Opt
   pub within : read ≤ length bytes
   pub stops : (stream : List ℕ) (more : ℕ) → view.has_read parser stream
       → view.has_memory parser old.text_capacity stream (length bytes + more)
-      → HasStopped view limit step next old new stream bytes read
+      → HasPerformedToStop view limit step next old new stream bytes read
   pub keeps_memory : (size : ℕ)
       → KeepsMemory (view.has_memory parser size) (view.has_memory next size)

@@ -1,8 +1,7 @@
 //! The processor with a limit of its own.
-ghost use Rattle.std.specs.Prelude.{Some, [], ◌≡◌};
-ghost use Rattle.vte_core.specs.Parser.{lost_data};
+ghost use Rattle.std.specs.Prelude.{Some, ◌≡◌};
 ghost use Rattle.vte_handler.specs.Timeout.{timeout_meaning};
-ghost use Rattle.vte.specs.BoundedProcessor.{HasParsedAndHoldsBounded, held_in_bounded, parser_in_bounded, timeout_in_bounded};
+ghost use Rattle.vte.specs.ProcessorFacts.{bounded_facts};
 ghost use Rattle.vte.specs.Processor.{processor_meaning};
 ghost use Rattle.vte.specs.ProcessorCalls.{AdvancesInTurns, CountsHeld, Creates, SaysParsedLoss, StopsSync};
 
@@ -28,7 +27,7 @@ impl<T: Timeout + Drop, A: Allocator + Copy, const N: usize> BoundedProcessor<T,
     /// Returns the timeout if memory runs out.
     pub fn new(alloc: A, timeout: T) -> Result<Self, T>
         ensures { Creates (Some N) (timeout_meaning T.set T.clear T.allows) T.value_of
-            timeout_in_bounded (HasParsedAndHoldsBounded T.value_of) timeout result }
+            (bounded_facts T.value_of) timeout result }
     {
         let mut parser = Parser::<N>::new_with_size();
         let mut text = GrowingText::new(alloc);
@@ -43,14 +42,14 @@ impl<T: Timeout + Drop, A: Allocator + Copy, const N: usize> BoundedProcessor<T,
 impl<T: Timeout + Drop, A: Allocator, const N: usize> BoundedProcessor<T, A, N> {
     /// Returns the timeout.
     pub fn sync_timeout(&self) -> &T
-        ensures { result.now ≡ timeout_in_bounded self.now }
+        ensures { result.now ≡ (bounded_facts T.value_of self.now).timeout }
     {
         &self.engine.state.timeout
     }
 
     /// Returns the number of bytes that are held back, at most 2,097,150.
     pub fn sync_bytes_count(&self) -> usize
-        ensures { CountsHeld (held_in_bounded self.now) result }
+        ensures { CountsHeld (bounded_facts T.value_of self.now).held result }
     {
         self.engine.hold.len()
     }
@@ -59,9 +58,8 @@ impl<T: Timeout + Drop, A: Allocator, const N: usize> BoundedProcessor<T, A, N> 
     /// none is open. It loses those after the first `N`, and those after the 16th piece. Bytes that
     /// are held back don't count.
     pub fn command_lost_data(&self) -> bool
-        ensures lost { result ≡ lost_data (parser_in_bounded self.now) }
-        ensures open { SaysParsedLoss (Some N)
-            (HasParsedAndHoldsBounded T.value_of self.now) result }
+        ensures lost { result ≡ (bounded_facts T.value_of self.now).lost }
+        ensures open { SaysParsedLoss (Some N) (bounded_facts T.value_of self.now) result }
     {
         self.engine.parser.command_lost_data()
     }
@@ -70,8 +68,7 @@ impl<T: Timeout + Drop, A: Allocator, const N: usize> BoundedProcessor<T, A, N> 
     /// ended, and clears the timeout. The handler is called without an update, too.
     pub fn stop_sync<H: Handler>(&mut self, handler: &mut H)
         ensures { StopsSync (processor_meaning (Some N) H.step T.set T.clear T.allows)
-            (HasParsedAndHoldsBounded T.value_of self.old)
-            (HasParsedAndHoldsBounded T.value_of self.new)
+            (bounded_facts T.value_of self.old) (bounded_facts T.value_of self.new)
             (H.value_of handler.old) (H.value_of handler.new) }
     {
         self.engine.stop::<H, ByCharacter>(handler);
@@ -80,8 +77,7 @@ impl<T: Timeout + Drop, A: Allocator, const N: usize> BoundedProcessor<T, A, N> 
     /// Stops an update as [`stop_sync`](Self::stop_sync) does. The handler receives text in runs.
     pub fn stop_sync_text<H: HandlerText>(&mut self, handler: &mut H)
         ensures { StopsSync (processor_meaning (Some N) H.step T.set T.clear T.allows)
-            (HasParsedAndHoldsBounded T.value_of self.old)
-            (HasParsedAndHoldsBounded T.value_of self.new)
+            (bounded_facts T.value_of self.old) (bounded_facts T.value_of self.new)
             (H.value_of handler.old) (H.value_of handler.new) }
     {
         self.engine.stop::<H, InRuns>(handler);
@@ -93,8 +89,7 @@ impl<T: Timeout + Drop, A: Allocator, const N: usize> BoundedProcessor<T, A, N> 
     /// receives the calls of the whole stream, however it is split.
     pub fn advance<H: Handler>(&mut self, handler: &mut H, bytes: &[u8])
         ensures { AdvancesInTurns (processor_meaning (Some N) H.step T.set T.clear T.allows)
-            (HasParsedAndHoldsBounded T.value_of self.old)
-            (HasParsedAndHoldsBounded T.value_of self.new)
+            (bounded_facts T.value_of self.old) (bounded_facts T.value_of self.new)
             (H.value_of handler.old) (H.value_of handler.new) bytes.now }
     {
         // The memory is there, so all bytes are read.
@@ -104,8 +99,7 @@ impl<T: Timeout + Drop, A: Allocator, const N: usize> BoundedProcessor<T, A, N> 
     /// Reads bytes as [`advance`](Self::advance) does. The handler receives text in runs.
     pub fn advance_text<H: HandlerText>(&mut self, handler: &mut H, bytes: &[u8])
         ensures { AdvancesInTurns (processor_meaning (Some N) H.step T.set T.clear T.allows)
-            (HasParsedAndHoldsBounded T.value_of self.old)
-            (HasParsedAndHoldsBounded T.value_of self.new)
+            (bounded_facts T.value_of self.old) (bounded_facts T.value_of self.new)
             (H.value_of handler.old) (H.value_of handler.new) bytes.now }
     {
         // The memory is there, so all bytes are read.

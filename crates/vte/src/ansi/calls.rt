@@ -11,5 +11,6 @@ pub(crate) mod joined_text;
 pub(crate) mod numbers;
 pub(crate) mod performer;
 pub(crate) mod rendition;
+pub(crate) mod split;
 pub(crate) mod text_buffer;
 pub(crate) mod values;

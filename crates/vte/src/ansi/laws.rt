@@ -2,7 +2,7 @@
 ghost use Rattle.std.specs.Prelude.{drop, List, None, Option, take, ℕ, ◌++◌, ◌≡◌};
 ghost use Rattle.vte.specs.CallExamples.{color_examples, command_examples, counted_examples, escape_examples, executed_examples, HaveCalls, HaveColors};
 ghost use Rattle.vte.specs.CallExamples.{link_examples, mode_examples, palette_examples, position_examples, rendition_examples, selected_examples, title_examples};
-ghost use Rattle.vte.specs.Processor.{given_bytes, HoldsWellAt, processor_meaning, State, TakesAllTurns, TakesSteps, TakesTurns};
+ghost use Rattle.vte.specs.Processor.{given_bytes, HoldInvariantAt, processor_meaning, State, TakesAllTurns, TakesSteps, TakesTurns};
 ghost use Rattle.vte.specs.ProcessorCalls.{HasDelivered};
 ghost use Rattle.vte.specs.Refusal.{TakesTurnsUntilRefused};
 ghost use Rattle.vte.specs.UpdateExamples.{ExpiredExample, HaveOutcomes, ShortExamples, update_examples};
@@ -35,7 +35,7 @@ pub fn worked_examples()
     ensures color { HaveColors color_examples }
     ensures update { HaveOutcomes update_examples }
     ensures expired { ExpiredExample }
-    ensures short { ShortExamples }
+    ensures short_examples { ShortExamples }
 {}
 
 /// What becomes of the bytes that a caller passes to a processor in calls of its own, and what its
@@ -57,13 +57,14 @@ pub fn calls_are_received<H: Handler, T: Timeout>()
         → let meaning = processor_meaning limit H.step T.set T.clear T.allows in
         TakesSteps meaning state steps reached → TakesSteps meaning reached more next →
         TakesSteps meaning state (steps ++ more) next }
-    ensures holds_well { (limit : Option ℕ) (state next : State H.Value T.Value)
+    ensures hold_invariant { (limit : Option ℕ) (state next : State H.Value T.Value)
         (steps : List Step) → let meaning = processor_meaning limit H.step T.set T.clear T.allows in
-        TakesSteps meaning state steps next → HoldsWellAt meaning state → HoldsWellAt meaning next }
+        TakesSteps meaning state steps next → HoldInvariantAt meaning state →
+        HoldInvariantAt meaning next }
     // With a steady timeout they lead to one state only.
     ensures unique_state { (limit : Option ℕ) (state next other : State H.Value T.Value)
         (steps : List Step) → let meaning = processor_meaning limit H.step T.set T.clear T.allows in
-        IsSteady meaning.timeout → HoldsWellAt meaning state →
+        IsSteady meaning.timeout → HoldInvariantAt meaning state →
         TakesSteps meaning state steps next → TakesSteps meaning state steps other → other ≡ next }
 {}
 
@@ -72,13 +73,13 @@ pub fn calls_are_received<H: Handler, T: Timeout>()
 /// too, although the timeout is asked once more.
 #[tactic(auto, using(crate::proofs::lemmas::turns::RefusedTurns::taken_on))]
 pub fn refused_calls_go_on<H: Handler, T: Timeout>()
-    ensures between { (state next end : State H.Value T.Value) (bytes rest : List ℕ)
+    ensures between_turns { (state next end : State H.Value T.Value) (bytes rest : List ℕ)
         → let meaning = processor_meaning None H.step T.set T.clear T.allows in
         TakesTurns meaning state bytes next rest → TakesAllTurns meaning next rest end
         → TakesAllTurns meaning state bytes end }
-    ensures within { (state next end : State H.Value T.Value) (bytes rest : List ℕ)
+    ensures inside_turn { (state next end : State H.Value T.Value) (bytes rest : List ℕ)
         → let meaning = processor_meaning None H.step T.set T.clear T.allows in
-        IsSteady meaning.timeout → HoldsWellAt meaning state
+        IsSteady meaning.timeout → HoldInvariantAt meaning state
         → TakesTurnsUntilRefused meaning state bytes next rest →
         TakesAllTurns meaning next rest end → TakesAllTurns meaning state bytes end }
 {}

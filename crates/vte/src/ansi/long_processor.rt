@@ -1,11 +1,11 @@
 //! The processor without a limit.
-ghost use Rattle.std.specs.Prelude.{length, List, None, ℕ, [], ◌+◌, ◌≡◌};
-ghost use Rattle.vte_core.specs.LongParser.{lost_data_long, open_command_size, reading_of_long};
+ghost use Rattle.std.specs.Prelude.{List, None, ℕ, [], ◌≡◌};
+ghost use Rattle.vte_core.specs.LongParser.{open_command_size};
 ghost use Rattle.vte_handler.specs.Timeout.{timeout_meaning};
 ghost use Rattle.vte.specs.Processor.{processor_meaning};
-ghost use Rattle.vte.specs.LongProcessor.{AdvancesLong, HasParsedAndHoldsLong, ReservesLong, StopsSyncLong};
-ghost use Rattle.vte.specs.Memory.{HasFreedMemoryLong, HasMemoryLong, held_in_long, KeepsMemory, parser_in_long, timeout_in_long};
-ghost use Rattle.vte.specs.ProcessorCalls.{CountsHeld, Creates, IsCloneOfProcessor, SaysParsedLoss};
+ghost use Rattle.vte.specs.LongProcessor.{AdvancesLong, HasFreedMemoryLong, Reserves};
+ghost use Rattle.vte.specs.ProcessorFacts.{ContinuesAs, long_facts};
+ghost use Rattle.vte.specs.ProcessorCalls.{CountsHeld, Creates, IsCloneOfProcessor, SaysParsedLoss, StopsSync};
 
 use crate::ansi::calls::growing_text::GrowingText;
 use crate::ansi::updates::engine::Engine;
@@ -35,11 +35,7 @@ pub struct LongProcessor<T: Timeout + Drop, A: Allocator> {
 /// A clone goes on as the original would, if the clone of its timeout does.
 impl<T: Timeout + Clone + Drop, A: Allocator + Clone> Clone for LongProcessor<T, A> {
     ghost is_clone = { λ processor clone. IsCloneOfProcessor T.is_clone T.value_of
-        (timeout_in_long processor) (timeout_in_long clone)
-        (HasParsedAndHoldsLong T.value_of processor) (HasParsedAndHoldsLong T.value_of clone)
-        (reading_of_long (parser_in_long processor))
-        (reading_of_long (parser_in_long clone))
-        × KeepsMemory (HasMemoryLong processor) (HasMemoryLong clone) };
+        (long_facts T.value_of processor) (long_facts T.value_of clone) };
 
     fn clone(&self) -> Result<Self, AllocError> {
         let engine = self.engine.clone()?;
@@ -53,8 +49,8 @@ impl<T: Timeout + Drop, A: Allocator + Copy> LongProcessor<T, A> {
     ///
     /// Returns the timeout if memory runs out.
     pub fn new(alloc: A, timeout: T) -> Result<Self, T>
-        ensures { Creates None (timeout_meaning T.set T.clear T.allows) T.value_of timeout_in_long
-            (HasParsedAndHoldsLong T.value_of) timeout result }
+        ensures { Creates None (timeout_meaning T.set T.clear T.allows) T.value_of
+            (long_facts T.value_of) timeout result }
     {
         let parser = LongParser::new(alloc);
         let text = GrowingText::new(alloc);
@@ -66,14 +62,14 @@ impl<T: Timeout + Drop, A: Allocator + Copy> LongProcessor<T, A> {
 impl<T: Timeout + Drop, A: Allocator> LongProcessor<T, A> {
     /// Returns the timeout.
     pub fn sync_timeout(&self) -> &T
-        ensures { result.now ≡ timeout_in_long self.now }
+        ensures { result.now ≡ (long_facts T.value_of self.now).timeout }
     {
         &self.engine.state.timeout
     }
 
     /// Returns the number of bytes that are held back, at most 2,097,150.
     pub fn sync_bytes_count(&self) -> usize
-        ensures { CountsHeld (held_in_long self.now) result }
+        ensures { CountsHeld (long_facts T.value_of self.now).held result }
     {
         self.engine.hold.len()
     }
@@ -81,8 +77,8 @@ impl<T: Timeout + Drop, A: Allocator> LongProcessor<T, A> {
     /// Returns whether the open operating system command has lost data bytes, or the last one if
     /// none is open. It loses those after the 16th piece. Bytes that are held back don't count.
     pub fn command_lost_data(&self) -> bool
-        ensures lost { result ≡ lost_data_long (parser_in_long self.now) }
-        ensures open { SaysParsedLoss None (HasParsedAndHoldsLong T.value_of self.now) result }
+        ensures lost { result ≡ (long_facts T.value_of self.now).lost }
+        ensures open { SaysParsedLoss None (long_facts T.value_of self.now) result }
     {
         self.engine.parser.command_lost_data()
     }
@@ -91,7 +87,8 @@ impl<T: Timeout + Drop, A: Allocator> LongProcessor<T, A> {
     /// is there. Calls with no more bytes than that are then never refused memory.
     #[must_use = "the memory may be refused"]
     pub fn reserve(&mut self, more: usize) -> bool
-        ensures { ReservesLong T.value_of self.old self.new more result }
+        ensures { Reserves (long_facts T.value_of self.old)
+            (long_facts T.value_of self.new) more result }
     {
         self.engine.reserve(more)
     }
@@ -99,17 +96,16 @@ impl<T: Timeout + Drop, A: Allocator> LongProcessor<T, A> {
     /// Gives back the memory that an open operating system command doesn't need, unless bytes are
     /// held back. The 2,097,152 bytes for updates stay.
     pub fn shrink(&mut self)
-        ensures stays { (parsed held : List ℕ) (timeout : T.Value)
-            → HasParsedAndHoldsLong T.value_of self.old parsed held timeout
-            → HasParsedAndHoldsLong T.value_of self.new parsed held timeout }
+        ensures stays { ContinuesAs (long_facts T.value_of self.old)
+            (long_facts T.value_of self.new) }
         // No memory is kept if no command is open.
         ensures frees { (parsed : List ℕ) (timeout : T.Value)
-            → HasParsedAndHoldsLong T.value_of self.old parsed [] timeout
+            → (long_facts T.value_of self.old).has_parsed_and_holds parsed [] timeout
             → open_command_size parsed ≡ 0
             → HasFreedMemoryLong self.new }
         // `command_lost_data` answers as before.
-        ensures lost { lost_data_long (parser_in_long self.new)
-            ≡ lost_data_long (parser_in_long self.old) }
+        ensures lost { (long_facts T.value_of self.new).lost
+            ≡ (long_facts T.value_of self.old).lost }
     {
         if self.engine.hold.len() == 0 {
             self.engine.parser.shrink();
@@ -121,8 +117,8 @@ impl<T: Timeout + Drop, A: Allocator> LongProcessor<T, A> {
     /// ended, and clears the timeout. The handler is called without an update, too. It needs no
     /// memory: what is held back has taken it.
     pub fn stop_sync<H: Handler>(&mut self, handler: &mut H)
-        ensures { StopsSyncLong T.value_of
-            (processor_meaning None H.step T.set T.clear T.allows) self.old self.new
+        ensures { StopsSync (processor_meaning None H.step T.set T.clear T.allows)
+            (long_facts T.value_of self.old) (long_facts T.value_of self.new)
             (H.value_of handler.old) (H.value_of handler.new) }
     {
         self.engine.stop::<H, ByCharacter>(handler);
@@ -130,8 +126,8 @@ impl<T: Timeout + Drop, A: Allocator> LongProcessor<T, A> {
 
     /// Stops an update as [`stop_sync`](Self::stop_sync) does. The handler receives text in runs.
     pub fn stop_sync_text<H: HandlerText>(&mut self, handler: &mut H)
-        ensures { StopsSyncLong T.value_of
-            (processor_meaning None H.step T.set T.clear T.allows) self.old self.new
+        ensures { StopsSync (processor_meaning None H.step T.set T.clear T.allows)
+            (long_facts T.value_of self.old) (long_facts T.value_of self.new)
             (H.value_of handler.old) (H.value_of handler.new) }
     {
         self.engine.stop::<H, InRuns>(handler);
@@ -143,8 +139,8 @@ impl<T: Timeout + Drop, A: Allocator> LongProcessor<T, A> {
     /// If the timeout is never pending and no memory is refused, all bytes are parsed: the handler
     /// of a new processor receives the calls of the whole stream, however it is split.
     pub fn advance<H: Handler>(&mut self, handler: &mut H, bytes: &[u8]) -> Result<(), Refused>
-        ensures { AdvancesLong T.value_of
-            (processor_meaning None H.step T.set T.clear T.allows) self.old self.new
+        ensures { AdvancesLong (processor_meaning None H.step T.set T.clear T.allows)
+            (long_facts T.value_of self.old) (long_facts T.value_of self.new)
             (H.value_of handler.old) (H.value_of handler.new) bytes.now result }
     {
         self.engine.advance::<H, ByCharacter>(handler, bytes)
@@ -156,8 +152,8 @@ impl<T: Timeout + Drop, A: Allocator> LongProcessor<T, A> {
         handler: &mut H,
         bytes: &[u8],
     ) -> Result<(), Refused>
-        ensures { AdvancesLong T.value_of
-            (processor_meaning None H.step T.set T.clear T.allows) self.old self.new
+        ensures { AdvancesLong (processor_meaning None H.step T.set T.clear T.allows)
+            (long_facts T.value_of self.old) (long_facts T.value_of self.new)
             (H.value_of handler.old) (H.value_of handler.new) bytes.now result }
     {
         self.engine.advance::<H, InRuns>(handler, bytes)

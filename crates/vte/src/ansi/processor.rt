@@ -1,9 +1,9 @@
 //! The processor. A call of `advance` takes turns, and each turn parses bytes or holds them back.
-ghost use Rattle.std.specs.Prelude.{[], ◌≡◌};
+ghost use Rattle.std.specs.Prelude.{◌≡◌};
 ghost use Rattle.vte_handler.specs.Timeout.{timeout_meaning};
 ghost use Rattle.vte.specs.Processor.{processor_meaning};
-ghost use Rattle.vte.specs.ProcessorCalls.{AdvancesInTurns, CountsHeld, Creates, HasParsedAndHolds, held_in, IsCloneOfProcessor, parser_in, SaysParsedLoss, StopsSync, timeout_in};
-ghost use Rattle.vte_core.specs.Parser.{lost_data, reading_of};
+ghost use Rattle.vte.specs.ProcessorFacts.{processor_facts};
+ghost use Rattle.vte.specs.ProcessorCalls.{AdvancesInTurns, CountsHeld, Creates, IsCloneOfProcessor, SaysParsedLoss, StopsSync};
 ghost use Rattle.vte_core.specs.Stream.{default_limit};
 
 use crate::ansi::updates::engine::Engine;
@@ -47,9 +47,7 @@ pub struct Processor<T: Timeout + Drop, A: Allocator> {
 /// A clone goes on as the original would, if the clone of its timeout does.
 impl<T: Timeout + Clone + Drop, A: Allocator + Clone> Clone for Processor<T, A> {
     ghost is_clone = { λ processor clone. IsCloneOfProcessor T.is_clone T.value_of
-        (timeout_in processor) (timeout_in clone) (HasParsedAndHolds T.value_of processor)
-        (HasParsedAndHolds T.value_of clone) (reading_of (parser_in processor))
-        (reading_of (parser_in clone)) };
+        (processor_facts T.value_of processor) (processor_facts T.value_of clone) };
 
     fn clone(&self) -> Result<Self, AllocError> {
         let engine = self.engine.clone()?;
@@ -63,9 +61,8 @@ impl<T: Timeout + Drop, A: Allocator> Processor<T, A> {
     ///
     /// Returns the timeout if memory runs out.
     pub fn new(alloc: A, timeout: T) -> Result<Self, T>
-        ensures { Creates default_limit
-            (timeout_meaning T.set T.clear T.allows) T.value_of timeout_in
-            (HasParsedAndHolds T.value_of) timeout result }
+        ensures { Creates default_limit (timeout_meaning T.set T.clear T.allows) T.value_of
+            (processor_facts T.value_of) timeout result }
     {
         let engine = Engine::new(alloc, ProcessorParser::new(), ProcessorText::new(), timeout)?;
         Ok(Processor { engine })
@@ -73,14 +70,14 @@ impl<T: Timeout + Drop, A: Allocator> Processor<T, A> {
 
     /// Returns the timeout.
     pub fn sync_timeout(&self) -> &T
-        ensures { result.now ≡ timeout_in self.now }
+        ensures { result.now ≡ (processor_facts T.value_of self.now).timeout }
     {
         &self.engine.state.timeout
     }
 
     /// Returns the number of bytes that are held back, at most 2,097,150.
     pub fn sync_bytes_count(&self) -> usize
-        ensures { CountsHeld (held_in self.now) result }
+        ensures { CountsHeld (processor_facts T.value_of self.now).held result }
     {
         self.engine.hold.len()
     }
@@ -89,8 +86,8 @@ impl<T: Timeout + Drop, A: Allocator> Processor<T, A> {
     /// none is open. It loses those after the first 1,024, and those after the 16th piece. Bytes
     /// that are held back don't count.
     pub fn command_lost_data(&self) -> bool
-        ensures lost { result ≡ lost_data (parser_in self.now) }
-        ensures open { SaysParsedLoss default_limit (HasParsedAndHolds T.value_of self.now) result }
+        ensures lost { result ≡ (processor_facts T.value_of self.now).lost }
+        ensures open { SaysParsedLoss default_limit (processor_facts T.value_of self.now) result }
     {
         self.engine.parser.command_lost_data()
     }
@@ -99,7 +96,7 @@ impl<T: Timeout + Drop, A: Allocator> Processor<T, A> {
     /// ended, and clears the timeout. The handler is called without an update, too.
     pub fn stop_sync<H: Handler>(&mut self, handler: &mut H)
         ensures { StopsSync (processor_meaning default_limit H.step T.set T.clear T.allows)
-            (HasParsedAndHolds T.value_of self.old) (HasParsedAndHolds T.value_of self.new)
+            (processor_facts T.value_of self.old) (processor_facts T.value_of self.new)
             (H.value_of handler.old) (H.value_of handler.new) }
     {
         self.engine.stop::<H, ByCharacter>(handler);
@@ -108,7 +105,7 @@ impl<T: Timeout + Drop, A: Allocator> Processor<T, A> {
     /// Stops an update as [`stop_sync`](Self::stop_sync) does. The handler receives text in runs.
     pub fn stop_sync_text<H: HandlerText>(&mut self, handler: &mut H)
         ensures { StopsSync (processor_meaning default_limit H.step T.set T.clear T.allows)
-            (HasParsedAndHolds T.value_of self.old) (HasParsedAndHolds T.value_of self.new)
+            (processor_facts T.value_of self.old) (processor_facts T.value_of self.new)
             (H.value_of handler.old) (H.value_of handler.new) }
     {
         self.engine.stop::<H, InRuns>(handler);
@@ -120,7 +117,7 @@ impl<T: Timeout + Drop, A: Allocator> Processor<T, A> {
     /// receives the calls of the whole stream, however it is split.
     pub fn advance<H: Handler>(&mut self, handler: &mut H, bytes: &[u8])
         ensures { AdvancesInTurns (processor_meaning default_limit H.step T.set T.clear T.allows)
-            (HasParsedAndHolds T.value_of self.old) (HasParsedAndHolds T.value_of self.new)
+            (processor_facts T.value_of self.old) (processor_facts T.value_of self.new)
             (H.value_of handler.old) (H.value_of handler.new) bytes.now }
     {
         // The memory is there, so all bytes are read.
@@ -130,7 +127,7 @@ impl<T: Timeout + Drop, A: Allocator> Processor<T, A> {
     /// Reads bytes as [`advance`](Self::advance) does. The handler receives text in runs.
     pub fn advance_text<H: HandlerText>(&mut self, handler: &mut H, bytes: &[u8])
         ensures { AdvancesInTurns (processor_meaning default_limit H.step T.set T.clear T.allows)
-            (HasParsedAndHolds T.value_of self.old) (HasParsedAndHolds T.value_of self.new)
+            (processor_facts T.value_of self.old) (processor_facts T.value_of self.new)
             (H.value_of handler.old) (H.value_of handler.new) bytes.now }
     {
         // The memory is there, so all bytes are read.

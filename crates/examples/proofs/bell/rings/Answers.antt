@@ -20,7 +20,7 @@ as_all : (rung : Bool) (n : ℕ) (bytes : List ℕ)
     → StopsExactly rung_after (λ has_rung. has_rung) false default_limit [] bytes rung n
     → rung ≡ after rung_after false (added default_limit [] bytes)
 as_all true n bytes s = sym (stays_all (added default_limit (resumed_stream [] bytes n) (drop n bytes)))
-    ∙ s.comes.goes_on
+    ∙ s.comes.rest_completes
 as_all false n bytes s = s.all (grind (arith, s.comes.within, s.stops))
 
 pub returns : goal.returns

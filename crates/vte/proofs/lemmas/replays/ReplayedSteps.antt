@@ -1,9 +1,9 @@
 -- A list of calls, made call by call (`advance_taken`, `stop_taken`): a loop over calls makes `TakesSteps`, and the
 -- handler has received their calls. A steady timeout allows one answer in each state, so where the list leads is then a
 -- function of its calls (`replay-only_one`).
-use Rattle.vte.proofs.Common.{Advance, ap, append-nil, append_assoc, append_cancel_right, arith, Bool, Bor, done, drop, drop_more, get_or, given_bytes, HasAdvanced, HasAdvancedPart, HasDelivered, HasReplayed, HoldsWellAt, IsSteady, length, List, Meaning, refl, rules, State, Step, stop, StopSync, sym, take, take-append-drop, take_more, TakesAllTurns, TakesSteps, TakesTurnsUntilRefused, turns, ℕ, [], ◌++◌, ◌+◌, ◌-◌, ◌<◌, ◌∙◌, ◌∷◌, ◌≡◌}
+use Rattle.vte.proofs.Common.{Advance, ap, append-nil, append_assoc, append_cancel_right, arith, Bool, Bor, done, drop, drop_more, get_or, given_bytes, HasAdvanced, HasAdvancedPart, HasDelivered, HasReplayed, HoldInvariantAt, IsSteady, length, List, Meaning, refl, rules, State, Step, stop, StopSync, sym, take, take-append-drop, take_more, TakesAllTurns, TakesSteps, TakesTurnsUntilRefused, turns, ℕ, [], ◌++◌, ◌+◌, ◌-◌, ◌<◌, ◌∙◌, ◌∷◌, ◌≡◌}
 use Rattle.vte.proofs.lemmas.turns.EachOnce.{progresses-before, progresses-replay, progresses-then}
-use Rattle.vte.proofs.lemmas.turns.HoldFacts.{stop-well, turn-well, turns-well}
+use Rattle.vte.proofs.lemmas.turns.HoldFacts.{stop-invariant, turn-invariant, turns-invariant}
 use Rattle.vte.specs.Refusal.{IsFirstRefused}
 use Rattle.vte.proofs.lemmas.turns.RefusedTurns.{progresses-until_refused}
 use Rattle.vte.proofs.lemmas.replays.ReceivedCalls.{delivers-refused, delivers-replay, HasStillToDeliver}
@@ -18,43 +18,44 @@ first_lacks {i} {bytes} lacks steps missing read inside step_is lacking =
 -- ---- for a timeout that is steady, a list of calls leads to one state
 
 module _ {V W : Type 0} (meaning : Meaning V W) (steady : IsSteady meaning.timeout) where
-  answers-only_one : (state : State V W) (answer other : Bool) → HoldsWellAt meaning state
+  answers-only_one : (state : State V W) (answer other : Bool) → HoldInvariantAt meaning state
       → meaning.timeout.allows state.timeout answer
       → meaning.timeout.allows state.timeout other → answer ≡ other
-  answers-only_one state answer other well allowed allowed_too = search (rules, arith)
+  answers-only_one state answer other hold_invariant allowed allowed_too = search (rules, arith)
 
-  advances-only_one : (state end other : State V W) (bytes : List ℕ) → HoldsWellAt meaning state
+  advances-only_one : (state end other : State V W) (bytes : List ℕ) → HoldInvariantAt meaning state
       → TakesAllTurns meaning state bytes end
       → TakesAllTurns meaning state bytes other → other ≡ end
-  advances-only_one state end other [] well done done = refl
-  advances-only_one state end other (b ∷ bytes) well (turns pending allowed takes) (turns also allowed_too takes_too) =
-      advances-only_one _ end other _ (turn-well meaning pending state (b ∷ bytes) allowed well) takes
-      (rw (answers-only_one state also pending well allowed_too allowed) at takes_too)
+  advances-only_one state end other [] hold_invariant done done = refl
+  advances-only_one state end other (b ∷ bytes) hold_invariant (turns pending allowed takes)
+      (turns also allowed_too takes_too) =
+      advances-only_one _ end other _ (turn-invariant meaning pending state (b ∷ bytes) allowed hold_invariant) takes
+      (rw (answers-only_one state also pending hold_invariant allowed_too allowed) at takes_too)
 
-  pub replay-only_one : (state end other : State V W) (steps : List Step) → HoldsWellAt meaning state
+  pub replay-only_one : (state end other : State V W) (steps : List Step) → HoldInvariantAt meaning state
       → TakesSteps meaning state steps end
       → TakesSteps meaning state steps other → other ≡ end
-  replay-only_one state end other [] well takes takes_too = sym takes_too ∙ takes
-  replay-only_one state end other (Advance bytes ∷ steps) well (reached, (advances, takes))
+  replay-only_one state end other [] hold_invariant takes takes_too = sym takes_too ∙ takes
+  replay-only_one state end other (Advance bytes ∷ steps) hold_invariant (reached, (advances, takes))
       (reached_too, (advances_too, takes_too)) =
-      replay-only_one reached end other steps (turns-well meaning advances well) takes
-      (rw (advances-only_one state reached reached_too bytes.now well advances advances_too) at takes_too)
-  replay-only_one state end other (StopSync ∷ steps) well takes takes_too =
-      replay-only_one (stop meaning state) end other steps (stop-well meaning state) takes takes_too
+      replay-only_one reached end other steps (turns-invariant meaning advances hold_invariant) takes
+      (rw (advances-only_one state reached reached_too bytes.now hold_invariant advances advances_too) at takes_too)
+  replay-only_one state end other (StopSync ∷ steps) hold_invariant takes takes_too =
+      replay-only_one (stop meaning state) end other steps (stop-invariant meaning state) takes takes_too
 
 -- ---- calls one by one
 
 -- Lists of calls compose (`replay-append`), so a loop keeps `HasReplayed`.
 
 module _ {V W : Type 0} (meaning : Meaning V W) where
-  pub replay-well : (state next : State V W) (steps : List Step) → TakesSteps meaning state steps next
-      → HoldsWellAt meaning state
-      → HoldsWellAt meaning next
-  replay-well state next [] same well = rw (← same) well
-  replay-well state next (Advance bytes ∷ steps) (reached, (advances, takes)) well =
-      replay-well reached next steps takes (turns-well meaning advances well)
-  replay-well state next (StopSync ∷ steps) takes well =
-      replay-well (stop meaning state) next steps takes (stop-well meaning state)
+  pub replay-invariant : (state next : State V W) (steps : List Step) → TakesSteps meaning state steps next
+      → HoldInvariantAt meaning state
+      → HoldInvariantAt meaning next
+  replay-invariant state next [] same hold_invariant = rw (← same) hold_invariant
+  replay-invariant state next (Advance bytes ∷ steps) (reached, (advances, takes)) hold_invariant =
+      replay-invariant reached next steps takes (turns-invariant meaning advances hold_invariant)
+  replay-invariant state next (StopSync ∷ steps) takes hold_invariant =
+      replay-invariant (stop meaning state) next steps takes (stop-invariant meaning state)
 
   -- Steps that lead to a state and further steps from there are one list of steps.
   pub replay-append : (state reached next : State V W) (steps others : List Step)
@@ -114,8 +115,10 @@ module _ {V W : Type 0} (meaning : Meaning V W) where
     next = next;
     takes = takes;
     delivers = steps_delivered state next steps takes;
-    holds_well = replay-well state next steps takes;
-    unique_state = λ steady well other takes_other. replay-only_one meaning steady state next other steps well takes
+    hold_invariant = replay-invariant state next steps takes;
+    unique_state =
+        λ steady hold_invariant other takes_other. replay-only_one meaning steady state next other steps hold_invariant
+        takes
         takes_other;
     is_at = is_at;
   }

@@ -1,7 +1,7 @@
 -- With a timeout that is never pending, the handler receives the calls of the whole stream (`replays_all`,
 -- `plain_call`): nothing is ever held, so there are no stops. By induction over turns: each one parses, and ends with
 -- nothing held.
-use Rattle.vte.proofs.Common.{added_calls, Advance, after, ap, append-nil, Bor, calls, done, events, false, given_bytes, HasAdvanced, HasParsedAll, HasReplayed, IsAt, List, Meaning, ProcessorPredicate, refl, Replays, State, Step, StopSync, sym, TakesAllTurns, TakesSteps, true, turn, turns, ℕ, [], ◌++◌, ◌∙◌, ◌∷◌, ◌≡◌}
+use Rattle.vte.proofs.Common.{added_calls, Advance, after, ap, append-nil, Bor, calls, done, events, false, given_bytes, HasAdvanced, HasParsedAll, HasReplayed, IsAt, List, Meaning, ProcessorFacts, refl, Replays, State, Step, StopSync, sym, TakesAllTurns, TakesSteps, true, turn, turns, ℕ, [], ◌++◌, ◌∙◌, ◌∷◌, ◌≡◌}
 use Rattle.vte.proofs.lemmas.EventCalls.{after_calls-append, calls_whole}
 use Rattle.vte.specs.ProcessorCalls.{AreAdvances, IsNeverPending, ParsesAll}
 use Rattle.vte.proofs.lemmas.replays.ReceivedCalls.{calls_between-whole}
@@ -37,18 +37,18 @@ module _ {V W : Type 0} (meaning : Meaning V W) (never : IsNeverPending meaning.
 
 -- ---- from a processor that holds nothing, calls parse all bytes
 
-module _ {V W : Type 0} {Before : ProcessorPredicate W} (old : V) {stream : List ℕ}
-    (has_parsed : HasParsedAll Before stream) where
+module _ {T V W : Type 0} {processor : ProcessorFacts T W} (old : V) {stream : List ℕ}
+    (has_parsed : HasParsedAll processor stream) where
   abbrev start_state : State V W
   start_state = record { parsed = stream; stops = []; held = []; timeout = has_parsed.timeout; handler = old }
 
-  is_at_start : IsAt Before old start_state
-  is_at_start = record { agrees = has_parsed.agrees; handler_is = refl }
+  is_at_start : IsAt processor old start_state
+  is_at_start = record { processor_is = has_parsed.processor_is; handler_is = refl }
 
   module _ (meaning : Meaning V W)
-      (never : IsNeverPending meaning.timeout.allows) {After : ProcessorPredicate W} {new : V}
+      (never : IsNeverPending meaning.timeout.allows) {next : ProcessorFacts T W} {new : V}
       (steps : List Step) (are_advances : AreAdvances steps)
-      (replayed : HasReplayed meaning start_state steps (IsAt After new)) where
+      (replayed : HasReplayed meaning start_state steps (IsAt next new)) where
     is_plain : IsPlain start_state replayed.next
     is_plain = plain_run meaning never start_state replayed.next steps replayed.takes are_advances refl
 
@@ -77,19 +77,19 @@ module _ {V W : Type 0} {Before : ProcessorPredicate W} (old : V) {stream : List
         (added_calls meaning.limit stream (given_bytes steps))))
         ∙ ap (after meaning.step start) (sym (calls_whole meaning.limit stream (given_bytes steps)))
 
-    plain_parses : HasParsedAll After (stream ++ given_bytes steps)
+    plain_parses : HasParsedAll next (stream ++ given_bytes steps)
     plain_parses = record {
       timeout = replayed.next.timeout;
-      agrees = rw (parsed_all, is_plain.none_held) at replayed.is_at.agrees;
+      processor_is = rw (parsed_all, is_plain.none_held) at replayed.is_at.processor_is;
     }
 
 -- ---- the clauses of a list of calls, and of one call
 
-module _ {V W : Type 0} (meaning : Meaning V W) {Before After : ProcessorPredicate W} {old new : V} where
+module _ {T V W : Type 0} (meaning : Meaning V W) {processor next : ProcessorFacts T W} {old new : V} where
   plain_calls : (steps : List Step)
-      → ((state : State V W) → IsAt Before old state → HasReplayed meaning state steps (IsAt After new))
+      → ((state : State V W) → IsAt processor old state → HasReplayed meaning state steps (IsAt next new))
       → IsNeverPending meaning.timeout.allows → AreAdvances steps
-      → ParsesAll meaning Before After old new (given_bytes steps)
+      → ParsesAll meaning processor next old new (given_bytes steps)
   plain_calls steps replayed never are_advances = record {
     follows = λ start stream has_parsed.
         plain_follows old has_parsed meaning never steps are_advances (replayed _ (is_at_start old has_parsed)) start;
@@ -98,14 +98,14 @@ module _ {V W : Type 0} (meaning : Meaning V W) {Before After : ProcessorPredica
   }
 
   pub replays_all : {steps : List Step}
-      → ((state : State V W) → IsAt Before old state → HasReplayed meaning state steps (IsAt After new))
-      → Replays meaning Before After old new steps
+      → ((state : State V W) → IsAt processor old state → HasReplayed meaning state steps (IsAt next new))
+      → Replays meaning processor next old new steps
   replays_all {steps} replayed = record { replays = replayed; if_never_pending = plain_calls steps replayed }
 
   -- A single call is a list of one step.
   pub plain_call : (bytes : Bor (List ℕ))
-      → ((state : State V W) → IsAt Before old state → HasAdvanced meaning state bytes.now (IsAt After new))
-      → IsNeverPending meaning.timeout.allows → ParsesAll meaning Before After old new bytes.now
+      → ((state : State V W) → IsAt processor old state → HasAdvanced meaning state bytes.now (IsAt next new))
+      → IsNeverPending meaning.timeout.allows → ParsesAll meaning processor next old new bytes.now
   plain_call bytes advances never =
       let replays = replays_all {steps =
       Advance bytes ∷ []} (λ state is_at. advance_runs meaning (advances state is_at)) in

@@ -1,24 +1,29 @@
 -- From turns to a call: what the private functions ensure of parser, hold and handler is put together into `HasTurned`
 -- and `HasBeenRefused`, and the loop over turns into `TakesTurns` and `TakesTurnsUntilRefused`.
-use Rattle.vte.proofs.Common.{all_bytes, ap, append_assoc, append_cancel_right, arith, between_turns, Bool, done, drop, drop-drop, drop_all, EndsParsingTurn, EndsTurn, Engine, EngineAdvances, EngineHasMemory, EngineIsAt, EngineIsAtKeepingMemory, EngineLacksMemory, EngineReserves, EngineStopsSync, EngineView, Err, false, HasAdvanced, HasAdvancedPart, HasBeenRefused, HasParsedPrefix, HasParsedWithoutBegin, HasTurned, held_of, hold_turn, inside_turn, KeepsMemory, length, length-drop, List, MatchResult, Meaning, Ok, parse, PartsAreAt, PartsAreAtKeepingMemory, PartsAreAtWithMemory, ProcessorState, refl, Refused, Result, rules, State, stop, sym, take, take-append-drop, take_all, TakesTurns, TakesTurnsUntilRefused, true, turn, ℕ, [], ◌++◌, ◌+◌, ◌-◌, ◌<◌, ◌∙◌, ◌≡◌, ◌≤◌}
+use Rattle.vte.proofs.Common.{AdvancesUntilRefused, all_bytes, ap, append_assoc, append_cancel_right, arith, between_turns, Bool, done, drop, drop-drop, drop_all, EndsParsingTurn, EndsTurn, Engine, engine_facts, EngineIsAt, EngineView, Err, false, HasAdvanced, HasAdvancedPart, HasBeenRefused, HasParsedPrefix, HasParsedWithoutBegin, HasTurned, held_of, hold_turn, inside_turn, IsAt, IsAtKeepingMemory, KeepsMemory, length, length-drop, List, MatchResult, Meaning, Ok, parse, PartsAreAt, PartsAreAtKeepingMemory, PartsAreAtWithMemory, ProcessorFacts, ProcessorLacksMemory, ProcessorState, refl, Refused, Reserves, Result, rules, State, stop, StopsSync, sym, take, take-append-drop, take_all, TakesTurns, TakesTurnsUntilRefused, true, turn, ℕ, [], ◌++◌, ◌+◌, ◌-◌, ◌<◌, ◌∙◌, ◌≡◌, ◌≤◌}
 use Rattle.vte.proofs.lemmas.turns.TurnKinds.{is_held, refused-by_parsing, stop_if_due, turn-holds, turn-parses}
 use Rattle.vte.proofs.lemmas.turns.EachOnce.{all_bytes-grown}
 use Rattle.vte.proofs.lemmas.turns.Slices.{parsing-refused}
-use Rattle.vte.proofs.lemmas.turns.RefusedTurns.{progresses-until_refused, taken_on, takes-one, until_refused-all, until_refused-on, until_refused-well}
+use Rattle.vte.proofs.lemmas.turns.RefusedTurns.{progresses-until_refused, taken_on, takes-one, until_refused-all, until_refused-invariant, until_refused-on}
 use Rattle.std.proofs.lemmas.List.{take_rest}
 
 -- If an engine is at a state, so are its parts.
 module _ {P B T A V W : Type 0} {view : EngineView P B T W} {engine : Engine P B T A} {value : V} {state : State V W}
   where
     pub parts-at : EngineIsAt view engine value state → PartsAreAt view engine.parser engine.state value state
-    parts-at is_at = search rules
+    parts-at is_at = record {
+      has_read = is_at.processor_is.has_read;
+      last = is_at.processor_is.last;
+      timeout_is = is_at.processor_is.timeout_is;
+      handler_is = is_at.handler_is;
+    }
 
     -- If its parts are at a state and nothing is held, the engine is at that state.
     pub engine-at : PartsAreAt view engine.parser engine.state value state → held_of engine.hold ≡ state.held
         → state.held ≡ []
         → EngineIsAt view engine value state
     engine-at parts_at holds none_held = record {
-      agrees =
+      processor_is =
           record {
             has_read = parts_at.has_read;
             last = parts_at.last;
@@ -30,23 +35,25 @@ module _ {P B T A V W : Type 0} {view : EngineView P B T W} {engine : Engine P B
     }
 
 -- Turns go on with the memory that was there before.
-module _ {P B T A V W : Type 0} {view : EngineView P B T W} {value : V} {state : State V W} where
-  pub keeping_memory-same : {engine : Engine P B T A} → EngineIsAt view engine value state
-      → EngineIsAtKeepingMemory view engine engine value state
+module _ {T V W : Type 0} {value : V} {state : State V W} where
+  pub keeping_memory-same : {engine : ProcessorFacts T W} → IsAt engine value state
+      → IsAtKeepingMemory engine engine value state
   keeping_memory-same is_at = record { engine_at = is_at; keeps_memory = λ stream count had. had }
 
-  pub keeping_memory-then : {old mid new : Engine P B T A}
-      → KeepsMemory (EngineHasMemory view old) (EngineHasMemory view mid)
-      → EngineIsAtKeepingMemory view mid new value state → EngineIsAtKeepingMemory view old new value state
-  keeping_memory-then keeps next = search (rules, arith)
+  pub keeping_memory-then : {old mid new : ProcessorFacts T W} {other : V} {reached : State V W}
+      → IsAtKeepingMemory old mid other reached → IsAtKeepingMemory mid new value state
+      → IsAtKeepingMemory old new value state
+  keeping_memory-then here next = record {
+    engine_at = next.engine_at;
+    keeps_memory = λ stream count had. next.keeps_memory stream count (here.keeps_memory stream count had);
+  }
 
   -- A reservation, whatever its result, changes neither the state nor the handler.
-  pub keeping_memory-reserved : {old mid new : Engine P B T A} {more : ℕ} {result : Bool}
-      → EngineReserves view mid new more result
-      → EngineIsAtKeepingMemory view old mid value state → EngineIsAtKeepingMemory view old new value state
+  pub keeping_memory-reserved : {old mid new : ProcessorFacts T W} {more : ℕ} {result : Bool}
+      → Reserves mid new more result → IsAtKeepingMemory old mid value state → IsAtKeepingMemory old new value state
   keeping_memory-reserved reserves is_at = record {
     engine_at = record {
-      agrees = reserves.stays state.parsed state.held state.timeout is_at.engine_at.agrees;
+      processor_is = reserves.stays state.parsed state.held state.timeout is_at.engine_at.processor_is;
       handler_is = is_at.engine_at.handler_is;
     };
     keeps_memory = λ stream count had. reserves.keeps_memory stream count (is_at.keeps_memory stream count had);
@@ -57,24 +64,25 @@ module _ {P B T A V W : Type 0} {view : EngineView P B T W} {meaning : Meaning V
     List ℕ}
     {read count n : ℕ} {begins : Bool}
     {first old taken : Engine P B T A} {parser : P} {state : ProcessorState T B} {before value : V} where
-  pub slice-parsed : HasParsedWithoutBegin meaning start bytes read (EngineIsAtKeepingMemory view first old before)
-      → EngineReserves view old taken count true
+  pub slice-parsed : HasParsedWithoutBegin meaning start bytes read
+      (IsAtKeepingMemory (engine_facts view first) (engine_facts view old) before)
+      → Reserves (engine_facts view old) (engine_facts view taken) count true
       → length slice ≡ count → start.held ≡ []
       → ((next : State V W) (spare : ℕ)
       → PartsAreAtWithMemory view taken.parser taken.state before next (length slice + spare)
       → HasParsedPrefix meaning next slice n begins
       (PartsAreAtKeepingMemory view taken.parser taken.state parser state value))
       → HasParsedPrefix meaning (parse meaning start (take read bytes)) slice n begins
-      (EngineIsAtKeepingMemory view first (record taken { parser = parser; state = state }) value)
+      (IsAtKeepingMemory (engine_facts view first)
+      (engine_facts view (record taken { parser = parser; state = state })) value)
   slice-parsed parsed reserves size_is none_held parses =
-      let here : EngineIsAtKeepingMemory view first taken before
-      (parse meaning start (take read bytes)) = keeping_memory-reserved reserves parsed.is_at in
+      let here = keeping_memory-reserved reserves parsed.is_at in
       let sum : length slice + 0 ≡ length start.held + count = omega (arith, size_is, ap length none_held) in
       let parsed_slice =
       parses (parse meaning start (take read bytes)) 0
       (record {
         parts_at = parts-at here.engine_at;
-        memory = rw sum (reserves.memory refl _ _ _ here.engine_at.agrees);
+        memory = rw sum (reserves.memory refl _ _ _ here.engine_at.processor_is);
       }) in
       record {
         count = parsed_slice.count;
@@ -82,7 +90,7 @@ module _ {P B T A V W : Type 0} {view : EngineView P B T W} {meaning : Meaning V
         is_at = record {
           engine_at = engine-at
               {engine = record taken { parser = parser; state = state }} parsed_slice.is_at.parts_at
-              here.engine_at.agrees.holds none_held;
+              here.engine_at.processor_is.holds none_held;
           keeps_memory =
               λ stream more had.
               parsed_slice.is_at.keeps_memory stream more (here.keeps_memory stream more had);
@@ -90,49 +98,49 @@ module _ {P B T A V W : Type 0} {view : EngineView P B T W} {meaning : Meaning V
       }
 
 -- A stop ends the update if the engine comes to the stopped state and keeps its memory.
-pub stops_update : {P B T A V W : Type 0} {view : EngineView P B T W} {meaning : Meaning V W}
-    {old mid new : Engine P B T A}
-    {before value : V} → KeepsMemory (EngineHasMemory view old) (EngineHasMemory view mid)
-    → ((state : State V W) → EngineIsAt view old before state
-    → EngineIsAtKeepingMemory view mid new value (stop meaning state))
-    → EngineStopsSync view meaning old new before value
-stops_update {meaning} keeps ends = search (rules, arith)
+module _ {T V W : Type 0} {meaning : Meaning V W} {old new : ProcessorFacts T W} {before value : V} where
+  pub stops_update : {mid : ProcessorFacts T W}
+      → ((state : State V W) → IsAt old before state → IsAtKeepingMemory mid new value (stop meaning state))
+      → KeepsMemory old.has_memory mid.has_memory → StopsSync meaning old new before value
+  stops_update ends keeps = record {
+    stops = λ state is_at. (ends state is_at).engine_at;
+    each_once = search (rules, arith);
+    hold_invariant = search (rules, arith);
+    keeps_memory =
+        λ state is_at stream count had. (ends state is_at).keeps_memory stream count (keeps stream count had);
+  }
 
-pub engine-at_stop : {P B T A V W : Type 0} {view : EngineView P B T W} {meaning : Meaning V W} {old new : Engine P B T
-    A}
-    {before value : V} {state : State V W} → EngineStopsSync view meaning old new before value
-    → EngineIsAt view old before state → EngineIsAtKeepingMemory view old new value (stop meaning state)
-engine-at_stop stops is_at = search (rules, arith)
+  pub engine-at_stop : {state : State V W} → StopsSync meaning old new before value → IsAt old before state
+      → IsAtKeepingMemory old new value (stop meaning state)
+  engine-at_stop stops is_at = record { engine_at = stops.stops _ is_at; keeps_memory = stops.keeps_memory _ is_at }
 
 -- A turn whose bytes aren't held parses them, after a stop if one is due.
-pub ends_turn : {P B T A V W : Type 0} {view : EngineView P B T W} {meaning : Meaning V W} {old mid new : Engine P B T
-    A}
-    {value : V} {state : State V W} {bytes : List ℕ} (pending : Bool)
+pub ends_turn : {T V W : Type 0} {meaning : Meaning V W} {old mid new : ProcessorFacts T W} {before value : V}
+    {state : State V W} {bytes : List ℕ} (pending : Bool)
     → meaning.timeout.allows state.timeout pending → is_held pending state bytes ≡ false
-    → KeepsMemory (EngineHasMemory view old) (EngineHasMemory view mid) → (result : Result ℕ Refused)
+    → IsAtKeepingMemory old mid before (stop_if_due meaning pending state) → (result : Result ℕ Refused)
     → MatchResult result (λ read. read ≤ length bytes) (λ refused. refused.read < length bytes)
-    → EndsParsingTurn meaning (stop_if_due meaning pending state) bytes result
-    (EngineIsAtKeepingMemory view mid new value)
-    → EndsTurn meaning state bytes result (EngineIsAtKeepingMemory view old new value)
-ends_turn {meaning} {state} {bytes} pending allowed not_held keeps (Ok read) within ends = record {
+    → EndsParsingTurn meaning (stop_if_due meaning pending state) bytes result (IsAtKeepingMemory mid new value)
+    → EndsTurn meaning state bytes result (IsAtKeepingMemory old new value)
+ends_turn {meaning} {state} {bytes} pending allowed not_held here (Ok read) within ends = record {
   turned =
       record {
         pending = pending;
         allowed = allowed;
         progress = ends.parsed.progress;
         rest = rw (turn-parses meaning pending state bytes not_held) ends.parsed.rest;
-        is_at = rw (turn-parses meaning pending state bytes not_held) (keeping_memory-then keeps ends.parsed.is_at);
+        is_at = rw (turn-parses meaning pending state bytes not_held) (keeping_memory-then here ends.parsed.is_at);
       };
   refused = tt;
 }
-ends_turn {meaning} {state} {bytes} pending allowed not_held keeps (Err refused) within ends = record {
+ends_turn {meaning} {state} {bytes} pending allowed not_held here (Err refused) within ends = record {
   turned = tt;
   refused = record {
     next = parse meaning (stop_if_due meaning pending state) (take refused.read bytes);
     takes = inside_turn done pending allowed
         (refused-by_parsing meaning pending state _ bytes _
         (not_held, parsing-refused meaning (stop_if_due meaning pending state) bytes ends.refused within));
-    is_at = keeping_memory-then keeps ends.refused.is_at;
+    is_at = keeping_memory-then here ends.refused.is_at;
   };
 }
 
@@ -146,7 +154,8 @@ module _ {V W : Type 0} (meaning : Meaning V W) {state : State V W} {bytes : Lis
 
 -- ---- the turns of a call
 
--- The loop keeps `HasReached`, and at its end or at refused memory has `HasAdvancedPart`, which gives `EngineAdvances`.
+-- The loop keeps `HasReached`, and at its end or at refused memory has `HasAdvancedPart`, which gives
+-- `AdvancesUntilRefused`.
 
 -- As many bytes are left as weren't read.
 pub rest-size : (bytes : List ℕ) (read : ℕ) → read ≤ length bytes
@@ -164,13 +173,11 @@ module _ {V W : Type 0} (meaning : Meaning V W) (state : State V W) (bytes : Lis
   pub reaches-nothing : {IsNowAt : State V W → Type 0} → IsNowAt state → HasReached 0 0 IsNowAt
   reaches-nothing is_at = record { here = state; enough = omega arith; takes = done; is_at = is_at }
 
-  pub reaches-more : {P B T A : Type 0} {view : EngineView P B T W} {first mid new : Engine P B T A}
-      {before value : V}
-      {count read n : ℕ}
-      → (reached : HasReached count read (EngineIsAtKeepingMemory view first mid before)) → read < length bytes
+  pub reaches-more : {T : Type 0} {first mid new : ProcessorFacts T W} {before value : V} {count read n : ℕ}
+      → (reached : HasReached count read (IsAtKeepingMemory first mid before)) → read < length bytes
       → HasTurned meaning reached.here (take (length bytes - read) (drop read bytes)) n
-      (EngineIsAtKeepingMemory view mid new value)
-      → HasReached (count + 1) (read + n) (EngineIsAtKeepingMemory view first new value)
+      (IsAtKeepingMemory mid new value)
+      → HasReached (count + 1) (read + n) (IsAtKeepingMemory first new value)
   reaches-more {count} {read} {n} reached bytes_left turned =
       let slice = take (length bytes - read) (drop read bytes) in
       let slice_is : slice ≡ drop read bytes = take_rest bytes read in
@@ -183,7 +190,7 @@ module _ {V W : Type 0} (meaning : Meaning V W) (state : State V W) (bytes : Lis
         takes = rw rest_is at
             (taken_on meaning state reached.here _ bytes slice _ (rw slice_is reached.takes)
             (takes-one meaning turned.pending some_bytes turned.allowed));
-        is_at = keeping_memory-then reached.is_at.keeps_memory turned.is_at;
+        is_at = keeping_memory-then reached.is_at turned.is_at;
       }
 
   has_taken-turns : {read : ℕ} {IsNowAt : State V W → Type 0} (next : State V W)
@@ -196,7 +203,7 @@ module _ {V W : Type 0} (meaning : Meaning V W) (state : State V W) (bytes : Lis
         (all_bytes-grown (progresses-until_refused meaning takes)
         ∙ ap (λ bytes. all_bytes state ++ bytes) (sym (take-append-drop read bytes))
         ∙ sym (append_assoc (all_bytes state) (take read bytes) (drop read bytes)));
-    holds_well = until_refused-well meaning takes;
+    hold_invariant = until_refused-invariant meaning takes;
     is_at = is_at;
   }
 
@@ -205,13 +212,11 @@ module _ {V W : Type 0} (meaning : Meaning V W) (state : State V W) (bytes : Lis
   has_taken-reached reached = has_taken-turns reached.here (between_turns reached.takes) reached.is_at
 
   -- If a turn was refused memory after n bytes, its call has taken `read + n` of them.
-  pub reached-refused : {P B T A : Type 0} {view : EngineView P B T W} {first mid new : Engine P B T A}
-      {before value : V}
-      {count read n : ℕ}
-      → (reached : HasReached count read (EngineIsAtKeepingMemory view first mid before)) → read ≤ length bytes
+  pub reached-refused : {T : Type 0} {first mid new : ProcessorFacts T W} {before value : V} {count read n : ℕ}
+      → (reached : HasReached count read (IsAtKeepingMemory first mid before)) → read ≤ length bytes
       → HasBeenRefused meaning reached.here (take (length bytes - read) (drop read bytes)) n
-      (EngineIsAtKeepingMemory view mid new value)
-      → HasAdvancedPart meaning state bytes (read + n) (EngineIsAtKeepingMemory view first new value)
+      (IsAtKeepingMemory mid new value)
+      → HasAdvancedPart meaning state bytes (read + n) (IsAtKeepingMemory first new value)
   reached-refused {read} {n} reached within refused =
       let slice = take (length bytes - read) (drop read bytes) in
       let slice_is : slice ≡ drop read bytes = take_rest bytes read in
@@ -220,7 +225,7 @@ module _ {V W : Type 0} (meaning : Meaning V W) (state : State V W) (bytes : Lis
       (rw rest_is at
       (until_refused-on meaning state reached.here refused.next bytes slice (drop n slice)
       (rw slice_is reached.takes) refused.takes))
-      (keeping_memory-then reached.is_at.keeps_memory refused.is_at)
+      (keeping_memory-then reached.is_at refused.is_at)
 
   -- A call that has read all its bytes ensures `HasAdvanced`.
   pub has_advanced : {read : ℕ} {IsNowAt : State V W → Type 0} → HasAdvancedPart meaning state bytes read IsNowAt
@@ -230,7 +235,7 @@ module _ {V W : Type 0} (meaning : Meaning V W) (state : State V W) (bytes : Lis
     next = taken.next;
     advances = until_refused-all meaning (rw (drop_all read bytes all_read) at taken.takes);
     each_once = rw (take_all read bytes all_read) at taken.each_once;
-    holds_well = taken.holds_well;
+    hold_invariant = taken.hold_invariant;
     is_at = taken.is_at;
   }
 
@@ -240,37 +245,37 @@ module _ {V W : Type 0} {meaning : Meaning V W} {state : State V W} {bytes : Lis
       → HasAdvancedPart meaning state bytes read IsNowAt → HasAdvancedPart meaning state bytes read other
   taken-to follows taken = search (rules, arith)
 
-  taken-at : {P B T A : Type 0} {view : EngineView P B T W} {old new : Engine P B T A} {value : V}
-      → HasAdvancedPart meaning state bytes read (EngineIsAtKeepingMemory view old new value)
-      → HasAdvancedPart meaning state bytes read (EngineIsAt view new value)
+  taken-at : {T : Type 0} {old new : ProcessorFacts T W} {value : V}
+      → HasAdvancedPart meaning state bytes read (IsAtKeepingMemory old new value)
+      → HasAdvancedPart meaning state bytes read (IsAt new value)
   taken-at = taken-to (λ state next. next.engine_at)
 
 -- What a call ensures follows from its turns.
-module _ {P B T A V W : Type 0} {view : EngineView P B T W} {meaning : Meaning V W} {old new : Engine P B T A}
-    {before value : V} (bytes : List ℕ) where
-  pub engine_reads-all : {count read : ℕ}
-      → ((state : State V W) → EngineIsAt view old before state
-      → HasReached meaning state bytes count read (EngineIsAtKeepingMemory view old new value))
-      → ((state : State V W) → EngineIsAt view old before state → read ≡ length bytes)
-      → EngineAdvances view meaning old new before value bytes (Ok tt)
-  engine_reads-all reaches all_read = record {
-    takes =
-        λ state is_at.
-        rw (all_read state is_at) at (taken-at (has_taken-reached meaning state bytes (reaches state is_at)));
-    within = tt;
-    lacks_memory = tt;
-    keeps_memory = λ state is_at. (reaches state is_at).is_at.keeps_memory;
-  }
+module _ {T V W : Type 0} {meaning : Meaning V W} {old new : ProcessorFacts T W} {before value : V} (bytes : List ℕ)
+  where
+    pub engine_reads-all : {count read : ℕ}
+        → ((state : State V W) → IsAt old before state
+        → HasReached meaning state bytes count read (IsAtKeepingMemory old new value))
+        → ((state : State V W) → IsAt old before state → read ≡ length bytes)
+        → AdvancesUntilRefused meaning old new before value bytes (Ok tt)
+    engine_reads-all reaches all_read = record {
+      takes =
+          λ state is_at.
+          rw (all_read state is_at) at (taken-at (has_taken-reached meaning state bytes (reaches state is_at)));
+      within = tt;
+      lacks_memory = tt;
+      keeps_memory = λ state is_at. (reaches state is_at).is_at.keeps_memory;
+    }
 
-  pub engine_reads-until : {refused : Refused}
-      → ((state : State V W) → EngineIsAt view old before state
-      → HasAdvancedPart meaning state bytes refused.read (EngineIsAtKeepingMemory view old new value))
-      → refused.read < length bytes → EngineLacksMemory view new (length bytes - refused.read)
-      → EngineAdvances view meaning old new before value bytes (Err refused)
-  engine_reads-until taken bytes_left lacks =
-      record {
-        takes = λ state is_at. taken-at (taken state is_at);
-        within = bytes_left;
-        lacks_memory = lacks;
-        keeps_memory = λ state is_at. (taken state is_at).is_at.keeps_memory;
-      }
+    pub engine_reads-until : {refused : Refused}
+        → ((state : State V W) → IsAt old before state
+        → HasAdvancedPart meaning state bytes refused.read (IsAtKeepingMemory old new value))
+        → refused.read < length bytes → ProcessorLacksMemory new (length bytes - refused.read)
+        → AdvancesUntilRefused meaning old new before value bytes (Err refused)
+    engine_reads-until taken bytes_left lacks =
+        record {
+          takes = λ state is_at. taken-at (taken state is_at);
+          within = bytes_left;
+          lacks_memory = lacks;
+          keeps_memory = λ state is_at. (taken state is_at).is_at.keeps_memory;
+        }

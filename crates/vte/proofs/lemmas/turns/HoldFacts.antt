@@ -1,8 +1,8 @@
--- Turns and stops keep `HoldsWell`: by cases of the timeout's answer and of what a hold turn keeps, which is all, or
--- starts with a begin-update, or is nothing.
-use Rattle.vte.proofs.Common.{added, after_last_end, AllowsOnly, ap, append-nil, arith, begin_count, begin_update, begins_ending_in_last, Bool, cases_Bool, cases_lt, done, extend, from_begin_update, hold_turn, HoldsWellAt, inl, inr, IsInsideUpdate, IsOutsideUpdate, IsSteady, length, length-append, List, max_held, Meaning, nat_tests, parsing_turn, part_after_last_end, prefix_to_begin, refl, release, rules, State, stop, suc, take, TakesTurns, timeout_set_times, TimeoutMeaning, true, turn, turns, update_nanos, zero, ℕ, [], ◌++◌, ◌-◌, ◌<◌, ◌∷◌, ◌≡◌, ◌≤◌}
+-- Turns and stops keep `HoldInvariant`: by cases of the timeout's answer and of what a hold turn keeps, which is all,
+-- or starts with a begin-update, or is nothing.
+use Rattle.vte.proofs.Common.{added, after_last_end, AllowsOnly, ap, append-nil, arith, begin_count, begin_update, begins_ending_in_last, Bool, cases_Bool, cases_lt, done, extend, from_begin_update, hold_turn, HoldInvariantAt, inl, inr, IsInsideUpdate, IsOutsideUpdate, IsSteady, length, length-append, List, max_held, Meaning, nat_tests, parsing_turn, part_after_last_end, prefix_to_begin, refl, release, rules, State, stop, suc, take, TakesTurns, timeout_set_times, TimeoutMeaning, true, turn, turns, update_nanos, zero, ℕ, [], ◌++◌, ◌-◌, ◌<◌, ◌∷◌, ◌≡◌, ◌≤◌}
 use Rattle.vte.proofs.lemmas.updates.Prefixes.{prefix-is}
-use Rattle.vte.proofs.lemmas.updates.Sequences.{begins_with-append, cases_Option, stays_held, StaysHeld, suffix-length}
+use Rattle.vte.proofs.lemmas.updates.Sequences.{cases_Option, is_prefix_of-append, stays_held, StaysHeld, suffix-length}
 use Rattle.vte.proofs.lemmas.turns.TurnKinds.{hold_turn-all, hold_turn-rest, is_held, stop_if_due, turn-holds, turn-parses}
 use Rattle.vte.proofs.lemmas.turns.EachOnce.{stop_if_due-holds_nothing}
 
@@ -27,15 +27,19 @@ module _ {V W : Type 0} (meaning : Meaning V W) where
       → IsOutsideUpdate meaning.timeout [] (stop meaning state).timeout
   stop-outside state steady = record { not_pending = steady.clear _; none_held = refl }
 
-  pub stop-well : (state : State V W) → HoldsWellAt meaning (stop meaning state)
-  stop-well state = record { no_end = refl; fits = omega arith; steady = λ steady. inl (stop-outside state steady) }
+  pub stop-invariant : (state : State V W) → HoldInvariantAt meaning (stop meaning state)
+  stop-invariant state = record {
+    no_end = refl;
+    fits = omega arith;
+    steady = λ steady. inl (stop-outside state steady);
+  }
 
   -- ---- a parsing turn
 
-  parsing_turn-well : (state : State V W) (bytes : List ℕ) → state.held ≡ []
+  parsing_turn-invariant : (state : State V W) (bytes : List ℕ) → state.held ≡ []
       → (IsSteady meaning.timeout → IsOutsideUpdate meaning.timeout state.held state.timeout)
-      → HoldsWellAt meaning (parsing_turn meaning state bytes).state
-  parsing_turn-well state bytes none_held outside =
+      → HoldInvariantAt meaning (parsing_turn meaning state bytes).state
+  parsing_turn-invariant state bytes none_held outside =
       let prefix = prefix_to_begin meaning.limit state.parsed bytes in
       let found = prefix-is meaning.limit state.parsed bytes in
       record {
@@ -45,7 +49,7 @@ module _ {V W : Type 0} (meaning : Meaning V W) where
           | inl some_begin ↦
               inr (record {
                 pending = allows-pending meaning.timeout steady _ state.timeout some_begin;
-                begun = inl (rw found.prefix_is (found.ends (rw found.prefix_is at some_begin)));
+                update_began = inl (rw found.prefix_is (found.ends (rw found.prefix_is at some_begin)));
               })
           | inr no_begin ↦
               let none_begin : begin_count (added meaning.limit state.parsed prefix) ≡ 0 = omega arith in
@@ -55,11 +59,11 @@ module _ {V W : Type 0} (meaning : Meaning V W) where
 
   -- ---- a turn that holds
 
-  release-well : (state : State V W) (kept : List ℕ) → StaysHeld state.held kept → length state.held ≤ max_held
+  release-invariant : (state : State V W) (kept : List ℕ) → StaysHeld state.held kept → length state.held ≤ max_held
       → (IsSteady meaning.timeout → IsInsideUpdate meaning.limit meaning.timeout state.parsed state.held state.timeout)
-      → HoldsWellAt meaning (release meaning state kept)
-  release-well state [] stays fits inside = stop-well state
-  release-well state (b ∷ kept) stays fits inside = record {
+      → HoldInvariantAt meaning (release meaning state kept)
+  release-invariant state [] stays fits inside = stop-invariant state
+  release-invariant state (b ∷ kept) stays fits inside = record {
     no_end = stays.no_end;
     fits = omega (arith, suffix-length stays.suffix);
     steady = λ steady. inr (record {
@@ -68,41 +72,41 @@ module _ {V W : Type 0} (meaning : Meaning V W) where
           (begin_count (added meaning.limit state.parsed (take (length state.held - suc (length kept)) state.held)))
           state.timeout
           (inside steady).pending;
-      begun = elim stays.begins [
+      update_began = elim stays.begins [
         | inl kept_all ↦ let none_released : length state.held - suc (length kept) ≡ 0 =
             omega (arith, ap length kept_all) in
-            rw (none_released, append-nil) (rw (← kept_all) at (inside steady).begun)
+            rw (none_released, append-nil) (rw (← kept_all) at (inside steady).update_began)
         | inr begins ↦ inr (begins (omega arith))
       ];
     });
   }
 
-  inside-pending : (state : State V W) → HoldsWellAt meaning state → meaning.timeout.allows state.timeout true
+  inside-pending : (state : State V W) → HoldInvariantAt meaning state → meaning.timeout.allows state.timeout true
       → IsSteady meaning.timeout
       → IsInsideUpdate meaning.limit meaning.timeout state.parsed state.held state.timeout
-  inside-pending state well allowed steady = search (rules, arith)
+  inside-pending state hold_invariant allowed steady = search (rules, arith)
 
   pub stop_if_due-outside : (pending : Bool) (state : State V W) → meaning.timeout.allows state.timeout pending
-      → HoldsWellAt meaning state
+      → HoldInvariantAt meaning state
       → IsSteady meaning.timeout
       → IsOutsideUpdate meaning.timeout (stop_if_due meaning pending state).held
       (stop_if_due meaning pending state).timeout
-  stop_if_due-outside pending state allowed well steady = search (rules, arith)
+  stop_if_due-outside pending state allowed hold_invariant steady = search (rules, arith)
 
-  hold_turn-well : (state : State V W) (bytes : List ℕ) → HoldsWellAt meaning state
+  hold_turn-invariant : (state : State V W) (bytes : List ℕ) → HoldInvariantAt meaning state
       → meaning.timeout.allows state.timeout true
-      → length (state.held ++ bytes) ≤ max_held → HoldsWellAt meaning (hold_turn meaning state bytes)
-  hold_turn-well state bytes well allowed fits =
+      → length (state.held ++ bytes) ≤ max_held → HoldInvariantAt meaning (hold_turn meaning state bytes)
+  hold_turn-invariant state bytes hold_invariant allowed fits =
       let inside : IsSteady meaning.timeout
       → IsInsideUpdate meaning.limit meaning.timeout state.parsed (state.held ++ bytes)
       (extend meaning state bytes).timeout =
-      λ steady. (let is_inside = inside-pending state well allowed steady in record {
+      λ steady. (let is_inside = inside-pending state hold_invariant allowed steady in record {
         pending = allows-still_pending meaning.timeout steady
             (begins_ending_in_last (length bytes)
             (part_after_last_end (state.held ++ bytes))) state.timeout is_inside.pending;
-        begun = elim is_inside.begun [
+        update_began = elim is_inside.update_began [
           | inl parsed_begin ↦ inl parsed_begin
-          | inr begins ↦ inr (begins_with-append begin_update state.held bytes begins)
+          | inr begins ↦ inr (is_prefix_of-append begin_update state.held bytes begins)
         ];
       }) in
       elim (cases_Option (after_last_end (state.held ++ bytes))) [
@@ -111,30 +115,32 @@ module _ {V W : Type 0} (meaning : Meaning V W) where
             (record { no_end = no_end; fits = fits; steady = λ steady. inr (inside steady) })
         | inr last_end ↦
             rw (hold_turn-rest meaning state bytes last_end.1)
-            (release-well (extend meaning state bytes) (from_begin_update last_end.0)
+            (release-invariant (extend meaning state bytes) (from_begin_update last_end.0)
             (rw last_end.1 at (stays_held (state.held ++ bytes))) fits inside)
       ]
 
   -- ---- a turn, and turns of a call
 
-  pub turn-well : (pending : Bool) (state : State V W) (bytes : List ℕ) → meaning.timeout.allows state.timeout pending
-      → HoldsWellAt meaning state
-      → HoldsWellAt meaning (turn meaning pending state bytes).state
-  turn-well pending state bytes allowed well = elim (cases_Bool (is_held pending state bytes)) [
+  pub turn-invariant : (pending : Bool) (state : State V W) (bytes : List ℕ)
+      → meaning.timeout.allows state.timeout pending
+      → HoldInvariantAt meaning state
+      → HoldInvariantAt meaning (turn meaning pending state bytes).state
+  turn-invariant pending state bytes allowed hold_invariant = elim (cases_Bool (is_held pending state bytes)) [
     | inl held ↦ let is_pending : pending ≡ true =
         grind (arith, nat_tests) in
         rw (turn-holds meaning pending state bytes held)
-        (hold_turn-well state bytes well (rw is_pending at allowed)
+        (hold_turn-invariant state bytes hold_invariant (rw is_pending at allowed)
         (grind (arith, nat_tests, length-append state.held bytes)))
     | inr not_held ↦
         rw (turn-parses meaning pending state bytes not_held)
-        (parsing_turn-well (stop_if_due meaning pending state) bytes (stop_if_due-holds_nothing meaning pending state)
-        (stop_if_due-outside pending state allowed well))
+        (parsing_turn-invariant (stop_if_due meaning pending state) bytes
+        (stop_if_due-holds_nothing meaning pending state)
+        (stop_if_due-outside pending state allowed hold_invariant))
   ]
 
-  pub turns-well : {state next : State V W} {bytes left : List ℕ} → TakesTurns meaning state bytes next left
-      → HoldsWellAt meaning state
-      → HoldsWellAt meaning next
-  turns-well done well = well
-  turns-well {state} {next} {bytes = b ∷ bytes} {left} (turns pending allowed takes) well =
-      turns-well takes (turn-well pending state (b ∷ bytes) allowed well)
+  pub turns-invariant : {state next : State V W} {bytes left : List ℕ} → TakesTurns meaning state bytes next left
+      → HoldInvariantAt meaning state
+      → HoldInvariantAt meaning next
+  turns-invariant done hold_invariant = hold_invariant
+  turns-invariant {state} {next} {bytes = b ∷ bytes} {left} (turns pending allowed takes) hold_invariant =
+      turns-invariant takes (turn-invariant pending state (b ∷ bytes) allowed hold_invariant)

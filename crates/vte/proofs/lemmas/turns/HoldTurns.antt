@@ -1,6 +1,6 @@
 -- A hold turn, of states and of the engine: bytes join the hold, the timeout is set as often as they begin updates, and
 -- what the hold releases is parsed, with a stop if nothing stays held.
-use Rattle.vte.proofs.Common.{AddsToHold, after_last_end, ap, arith, Engine, EngineIsAt, EngineIsAtKeepingMemory, EngineView, extend, from_begin_update, held_of, hold_turn, inl, inr, length, length-append, length-take, List, Meaning, parse, PartsAreAt, PartsAreAtKeepingMemory, PartsAreAtWithMemory, refl, release, released_of, rules, State, still_held, stop, sym, take, take_all, timeout_set_times, with_held, ℕ, [], ◌++◌, ◌+◌, ◌-◌, ◌<◌, ◌∙◌, ◌∷◌, ◌≡◌}
+use Rattle.vte.proofs.Common.{AddsToHold, after_last_end, ap, arith, Engine, engine_facts, EngineIsAt, EngineView, extend, from_begin_update, held_of, hold_turn, inl, inr, IsAtKeepingMemory, length, length-append, length-take, List, Meaning, parse, PartsAreAt, PartsAreAtKeepingMemory, PartsAreAtWithMemory, refl, release, released_of, rules, State, still_held, stop, sym, take, take_all, timeout_set_times, with_held, ℕ, [], ◌++◌, ◌+◌, ◌-◌, ◌<◌, ◌∙◌, ◌∷◌, ◌≡◌}
 use Rattle.std.proofs.lemmas.List.{nil_from_length}
 use Rattle.vte.proofs.lemmas.updates.Sequences.{cases_Option, stays_held, suffix-length}
 use Rattle.vte.specs.declared.ansi.updates.hold.SyncState.{SyncState}
@@ -54,9 +54,9 @@ module _ {P B T A V W : Type 0} {view : EngineView P B T W} (meaning : Meaning V
 
   parts-extended : PartsAreAt view extended_engine.parser extended_engine.state value (extend meaning state more)
   parts-extended = record {
-    has_read = is_at.agrees.has_read;
-    last = is_at.agrees.last;
-    timeout_is = is_set ∙ rw (is_at.agrees.timeout_is, added.begins_are);
+    has_read = is_at.processor_is.has_read;
+    last = is_at.processor_is.last;
+    timeout_is = is_set ∙ rw (is_at.processor_is.timeout_is, added.begins_are);
     handler_is = is_at.handler_is;
   }
 
@@ -72,7 +72,8 @@ module _ {P B T A V W : Type 0} {view : EngineView P B T W} (meaning : Meaning V
       (length (released_of hold) + spare)
       → view.parser.has_memory last.parser (view.text_capacity_of last.state.text)
       (state.parsed ++ released_of hold) spare)
-      → last.hold ≡ hold → EngineIsAtKeepingMemory view old last next (hold_turn meaning state more)
+      → last.hold ≡ hold → IsAtKeepingMemory (engine_facts view old) (engine_facts view last) next
+      (hold_turn meaning state more)
   turned_cut {last} {next} some_held parses leaves same_hold =
       let extended_state = extend meaning state more in
       let all = state.held ++ more in
@@ -100,7 +101,7 @@ module _ {P B T A V W : Type 0} {view : EngineView P B T W} (meaning : Meaning V
       -- As some bytes stay held, the turn is this cut.
       rw (holds-some meaning state more (rw added.held_is at some_held)) (record {
         engine_at = record {
-          agrees = record {
+          processor_is = record {
             has_read = parsed.has_read;
             last = parsed.last;
             timeout_is = parsed.timeout_is;
@@ -122,8 +123,10 @@ module _ {P B T A V W : Type 0} {view : EngineView P B T W} (meaning : Meaning V
       → held_of hold ≡ []
       → (0 < length state.held → HasMemoryFor state.parsed
       (length state.held + spare))
-      → EngineIsAtKeepingMemory view extended_engine last next (stop meaning state))
-      → EngineIsAtKeepingMemory view old last next (hold_turn meaning state more)
+      → IsAtKeepingMemory (engine_facts view extended_engine) (engine_facts view last) next
+      (stop meaning state))
+      → IsAtKeepingMemory (engine_facts view old) (engine_facts view last) next
+      (hold_turn meaning state more)
   turned_stop {last} {next} some_bytes none_held stops =
       let all = state.held ++ more in
       -- No byte stays held, so all of them are released.
@@ -133,8 +136,8 @@ module _ {P B T A V W : Type 0} {view : EngineView P B T W} (meaning : Meaning V
       added.released_is ∙ rw none_left (take_all (length all - 0) all (omega arith)) in
       let sum : length all + 0 ≡ length state.held + length more = omega (arith, length-append state.held more) in
       -- The stop parses all of them, for which there is memory.
-      let there : EngineIsAtKeepingMemory view extended_engine last next (stop meaning (extend meaning state more)) =
-      stops (extend meaning state more) 0 parts-extended released_all nothing_held (λ some_held. rw sum memory) in
+      let there = stops (extend meaning state more) 0 parts-extended released_all nothing_held
+      (λ some_held. rw sum memory) in
       -- As no byte stays held, the turn is this stop.
       rw (holds-none meaning state more (omega (arith, some_bytes, length-append state.held more)) none_left)
       (record { engine_at = there.engine_at; keeps_memory = there.keeps_memory })

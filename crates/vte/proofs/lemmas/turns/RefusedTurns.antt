@@ -1,11 +1,11 @@
 -- Turns of a call, of which the last may be refused memory: what is parsed and held then, and what the unread bytes do
 -- in a further call. The refused turn leaves nothing held and is outside an update, so they do what they would have
 -- done (`until_refused-goes_on`).
-use Rattle.vte.proofs.Common.{ap, arith, between_turns, Bool, done, drop, drop-append-add, false, HasBeenRefused, HoldsWellAt, inl, inside_turn, IsOutsideUpdate, IsSteady, length, length-append, List, Meaning, parsing_turn, ParsingTurn, ParsingTurnIsRefused, prefix_to_begin, refl, rules, State, subst, TakesAllTurns, TakesTurns, TakesTurnsUntilRefused, turn, turn_kind_of, turns, ℕ, [], ◌++◌, ◌<◌, ◌∙◌, ◌∷◌, ◌≡◌}
+use Rattle.vte.proofs.Common.{ap, arith, between_turns, Bool, done, drop, drop-append-add, false, HasBeenRefused, HoldInvariantAt, inl, inside_turn, IsOutsideUpdate, IsSteady, length, length-append, List, Meaning, parsing_turn, ParsingTurn, ParsingTurnIsRefused, prefix_to_begin, refl, rules, State, subst, TakesAllTurns, TakesTurns, TakesTurnsUntilRefused, turn, turn_kind_of, turns, ℕ, [], ◌++◌, ◌<◌, ◌∙◌, ◌∷◌, ◌≡◌}
 use Rattle.vte.proofs.lemmas.updates.Prefixes.{prefix-after}
 use Rattle.vte.proofs.lemmas.turns.TurnKinds.{ParsesUntilRefused, refused-parses, stop_if_due, turn-parses}
 use Rattle.vte.proofs.lemmas.turns.EachOnce.{Progresses, progresses-parse, progresses-stop_if_due, progresses-then, progresses-turns, stop_if_due-holds_nothing}
-use Rattle.vte.proofs.lemmas.turns.HoldFacts.{turns-well}
+use Rattle.vte.proofs.lemmas.turns.HoldFacts.{turns-invariant}
 use Rattle.vte.proofs.lemmas.turns.Slices.{parse-append}
 
 -- ---- turns of a call, and one after them that is refused memory
@@ -63,23 +63,24 @@ module _ {V W : Type 0} (meaning : Meaning V W) where
 
   -- After a parsing turn that was refused memory, no update is pending, and nothing is held.
   refused-outside : (pending : Bool) (state next : State V W) (bytes left : List ℕ) → IsSteady meaning.timeout
-      → HoldsWellAt meaning state
+      → HoldInvariantAt meaning state
       → meaning.timeout.allows state.timeout pending
       → ParsesUntilRefused meaning pending state bytes next left
       → IsOutsideUpdate meaning.timeout next.held next.timeout
-  refused-outside pending state next bytes left steady well allowed (not_held, refused) = search (rules, arith)
+  refused-outside pending state next bytes left steady hold_invariant allowed (not_held, refused) =
+      search (rules, arith)
 
   refused-held : (pending : Bool) (state next : State V W) (bytes left : List ℕ)
       → ParsesUntilRefused meaning pending state bytes next left → next.held ≡ []
   refused-held pending state next bytes left (not_held, refused) =
       ap (λ next. next.held) refused.state_is ∙ stop_if_due-holds_nothing meaning pending state
 
-  pub until_refused-well : {state next : State V W} {bytes left : List ℕ}
+  pub until_refused-invariant : {state next : State V W} {bytes left : List ℕ}
       → TakesTurnsUntilRefused meaning state bytes next left
-      → HoldsWellAt meaning state
-      → HoldsWellAt meaning next
-  until_refused-well (between_turns takes) well = turns-well meaning takes well
-  until_refused-well {next} {left} (inside_turn {reached} {rest} takes pending allowed refused) well =
+      → HoldInvariantAt meaning state
+      → HoldInvariantAt meaning next
+  until_refused-invariant (between_turns takes) hold_invariant = turns-invariant meaning takes hold_invariant
+  until_refused-invariant {next} {left} (inside_turn {reached} {rest} takes pending allowed refused) hold_invariant =
       let parses_until = refused-parses meaning pending reached next rest left refused in
       let none_held = refused-held pending reached next rest left parses_until in
       record {
@@ -87,7 +88,8 @@ module _ {V W : Type 0} (meaning : Meaning V W) where
         fits = rw none_held (omega arith);
         steady =
             λ steady.
-            inl (refused-outside pending reached next rest left steady (turns-well meaning takes well) allowed
+            inl (refused-outside pending reached next rest left steady (turns-invariant meaning takes hold_invariant)
+            allowed
             parses_until);
       }
 
@@ -133,15 +135,16 @@ module _ {V W : Type 0} (meaning : Meaning V W) where
       (subst (λ result. TakesTurns meaning result.state result.rest end []) same_turn takes)
 
   pub until_refused-goes_on : (state next end : State V W) (bytes left : List ℕ) → IsSteady meaning.timeout
-      → HoldsWellAt meaning state
+      → HoldInvariantAt meaning state
       → TakesTurnsUntilRefused meaning state bytes next left → TakesAllTurns meaning next left end
       → TakesAllTurns meaning state bytes end
-  until_refused-goes_on state next end bytes left steady well (between_turns takes) takes_rest =
+  until_refused-goes_on state next end bytes left steady hold_invariant (between_turns takes) takes_rest =
       taken_on state next end bytes left [] takes takes_rest
-  until_refused-goes_on state next end bytes left steady well
+  until_refused-goes_on state next end bytes left steady hold_invariant
       (inside_turn {reached} {rest} takes pending allowed refused) takes_rest =
       let parses_until = refused-parses meaning pending reached next rest left refused in
       let outside =
-      refused-outside pending reached next rest left steady (turns-well meaning takes well) allowed parses_until in
+      refused-outside pending reached next rest left steady (turns-invariant meaning takes hold_invariant) allowed
+      parses_until in
       taken_on state reached end bytes rest [] takes
       (refused-turn_goes_on pending allowed parses_until outside takes_rest)

@@ -2,11 +2,11 @@
 -- what is unread starts. Only a position with ESC can change it (`seen-skipped`, `last_escape`), and the older bytes
 -- matter only by their last seven. A round of the search reads the last ESC (`seen-round`), and at the front the whole
 -- hold is seen (`seen-all`).
-use Rattle.vte.proofs.Common.{add-zero, after_last_end, after_word, ap, arith, begin_update, begins_ending_in_last, begins_with, cases_Bool, drop, drop-drop, drop_all, drop_more, end_update, eqb, false, FindsRelease, from_begin_update, get_or, get_or-drop, get_or-take, inl, inr, IsHeldTail, length, length-append, length-drop, length-take-le, List, nat_tests, None, refl, rules, Some, subst, suc, take, true, zero, ℕ, [], ◌++◌, ◌+◌, ◌-◌, ◌<◌, ◌∙◌, ◌∷◌, ◌≡◌, ◌≤◌}
+use Rattle.vte.proofs.Common.{add-zero, after_last_end, after_word, ap, arith, begin_update, begins_ending_in_last, cases_Bool, drop, drop-drop, drop_all, drop_more, end_update, eqb, false, FindsRelease, from_begin_update, get_or, get_or-drop, get_or-take, inl, inr, is_prefix_of, IsHeldTail, length, length-append, length-drop, length-take-le, List, nat_tests, None, refl, rules, Some, subst, suc, take, true, zero, ℕ, [], ◌++◌, ◌+◌, ◌-◌, ◌<◌, ◌∙◌, ◌∷◌, ◌≡◌, ◌≤◌}
 use Rattle.std.specs.Prelude.{nat_lt, ◌&&◌}
 use Rattle.memchr.specs.Find.{is_byte, NoneAfter, Nowhere, Passes}
 use Rattle.vte.specs.private.Hold.{HasNoPrivateSequence, HasNoSequenceAt, HasNoSequenceBetween}
-use Rattle.vte.proofs.lemmas.updates.Sequences.{after_last_end-tail, after_word-whole, begins_ending_in_last-tail, begins_with-further, begins_with-is, begins_with-length, from_begin-end_skipped, none_from_is_some}
+use Rattle.vte.proofs.lemmas.updates.Sequences.{after_last_end-tail, after_word-whole, begins_ending_in_last-tail, from_begin-end_skipped, is_prefix_of-further, is_prefix_of-is, is_prefix_of-length, none_from_is_some}
 use Rattle.std.proofs.lemmas.List.{take_rest}
 
 -- Neither sequence begins at a byte other than ESC, or if fewer than eight bytes are left.
@@ -14,25 +14,25 @@ neither-plain : (text : List ℕ) (position : ℕ) → position < length text �
     → HasNoSequenceAt text position
 neither-plain text position within no_escape = grind (arith, nat_tests, drop_more)
 
-begins_with-short : (sequence text : List ℕ) → length text < length sequence → begins_with sequence text ≡ false
-begins_with-short sequence text short = search (rules, arith, begins_with-length)
+is_prefix_of-short : (sequence text : List ℕ) → length text < length sequence → is_prefix_of sequence text ≡ false
+is_prefix_of-short sequence text short = search (rules, arith, is_prefix_of-length)
 
 neither-short : (text : List ℕ) (position : ℕ) → length text < position + 8 → HasNoSequenceAt text position
 neither-short text position short =
     let at_most : length (drop position text) < 8 = rw length-drop (omega arith) in
     record {
-      no_begin = begins_with-short begin_update (drop position text) at_most;
-      no_end = begins_with-short end_update (drop position text) at_most;
+      no_begin = is_prefix_of-short begin_update (drop position text) at_most;
+      no_end = is_prefix_of-short end_update (drop position text) at_most;
     }
 
 -- Neither sequence begins without ESC, or without `?` as the third byte.
 neither-pair : (byte : ℕ) (rest text : List ℕ) (position : ℕ)
     → (eqb (get_or text position 0) 0x1b && eqb (get_or text (position + 2) 0) 0x3f) ≡ false
-    → begins_with (0x1b ∷ byte ∷ 0x3f ∷ rest) (drop position text) ≡ false
+    → is_prefix_of (0x1b ∷ byte ∷ 0x3f ∷ rest) (drop position text) ≡ false
 neither-pair byte rest text position not_both =
-    let sequence = 0x1b ∷ byte ∷ 0x3f ∷ rest in elim (cases_Bool (begins_with sequence (drop position text))) [
+    let sequence = 0x1b ∷ byte ∷ 0x3f ∷ rest in elim (cases_Bool (is_prefix_of sequence (drop position text))) [
       | inl begins ↦
-          let text_is = begins_with-is sequence (drop position text) begins in
+          let text_is = is_prefix_of-is sequence (drop position text) begins in
           let first : get_or (drop position text) 0 0 ≡ 0x1b = ap {B = ℕ} (λ bytes. get_or bytes 0 0) text_is in
           let third : get_or (drop position text) 2 0 ≡ 0x3f = ap {B = ℕ} (λ bytes. get_or bytes 2 0) text_is in
           absurd (grind (arith, nat_tests, get_or-drop, first, third, not_both))
@@ -69,13 +69,13 @@ HasNoEscape (b ∷ bytes) = (eqb b 0x1b ≡ false) × HasNoEscape bytes
 
 no_escape-within : (sequence text : List ℕ) (i : ℕ) → HasNoEscape sequence → i < length sequence
     → eqb (get_or text i 0) 0x1b ≡ true
-    → begins_with sequence text ≡ false
+    → is_prefix_of sequence text ≡ false
 no_escape-within [] text i no_escape inside is_escape = absurd (omega arith)
 no_escape-within (a ∷ sequence) [] i no_escape inside is_escape = refl
 no_escape-within (a ∷ sequence) (b ∷ text) zero no_escape inside is_escape =
     let first = no_escape.0 in grind (arith, nat_tests)
 no_escape-within (a ∷ sequence) (b ∷ text) (suc i) no_escape inside is_escape =
-    begins_with-further a b sequence text (no_escape-within sequence text i no_escape.1 (omega arith) is_escape)
+    is_prefix_of-further a b sequence text (no_escape-within sequence text i no_escape.1 (omega arith) is_escape)
 
 neither-before : (text : List ℕ) (position escape : ℕ) → position < escape → escape < position + 8
     → escape < length text
@@ -88,17 +88,17 @@ neither-before text position escape before near inside is_escape =
     let there : eqb (get_or (drop (position + 1) text) i 0) 0x1b ≡ true = rw (get_or-drop, n) is_escape in
     -- A sequence has no ESC after its first byte, so none begins at `position`.
     let none_begins : (sequence : List ℕ) → HasNoEscape sequence → 7 ≡ length sequence
-    → begins_with (0x1b ∷ sequence) (drop position text) ≡ false
+    → is_prefix_of (0x1b ∷ sequence) (drop position text) ≡ false
     = λ sequence no_escape size_is.
     rw cut
-    (begins_with-further 0x1b _ sequence _ (no_escape-within sequence _ i no_escape (omega (arith, size_is)) there)) in
+    (is_prefix_of-further 0x1b _ sequence _ (no_escape-within sequence _ i no_escape (omega (arith, size_is)) there)) in
     record {
       no_begin = none_begins (drop 1 begin_update) (refl, (refl, (refl, (refl, (refl, (refl, (refl, tt))))))) refl;
       no_end = none_begins (drop 1 end_update) (refl, (refl, (refl, (refl, (refl, (refl, (refl, tt))))))) refl;
     }
 
-after_word-begin : (text : List ℕ) → begins_with begin_update text ≡ true → after_word end_update text ≡ None
-after_word-begin text begins = rw (begins_with-is begin_update text begins) refl
+after_word-begin : (text : List ℕ) → is_prefix_of begin_update text ≡ true → after_word end_update text ≡ None
+after_word-begin text begins = rw (is_prefix_of-is begin_update text begins) refl
 
 -- What was seen after the position `unread` of a text, of which the last `new` bytes are new.
 pub record HasSeen (text : List ℕ) (new unread begin begins : ℕ) : Type 0 where
@@ -119,11 +119,11 @@ module _ {text : List ℕ} {new position begin begins : ℕ} (within : position 
       grind (arith, cut)
 
   -- A begin-update with at most seven older bytes from its start on ends among the new ones, so it is counted.
-  seen-begin : length text ≤ position + 7 + new → begins_with begin_update (drop position text) ≡ true
+  seen-begin : length text ≤ position + 7 + new → is_prefix_of begin_update (drop position text) ≡ true
       → HasSeen text new position position (begins + 1)
   seen-begin at_most is_begin =
       let cut = drop_more text position 0 within in
-      let long = begins_with-length begin_update (drop position text) is_begin in
+      let long = is_prefix_of-length begin_update (drop position text) is_begin in
       -- Fewer than `new` bytes follow the sequence, so it ends among the new bytes.
       let near : nat_lt (length (drop 7 (drop (position + 1) text))) new ≡ true =
       (let size = rw length-drop at long in rw (length-drop, length-drop) (grind (arith, nat_tests))) in
@@ -137,7 +137,7 @@ module _ {text : List ℕ} {new position begin begins : ℕ} (within : position 
         begins_are = rw (cut, after_word-whole begin_update _ here, near) (omega (arith, seen.begins_are));
       }
 
-  pub seen-end : begins_with end_update (drop position text) ≡ true
+  pub seen-end : is_prefix_of end_update (drop position text) ≡ true
       → FindsRelease text new (record { begins = begins; released = begin })
   seen-end is_end =
       let cut = drop_more text position 0 within in
@@ -195,12 +195,12 @@ module _ {all : List ℕ} {new position unread begin begins : ℕ}
       seen-down low (omega arith)
       (λ k low high. neither-before all k position high (omega arith) inside last.here) seen
 
-  pub seen-begin_before : length all ≤ position + 7 + new → begins_with begin_update (drop position all) ≡ true
+  pub seen-begin_before : length all ≤ position + 7 + new → is_prefix_of begin_update (drop position all) ≡ true
       → HasSeen all new from position (begins + 1)
   seen-begin_before at_most is_begin = seen-before_escape (seen-begin last.inside last.seen at_most is_begin)
 
-  pub seen-other_before : begins_with begin_update (drop position all) ≡ false
-      → begins_with end_update (drop position all) ≡ false → HasSeen all new from begin begins
+  pub seen-other_before : is_prefix_of begin_update (drop position all) ≡ false
+      → is_prefix_of end_update (drop position all) ≡ false → HasSeen all new from begin begins
   seen-other_before no_begin no_end =
       seen-before_escape (seen-other last.inside last.seen (record { no_begin = no_begin; no_end = no_end }))
 

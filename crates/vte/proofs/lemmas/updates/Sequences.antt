@@ -1,6 +1,6 @@
 -- The two sequences of updates in a text, and the parts after them. Both have eight bytes and one ESC, so they never
 -- overlap; without an end-update in the older bytes, their last seven decide as all of them would.
-use Rattle.vte.proofs.Common.{after_last_end, after_word, ap, arith, begin_update, begins_ending_in_last, begins_with, cases_Bool, cases_lt, drop, drop-drop, end_update, false, from_begin_update, inl, inr, length, length-append, length-drop, List, nat_tests, None, Option, refl, rules, Some, still_held, suc, sym, true, zero, zero-add, ℕ, [], ◌++◌, ◌+◌, ◌-◌, ◌<◌, ◌∷◌, ◌≡◌, ◌≤◌, ◌⊎◌}
+use Rattle.vte.proofs.Common.{after_last_end, after_word, ap, arith, begin_update, begins_ending_in_last, cases_Bool, cases_lt, drop, drop-drop, end_update, false, from_begin_update, inl, inr, is_prefix_of, length, length-append, length-drop, List, nat_tests, None, Option, refl, rules, Some, still_held, suc, sym, true, zero, zero-add, ℕ, [], ◌++◌, ◌+◌, ◌-◌, ◌<◌, ◌∷◌, ◌≡◌, ◌≤◌, ◌⊎◌}
 use Rattle.std.specs.Prelude.{is_some, nat_lt}
 
 -- An `Option` by cases, for `elim`.
@@ -14,42 +14,42 @@ none_from_is_some (Some x) is_not_some = cc
 
 -- ---- a sequence at the front
 
-pub after_word-whole : (sequence text : List ℕ) → begins_with sequence text ≡ true
+pub after_word-whole : (sequence text : List ℕ) → is_prefix_of sequence text ≡ true
     → after_word sequence text ≡ Some (drop (length sequence) text)
 after_word-whole [] text begins = refl
 after_word-whole (a ∷ sequence) [] begins = cc
 after_word-whole (a ∷ sequence) (b ∷ text) begins = grind (arith, after_word-whole sequence text)
 
-pub begins_with-further : (first b : ℕ) (sequence text : List ℕ) → begins_with sequence text ≡ false
-    → begins_with (first ∷ sequence) (b ∷ text) ≡ false
-begins_with-further first b sequence text differs = grind (arith, differs)
+pub is_prefix_of-further : (first b : ℕ) (sequence text : List ℕ) → is_prefix_of sequence text ≡ false
+    → is_prefix_of (first ∷ sequence) (b ∷ text) ≡ false
+is_prefix_of-further first b sequence text differs = grind (arith, differs)
 
 -- A text that begins with a sequence is the sequence and what follows it.
-pub begins_with-is : (sequence text : List ℕ) → begins_with sequence text ≡ true
+pub is_prefix_of-is : (sequence text : List ℕ) → is_prefix_of sequence text ≡ true
     → text ≡ sequence ++ drop (length sequence) text
-begins_with-is [] text begins = refl
-begins_with-is (a ∷ sequence) [] begins = cc
-begins_with-is (a ∷ sequence) (b ∷ text) begins = grind (arith, nat_tests, begins_with-is sequence text)
+is_prefix_of-is [] text begins = refl
+is_prefix_of-is (a ∷ sequence) [] begins = cc
+is_prefix_of-is (a ∷ sequence) (b ∷ text) begins = grind (arith, nat_tests, is_prefix_of-is sequence text)
 
-pub begins_with-length : (sequence text : List ℕ) → begins_with sequence text ≡ true → length sequence ≤ length text
-begins_with-length [] text begins = omega arith
-begins_with-length (a ∷ sequence) [] begins = cc
-begins_with-length (a ∷ sequence) (b ∷ text) begins = grind (arith, nat_tests, begins_with-length sequence text)
+pub is_prefix_of-length : (sequence text : List ℕ) → is_prefix_of sequence text ≡ true → length sequence ≤ length text
+is_prefix_of-length [] text begins = omega arith
+is_prefix_of-length (a ∷ sequence) [] begins = cc
+is_prefix_of-length (a ∷ sequence) (b ∷ text) begins = grind (arith, nat_tests, is_prefix_of-length sequence text)
 
 -- More bytes don't matter if there are enough.
-begins_with-more : (sequence text more : List ℕ) → length sequence ≤ length text
-    → begins_with sequence (text ++ more) ≡ begins_with sequence text
-begins_with-more [] text more long = refl
-begins_with-more (a ∷ sequence) [] more long = absurd (omega arith)
-begins_with-more (a ∷ sequence) (b ∷ text) more long = grind (arith, begins_with-more sequence text more)
+is_prefix_of-more : (sequence text more : List ℕ) → length sequence ≤ length text
+    → is_prefix_of sequence (text ++ more) ≡ is_prefix_of sequence text
+is_prefix_of-more [] text more long = refl
+is_prefix_of-more (a ∷ sequence) [] more long = absurd (omega arith)
+is_prefix_of-more (a ∷ sequence) (b ∷ text) more long = grind (arith, is_prefix_of-more sequence text more)
 
-pub begins_with-append : (sequence text more : List ℕ) → begins_with sequence text ≡ true
-    → begins_with sequence (text ++ more) ≡ true
-begins_with-append sequence text more begins =
-    grind (arith, begins_with-length sequence text, begins_with-more sequence text more)
+pub is_prefix_of-append : (sequence text more : List ℕ) → is_prefix_of sequence text ≡ true
+    → is_prefix_of sequence (text ++ more) ≡ true
+is_prefix_of-append sequence text more begins =
+    grind (arith, is_prefix_of-length sequence text, is_prefix_of-more sequence text more)
 
 -- No update begins inside an end-update.
-pub from_begin-end_skipped : (n b : ℕ) (text : List ℕ) → begins_with end_update (b ∷ text) ≡ true
+pub from_begin-end_skipped : (n b : ℕ) (text : List ℕ) → is_prefix_of end_update (b ∷ text) ≡ true
     → (from_begin_update text ≡ from_begin_update (drop 7 text))
     × (begins_ending_in_last n text ≡ begins_ending_in_last n (drop 7 text))
 from_begin-end_skipped n b text begins = search (rules, arith)
@@ -92,10 +92,10 @@ follows_last_end [] rest is_last = cc
 follows_last_end (b ∷ text) rest is_last = elim (cases_Option (after_last_end text)) [
   | inl no_later_end ↦
       let end_here : after_word end_update (b ∷ text) ≡ Some rest = rw no_later_end at is_last in
-      let begins : begins_with end_update (b ∷ text) ≡ true = rw end_here refl in
+      let begins : is_prefix_of end_update (b ∷ text) ≡ true = rw end_here refl in
       let rest_is : rest ≡ drop 7 text = cc (end_here, after_word-whole end_update (b ∷ text) begins) in
       record {
-        suffix = record { prefix = 8; within = begins_with-length end_update (b ∷ text) begins; part_is = rest_is };
+        suffix = record { prefix = 8; within = is_prefix_of-length end_update (b ∷ text) begins; part_is = rest_is };
         no_end = rw rest_is (after_last_end-drop 7 text no_later_end);
       }
   | inr later ↦
@@ -106,7 +106,7 @@ follows_last_end (b ∷ text) rest is_last = elim (cases_Option (after_last_end 
 -- What is found from the earliest begin-update on starts with it.
 pub record StartsAtBegin (kept text : List ℕ) : Type 0 where
   pub suffix : IsSuffix kept text
-  pub begins : 0 < length kept → begins_with begin_update kept ≡ true
+  pub begins : 0 < length kept → is_prefix_of begin_update kept ≡ true
 
 starts_at_begin : (text : List ℕ) → StartsAtBegin (from_begin_update text) text
 starts_at_begin [] =
@@ -114,7 +114,7 @@ starts_at_begin [] =
       suffix = record { prefix = 0; within = omega arith; part_is = refl };
       begins = λ some_kept. absurd (omega arith);
     }
-starts_at_begin (b ∷ text) = elim (cases_Bool (begins_with begin_update (b ∷ text))) [
+starts_at_begin (b ∷ text) = elim (cases_Bool (is_prefix_of begin_update (b ∷ text))) [
   | inl here ↦
       rw here
       (record { suffix = record { prefix = 0; within = omega arith; part_is = refl }; begins = λ some_kept. here })
@@ -127,7 +127,7 @@ starts_at_begin (b ∷ text) = elim (cases_Bool (begins_with begin_update (b ∷
 pub record StaysHeld (held kept : List ℕ) : Type 0 where
   pub suffix : IsSuffix kept held
   pub no_end : after_last_end kept ≡ None
-  pub begins : (kept ≡ held) ⊎ (0 < length kept → begins_with begin_update kept ≡ true)
+  pub begins : (kept ≡ held) ⊎ (0 < length kept → is_prefix_of begin_update kept ≡ true)
 
 pub stays_held : (held : List ℕ) → StaysHeld held (still_held held)
 stays_held held = elim (cases_Option (after_last_end held)) [
@@ -157,9 +157,9 @@ stays-is held =
 -- ---- the last seven of the older bytes suffice, if no end-update is in them
 
 -- An end-update that begins eight bytes before the end of the older ones would be in them.
-begins_with-no_end : (b : ℕ) (old more : List ℕ) → 7 ≤ length old → after_last_end (b ∷ old) ≡ None
-    → begins_with end_update (b ∷ (old ++ more)) ≡ false
-begins_with-no_end b old more long no_end = grind (arith, begins_with-more end_update (b ∷ old) more (omega arith))
+is_prefix_of-no_end : (b : ℕ) (old more : List ℕ) → 7 ≤ length old → after_last_end (b ∷ old) ≡ None
+    → is_prefix_of end_update (b ∷ (old ++ more)) ≡ false
+is_prefix_of-no_end b old more long no_end = grind (arith, is_prefix_of-more end_update (b ∷ old) more (omega arith))
 
 pub after_last_end-tail : (old more : List ℕ) → after_last_end old ≡ None
     → after_last_end (old ++ more) ≡ after_last_end (drop (length old - 7) (old ++ more))
@@ -168,7 +168,7 @@ after_last_end-tail (b ∷ old) more no_end = elim (cases_lt (length old) 7) [
   | inl at_most ↦ let same : suc (length old) - 7 ≡ 0 = omega arith in rw same
   | inr many ↦
       let same : suc (length old) - 7 ≡ suc (length old - 7) = omega arith in
-      let none_here = none_from_is_some _ (begins_with-no_end b old more many no_end) in
+      let none_here = none_from_is_some _ (is_prefix_of-no_end b old more many no_end) in
       rw same (grind (arith, none_here, after_last_end-tail old more))
 ]
 
@@ -184,7 +184,7 @@ begins_ending_in_last-tail {n} (b ∷ old) more count_is = elim (cases_lt (lengt
       let far : nat_lt (length (drop 7 (old ++ more))) n ≡ false =
       rw (length-drop, length-append) (grind (arith, nat_tests)) in
       let tail = begins_ending_in_last-tail old more count_is in
-      rw same (elim (cases_Bool (begins_with begin_update (b ∷ (old ++ more)))) [
+      rw same (elim (cases_Bool (is_prefix_of begin_update (b ∷ (old ++ more)))) [
         | inl here ↦ rw (after_word-whole begin_update (b ∷ (old ++ more)) here, far, zero-add) tail
         | inr differs ↦ rw (none_from_is_some _ differs, zero-add) tail
       ])

@@ -9,7 +9,7 @@ use vte_types::{Color, Rgb};
 /// Takes the next number, and returns it if it can be a component of a colour.
 fn next_component<I: NumberIterator>(numbers: &mut I) -> Option<u8>
     ensures component { result ≡ first_component (map I.number (I.left numbers.old)) }
-    ensures rest { I.left numbers.new ≡ drop 1 (I.left numbers.old) }
+    ensures left_is { I.left numbers.new ≡ drop 1 (I.left numbers.old) }
 {
     u8::try_from(numbers.next_number()?).ok()
 }
@@ -18,7 +18,7 @@ fn next_component<I: NumberIterator>(numbers: &mut I) -> Option<u8>
 #[tactic(auto, using(crate::proofs::lemmas::calls::Colors::no_red, crate::proofs::lemmas::calls::Colors::after_red, crate::proofs::lemmas::calls::Colors::after_green, crate::proofs::lemmas::calls::Colors::after_blue))]
 pub(crate) fn read_color<I: NumberIterator>(kind: u16, numbers: &mut I) -> Option<Color>
     ensures color { result ≡ (kind_reading kind (map I.number (I.left numbers.old))).color }
-    ensures rest { I.left numbers.new
+    ensures left_is { I.left numbers.new
         ≡ drop (kind_reading kind (map I.number (I.left numbers.old))).used (I.left numbers.old) }
 {
     match kind {

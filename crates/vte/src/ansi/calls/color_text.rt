@@ -4,7 +4,7 @@ ghost use Rattle.vte.specs.Colors.{color_of_parts, color_of_thirds, component_by
 ghost use Rattle.vte.specs.Split.{split_by};
 ghost use Rattle.vte_types.specs.Rgb.{hex_number};
 
-use crate::ansi::split::{split_at_first, strip_word};
+use crate::ansi::calls::split::{split_at_first, strip_word};
 use vte_types::Rgb;
 
 /// Returns the colour that a text names.

@@ -11,8 +11,8 @@ ghost use Rattle.vte_types.specs.CursorIcon.{icon_of};
 use crate::ansi::calls::color_text::xparse_color;
 use crate::ansi::calls::joined_text::{join_texts, text_in};
 use crate::ansi::calls::numbers::{parse_number, push_number};
+use crate::ansi::calls::split::{link_id, strip_word};
 use crate::ansi::calls::text_buffer::TextBuffer;
-use crate::ansi::split::{link_id, strip_word};
 use arrayvec::ArrayString;
 use std::str::FromStr;
 use vte_handler::{Handler, Hyperlink};
@@ -32,7 +32,7 @@ pub(crate) fn perform_system_command<H: Handler, B: TextBuffer>(
     ensures calls { H.value_of handler.new
         ≡ after H.step (H.value_of handler.old)
         (system_command_calls (map (λ piece. piece.now) pieces.now) bell_terminated) }
-    ensures keeps_capacity { B.text_capacity text.new ≡ B.text_capacity text.old }
+    ensures same_capacity { B.text_capacity text.new ≡ B.text_capacity text.old }
 {
     // proof: a word that is matched is no other word.
     laws::words_differ_from_other_texts();
@@ -63,7 +63,7 @@ fn set_title<H: Handler, B: TextBuffer>(handler: &mut H, text: &mut B, texts: &[
     requires { FitsTextCapacity (B.text_capacity text.old) (map (λ piece. piece.now) texts.now) }
     ensures calls { H.value_of handler.new
         ≡ after H.step (H.value_of handler.old) (title_calls (map (λ piece. piece.now) texts.now)) }
-    ensures keeps_capacity { B.text_capacity text.new ≡ B.text_capacity text.old }
+    ensures same_capacity { B.text_capacity text.new ≡ B.text_capacity text.old }
 {
     match texts {
         [] => {}
@@ -141,7 +141,7 @@ fn set_link<H: Handler, B: TextBuffer>(handler: &mut H, text: &mut B, texts: &[&
     requires { FitsTextCapacity (B.text_capacity text.old) (map (λ piece. piece.now) texts.now) }
     ensures calls { H.value_of handler.new
         ≡ after H.step (H.value_of handler.old) (link_calls (map (λ piece. piece.now) texts.now)) }
-    ensures keeps_capacity { B.text_capacity text.new ≡ B.text_capacity text.old }
+    ensures same_capacity { B.text_capacity text.new ≡ B.text_capacity text.old }
 {
     match texts {
         [] | [_] => {}

@@ -2,7 +2,7 @@
 ghost use Rattle.std.specs.Prelude.{unwrap_or, [], ◌∷◌, ◌≡◌, ◌≢◌};
 ghost use Rattle.vte.specs.ControlSequenceCalls.{change_call, change_calls, control_sequence_calls, repeat_calls, table_without_intermediates, window_operation_table};
 ghost use Rattle.vte.specs.Numbers.{first_numbers};
-ghost use Rattle.vte.specs.OptionalCalls.{for_some};
+ghost use Rattle.vte.specs.OptionalCalls.{call_some};
 ghost use Rattle.vte.specs.SelectedValues.{clear_line_table, clear_screen_table, clear_tabs_table, cursor_style_table, modify_other_keys_table};
 ghost use Rattle.vte_handler.specs.Call as call;
 ghost use Rattle.vte_types.specs.Words.{entry_of};
@@ -166,7 +166,7 @@ fn operate_window<H: Handler>(handler: &mut H, number: u16)
 /// Clears the tab stops that TBC selects.
 fn clear_tabs<H: Handler>(handler: &mut H, number: u16)
     ensures { H.value_of handler.new ≡ after H.step (H.value_of handler.old)
-        (for_some (λ x. call.ClearTabs x) (entry_of clear_tabs_table number)) }
+        (call_some (λ x. call.ClearTabs x) (entry_of clear_tabs_table number)) }
 {
     match number {
         0 => handler.clear_tabs(TabulationClearMode::Current),
@@ -178,7 +178,7 @@ fn clear_tabs<H: Handler>(handler: &mut H, number: u16)
 /// Clears the part of the screen that ED selects.
 fn clear_screen<H: Handler>(handler: &mut H, number: u16)
     ensures { H.value_of handler.new ≡ after H.step (H.value_of handler.old)
-        (for_some (λ x. call.ClearScreen x) (entry_of clear_screen_table number)) }
+        (call_some (λ x. call.ClearScreen x) (entry_of clear_screen_table number)) }
 {
     match number {
         0 => handler.clear_screen(ClearMode::Below),
@@ -192,7 +192,7 @@ fn clear_screen<H: Handler>(handler: &mut H, number: u16)
 /// Clears the part of the line that EL selects.
 fn clear_line<H: Handler>(handler: &mut H, number: u16)
     ensures { H.value_of handler.new ≡ after H.step (H.value_of handler.old)
-        (for_some (λ x. call.ClearLine x) (entry_of clear_line_table number)) }
+        (call_some (λ x. call.ClearLine x) (entry_of clear_line_table number)) }
 {
     match number {
         0 => handler.clear_line(LineClearMode::Right),
@@ -205,7 +205,7 @@ fn clear_line<H: Handler>(handler: &mut H, number: u16)
 /// Sets how modified keys are sent.
 fn set_other_keys<H: Handler>(handler: &mut H, number: u16)
     ensures { H.value_of handler.new ≡ after H.step (H.value_of handler.old)
-        (for_some (λ x. call.SetModifyOtherKeys x) (entry_of modify_other_keys_table number)) }
+        (call_some (λ x. call.SetModifyOtherKeys x) (entry_of modify_other_keys_table number)) }
 {
     match number {
         0 => handler.set_modify_other_keys(ModifyOtherKeys::Reset),
@@ -218,7 +218,7 @@ fn set_other_keys<H: Handler>(handler: &mut H, number: u16)
 /// Sets the cursor style of DECSCUSR. `None` is the terminal's own style.
 fn set_cursor_style<H: Handler>(handler: &mut H, number: u16)
     ensures { H.value_of handler.new ≡ after H.step (H.value_of handler.old)
-        (for_some (λ x. call.SetCursorStyle x) (entry_of cursor_style_table number)) }
+        (call_some (λ x. call.SetCursorStyle x) (entry_of cursor_style_table number)) }
 {
     let shape = match number {
         0 => return handler.set_cursor_style(None),

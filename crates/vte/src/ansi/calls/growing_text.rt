@@ -37,7 +37,7 @@ impl<A: Allocator> GrowingText<A> {
     /// Frees its memory.
     pub(crate) fn free(&mut self)
         ensures size { self.new.size ≡ 0 }
-        ensures memory { string_capacity self.new.text ≡ 0 }
+        ensures no_memory { string_capacity self.new.text ≡ 0 }
     {
         self.text.clear();
         self.text.shrink_to_fit();
@@ -71,12 +71,12 @@ impl<A: Allocator> TextBuffer for GrowingText<A> {
     }
 
     fn push(&mut self, c: char) {
-        // It fits.
+        // The contract requires room for it.
         let _ = self.text.push(c);
     }
 
     fn push_str(&mut self, part: &str) {
-        // It fits.
+        // The contract requires room for it.
         let _ = self.text.push_str(part);
     }
 

@@ -19,7 +19,7 @@ pub(crate) fn join_texts<B: TextBuffer>(text: &mut B, pieces: &[&[u8]], keeps_al
     requires { FitsTextCapacity (B.text_capacity text.old) (map (λ piece. piece.now) pieces.now) }
     ensures joined { B.held text.new
         ≡ joined_texts keeps_all (map (λ piece. piece.now) pieces.now) }
-    ensures keeps_capacity { B.text_capacity text.new ≡ B.text_capacity text.old }
+    ensures same_capacity { B.text_capacity text.new ≡ B.text_capacity text.old }
 {
     text.clear();
     let mut is_first = true;
@@ -35,7 +35,7 @@ pub(crate) fn join_texts<B: TextBuffer>(text: &mut B, pieces: &[&[u8]], keeps_al
 fn push_part<B: TextBuffer>(text: &mut B, is_first: bool, part: &str)
     requires { length (B.held text.old) + length part.now + 1 ≤ B.text_capacity text.old }
     ensures pushed { B.held text.new ≡ B.held text.old ++ text_to_join is_first part.now }
-    ensures keeps_capacity { B.text_capacity text.new ≡ B.text_capacity text.old }
+    ensures same_capacity { B.text_capacity text.new ≡ B.text_capacity text.old }
 {
     if !is_first {
         text.push(';');

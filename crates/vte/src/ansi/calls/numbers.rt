@@ -17,13 +17,13 @@ pub(crate) trait NumberIterator {
     /// Returns the next number.
     fn next_number(&mut self) -> Option<u16>
         ensures value { result ≡ first_of (map number (left self.old)) }
-        ensures rest { left self.new ≡ drop 1 (left self.old) };
+        ensures left_is { left self.new ≡ drop 1 (left self.old) };
 
     /// Returns the next number, or `default` if that is 0 or there is none left.
     // cargo: #[inline]
     fn next_or(&mut self, default: u16) -> u16
         ensures value { result ≡ first_nonzero_or default (map number (left self.old)) }
-        ensures rest { left self.new ≡ drop 1 (left self.old) }
+        ensures left_is { left self.new ≡ drop 1 (left self.old) }
         ensures positive { 0 < default → 0 < result }
     {
         match self.next_number() {
@@ -97,7 +97,7 @@ pub(crate) fn parse_number(digits: &[u8]) -> Option<u8>
 pub(crate) fn push_number<B: TextBuffer>(text: &mut B, number: u8)
     requires { length (B.held text.old) + length (decimal number) ≤ B.text_capacity text.old }
     ensures pushed { B.held text.new ≡ B.held text.old ++ decimal number }
-    ensures keeps_capacity { B.text_capacity text.new ≡ B.text_capacity text.old }
+    ensures same_capacity { B.text_capacity text.new ≡ B.text_capacity text.old }
 {
     if number < 10 {
         text.push(char::from(b'0' + number));

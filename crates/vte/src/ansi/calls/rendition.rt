@@ -29,7 +29,7 @@ pub(crate) fn perform_attributes<H: Handler>(handler: &mut H, params: &Params)
 // cargo: #[inline]
 fn read_attribute(group: &[u16], groups: &mut ParamsIter<'_>) -> Option<Attr>
     ensures value { result ≡ (rendition group.now groups.old).attribute }
-    ensures rest { groups.new ≡ drop (rendition group.now groups.old).used groups.old }
+    ensures left_is { groups.new ≡ drop (rendition group.now groups.old).used groups.old }
 {
     match group {
         [number @ (38 | 48 | 58)] => {

@@ -18,26 +18,26 @@ pub(crate) trait TextBuffer {
     /// Makes room for a text of `size` bytes, and returns whether it is there.
     fn reserve(&mut self, size: usize) -> bool
         ensures suffices { result ≡ true → size ≤ text_capacity self.new }
-        ensures never_shrinks { text_capacity self.old ≤ text_capacity self.new }
+        ensures keeps_capacity { text_capacity self.old ≤ text_capacity self.new }
         ensures lacks_memory { result ≡ false → text_capacity self.new < size };
 
     /// Empties the text. Its size stays.
     fn clear(&mut self)
         ensures holds_nothing { held self.new ≡ [] }
-        ensures keeps_capacity { text_capacity self.new ≡ text_capacity self.old };
+        ensures same_capacity { text_capacity self.new ≡ text_capacity self.old };
 
     /// Appends a character of one byte.
     fn push(&mut self, c: char)
         requires ascii { c < 128 }
         requires fits { length (held self.old) + 1 ≤ text_capacity self.old }
         ensures pushed { held self.new ≡ held self.old ++ c ∷ [] }
-        ensures keeps_capacity { text_capacity self.new ≡ text_capacity self.old };
+        ensures same_capacity { text_capacity self.new ≡ text_capacity self.old };
 
     /// Appends a text.
     fn push_str(&mut self, part: &str)
         requires { length (held self.old) + length part.now ≤ text_capacity self.old }
         ensures pushed { held self.new ≡ held self.old ++ part.now }
-        ensures keeps_capacity { text_capacity self.new ≡ text_capacity self.old };
+        ensures same_capacity { text_capacity self.new ≡ text_capacity self.old };
 
     /// Returns the text.
     fn as_str(&self) -> &str

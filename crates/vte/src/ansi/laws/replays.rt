@@ -1,8 +1,9 @@
 //! Lists of a processor's calls.
 ghost use Rattle.std.specs.Prelude.{IfErr, IfOk, None};
-ghost use Rattle.vte.specs.LongProcessor.{HasParsedAndHoldsLong, LacksMemoryLong};
+ghost use Rattle.vte.specs.LongProcessor.{ProcessorLacksMemory};
+ghost use Rattle.vte.specs.ProcessorFacts.{long_facts, processor_facts};
 ghost use Rattle.vte.specs.Processor.{processor_meaning, State};
-ghost use Rattle.vte.specs.ProcessorCalls.{HasParsedAndHolds, IsAt, Replays};
+ghost use Rattle.vte.specs.ProcessorCalls.{IsAt, Replays};
 ghost use Rattle.vte.specs.Refusal.{HasReplayedUntil, left_by};
 ghost use Rattle.vte_core.specs.Stream.{default_limit};
 
@@ -40,7 +41,7 @@ pub fn replay<H: Handler, T: Timeout + Drop, A: Allocator>(
     steps: &[Step<'_>],
 )
     ensures { Replays (processor_meaning default_limit H.step T.set T.clear T.allows)
-        (HasParsedAndHolds T.value_of processor.old) (HasParsedAndHolds T.value_of processor.new)
+        (processor_facts T.value_of processor.old) (processor_facts T.value_of processor.new)
         (H.value_of handler.old) (H.value_of handler.new) steps.now }
 {
     for step in steps {
@@ -60,16 +61,15 @@ pub fn replay_long<H: Handler, T: Timeout + Drop, A: Allocator>(
 ) -> Result<(), RefusedStep>
     ensures replays { IfOk result
         (λ all. Replays (processor_meaning None H.step T.set T.clear T.allows)
-        (HasParsedAndHoldsLong T.value_of processor.old)
-        (HasParsedAndHoldsLong T.value_of processor.new)
+        (long_facts T.value_of processor.old) (long_facts T.value_of processor.new)
         (H.value_of handler.old) (H.value_of handler.new) steps.now) }
     ensures refuses { IfErr result (λ refused. (state : State H.Value T.Value)
-        → IsAt (HasParsedAndHoldsLong T.value_of processor.old) (H.value_of handler.old) state →
+        → IsAt (long_facts T.value_of processor.old) (H.value_of handler.old) state →
         HasReplayedUntil
         (processor_meaning None H.step T.set T.clear T.allows) state steps.now refused
-        (IsAt (HasParsedAndHoldsLong T.value_of processor.new) (H.value_of handler.new))) }
-    ensures lacks_memory { IfErr result
-        (λ refused. LacksMemoryLong T.value_of processor.new (left_by steps.now refused)) }
+        (IsAt (long_facts T.value_of processor.new) (H.value_of handler.new))) }
+    ensures lacks_memory { IfErr result (λ refused. ProcessorLacksMemory
+        (long_facts T.value_of processor.new) (left_by steps.now refused)) }
 {
     for (index, step) in steps.iter().enumerate() {
         match step {

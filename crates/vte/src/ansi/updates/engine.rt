@@ -1,12 +1,13 @@
 //! What a processor is, whatever its limit. It takes turns: each parses bytes of a call, or holds
 //! them back.
 ghost use Rattle.std.specs.Prelude.{IfErr, IfOk, length, MatchResult, nat_le, ℕ, [], ◌+◌, ◌-◌, ◌<◌, ◌≡◌, ◌≤◌};
-ghost use Rattle.vte.specs.Views.{engine_view, EngineHasParsedAndHolds};
-ghost use Rattle.vte.specs.ProcessorCalls.{held_of};
+ghost use Rattle.vte.specs.Views.{engine_view};
+ghost use Rattle.vte.specs.ProcessorFacts.{engine_facts, held_of};
+ghost use Rattle.vte.specs.ProcessorCalls.{StopsSync};
 ghost use Rattle.vte.specs.private.Hold.{released_of};
 ghost use Rattle.vte.specs.Processor.{hold_turn, max_held, parse, processor_meaning, State, stop, timeout_set_times};
-ghost use Rattle.vte.specs.private.Engine.{EndsParsingTurn, EndsTurn, EngineIsAtKeepingMemory, EngineLeadsOn, PartsAreAt, PartsAreAtKeepingMemory, PartsHaveMemory, PartsLeaveMemory};
-ghost use Rattle.vte.specs.LongProcessor.{EngineAdvances, EngineLacksMemory, EngineReserves, EngineStopsSync};
+ghost use Rattle.vte.specs.private.Engine.{EndsParsingTurn, EndsTurn, IsAtKeepingMemory, LeadsOn, PartsAreAt, PartsAreAtKeepingMemory, PartsHaveMemory, PartsLeaveMemory};
+ghost use Rattle.vte.specs.LongProcessor.{AdvancesUntilRefused, ProcessorLacksMemory, Reserves};
 ghost use Rattle.vte_handler.specs.Timeout.{timeout_meaning};
 
 use crate::ansi::calls::performer::ProcessorState;
@@ -42,10 +43,9 @@ impl<P: EventParser + Drop, B: TextBuffer + Drop, T: Timeout + Drop, A: Allocato
     /// Creates an engine of a parser that has read nothing, with memory for a hold. Returns the
     /// timeout if memory runs out.
     pub(crate) fn new(alloc: A, parser: P, text: B, timeout: T) -> Result<Self, T>
-        requires reads { P.view.has_read parser [] }
-        ensures agrees { MatchResult result
-            (λ engine. EngineHasParsedAndHolds
-            (engine_view P.limit P.view B.text_capacity T.value_of) engine
+        requires parser_is_new { P.view.has_read parser [] }
+        ensures created { MatchResult result (λ engine. (engine_facts
+            (engine_view P.limit P.view B.text_capacity T.value_of) engine).has_parsed_and_holds
             [] [] (T.value_of timeout)) (λ back. back ≡ timeout) }
         ensures timeout { IfOk result (λ engine. engine.state.timeout ≡ timeout) }
         ensures text { IfOk result (λ engine. engine.state.text ≡ text) }
@@ -73,9 +73,10 @@ impl<P: EventParser + Drop, B: TextBuffer + Drop, T: Timeout + Drop, A: Allocato
         handler: &mut H,
         bytes: &[u8],
     ) -> Result<(), Refused>
-        ensures { EngineAdvances (engine_view P.limit P.view B.text_capacity T.value_of)
-            (processor_meaning P.limit H.step T.set T.clear T.allows)
-            self.old self.new (H.value_of handler.old) (H.value_of handler.new) bytes.now result }
+        ensures { let view = engine_view P.limit P.view B.text_capacity T.value_of in
+            AdvancesUntilRefused (processor_meaning P.limit H.step T.set T.clear T.allows)
+            (engine_facts view self.old) (engine_facts view self.new)
+            (H.value_of handler.old) (H.value_of handler.new) bytes.now result }
     {
         let mut read = 0;
         // Each turn reads at least one byte.
@@ -99,8 +100,9 @@ impl<P: EventParser + Drop, B: TextBuffer + Drop, T: Timeout + Drop, A: Allocato
     // stops are rare, so they are kept out of the loop over bytes of a turn
     // cargo: #[inline(never)]
     pub(crate) fn stop<H: Handler, G: ParseAs<H, T, P>>(&mut self, handler: &mut H)
-        ensures stopped { EngineStopsSync (engine_view P.limit P.view B.text_capacity T.value_of)
-            (processor_meaning P.limit H.step T.set T.clear T.allows) self.old self.new
+        ensures stopped { let view = engine_view P.limit P.view B.text_capacity T.value_of in
+            StopsSync (processor_meaning P.limit H.step T.set T.clear T.allows)
+            (engine_facts view self.old) (engine_facts view self.new)
             (H.value_of handler.old) (H.value_of handler.new) }
         ensures nothing_held { held_of self.new.hold ≡ [] }
     {
@@ -117,9 +119,10 @@ impl<P: EventParser + Drop, B: TextBuffer + Drop, T: Timeout + Drop, A: Allocato
             → PartsAreAt view self.old.parser self.old.state (H.value_of handler.old) state
             → released_of self.old.hold ≡ state.held → held_of self.old.hold ≡ []
             → PartsHaveMemory view self.old.parser self.old.state state state.held spare
-            → EngineIsAtKeepingMemory view self.old self.new (H.value_of handler.new)
+            → IsAtKeepingMemory (engine_facts view self.old)
+            (engine_facts view self.new) (H.value_of handler.new)
             (stop (processor_meaning P.limit H.step T.set T.clear T.allows) state) }
-        ensures hold { self.new.hold ≡ self.old.hold }
+        ensures same_hold { self.new.hold ≡ self.old.hold }
     {
         self.parse_released::<H, G>(handler);
         handler.unset_private_mode(PrivateMode::Named(NamedPrivateMode::SyncUpdate));
@@ -136,10 +139,10 @@ impl<P: EventParser + Drop, B: TextBuffer + Drop, T: Timeout + Drop, A: Allocato
             → PartsAreAtKeepingMemory view self.old.parser self.old.state
             self.new.parser self.new.state (H.value_of handler.new)
             (parse (processor_meaning P.limit H.step T.set T.clear T.allows) state released) }
-        ensures memory { PartsLeaveMemory (engine_view P.limit P.view B.text_capacity T.value_of)
-            self.old.parser self.old.state (H.value_of handler.old)
+        ensures leaves_memory { let view = engine_view P.limit P.view B.text_capacity T.value_of in
+            PartsLeaveMemory view self.old.parser self.old.state (H.value_of handler.old)
             self.new.parser self.new.state (released_of self.old.hold) }
-        ensures hold { self.new.hold ≡ self.old.hold }
+        ensures same_hold { self.new.hold ≡ self.old.hold }
     {
         let released = self.hold.released();
         if released.is_empty() {
@@ -160,14 +163,13 @@ impl<P: EventParser + Drop, B: TextBuffer + Drop, T: Timeout + Drop, A: Allocato
         requires not_empty { 0 < length bytes.now }
         ensures within { MatchResult result (λ read. read ≤ length bytes.now)
             (λ refused. refused.read < length bytes.now) }
-        ensures turned { EngineLeadsOn
-            (engine_view P.limit P.view B.text_capacity T.value_of) self.old
-            self.new (H.value_of handler.old) (H.value_of handler.new)
-            (λ state. EndsTurn
+        ensures turned { let view = engine_view P.limit P.view B.text_capacity T.value_of in
+            LeadsOn (engine_facts view self.old) (engine_facts view self.new)
+            (H.value_of handler.old) (H.value_of handler.new) (λ state. EndsTurn
             (processor_meaning P.limit H.step T.set T.clear T.allows) state bytes.now result) }
-        ensures lacks_memory { IfErr result
-            (λ refused. EngineLacksMemory (engine_view P.limit P.view B.text_capacity T.value_of)
-            self.new (length bytes.now - refused.read)) }
+        ensures lacks_memory { let view = engine_view P.limit P.view B.text_capacity T.value_of in
+            IfErr result (λ refused. ProcessorLacksMemory (engine_facts view self.new)
+            (length bytes.now - refused.read)) }
     {
         let pending = self.state.timeout.pending_timeout();
         if pending && self.has_room(bytes.len()) {
@@ -201,15 +203,13 @@ impl<P: EventParser + Drop, B: TextBuffer + Drop, T: Timeout + Drop, A: Allocato
         requires nothing_held { held_of self.old.hold ≡ [] }
         ensures within { MatchResult result (λ read. read ≤ length bytes.now)
             (λ refused. refused.read < length bytes.now) }
-        ensures parsed { EngineLeadsOn
-            (engine_view P.limit P.view B.text_capacity T.value_of) self.old
-            self.new (H.value_of handler.old) (H.value_of handler.new)
-            (λ state. EndsParsingTurn
-            (processor_meaning P.limit H.step T.set T.clear T.allows) state bytes.now
-            result) }
-        ensures lacks_memory { IfErr result
-            (λ refused. EngineLacksMemory (engine_view P.limit P.view B.text_capacity T.value_of)
-            self.new (length bytes.now - refused.read)) }
+        ensures parsed { let view = engine_view P.limit P.view B.text_capacity T.value_of in
+            LeadsOn (engine_facts view self.old) (engine_facts view self.new)
+            (H.value_of handler.old) (H.value_of handler.new) (λ state. EndsParsingTurn
+            (processor_meaning P.limit H.step T.set T.clear T.allows) state bytes.now result) }
+        ensures lacks_memory { let view = engine_view P.limit P.view B.text_capacity T.value_of in
+            IfErr result (λ refused. ProcessorLacksMemory (engine_facts view self.new)
+            (length bytes.now - refused.read)) }
     {
         let mut read = 0;
         // Each slice has at least one byte.
@@ -235,9 +235,10 @@ impl<P: EventParser + Drop, B: TextBuffer + Drop, T: Timeout + Drop, A: Allocato
 
     /// Takes memory for the held bytes and for this many more, and returns whether it is there.
     pub(crate) fn reserve(&mut self, more: usize) -> bool
-        ensures reserved { EngineReserves
-            (engine_view P.limit P.view B.text_capacity T.value_of) self.old self.new more result }
-        ensures hold { self.new.hold ≡ self.old.hold }
+        ensures reserved { let view = engine_view P.limit P.view B.text_capacity T.value_of in
+            Reserves (engine_facts view self.old) (engine_facts view self.new)
+            more result }
+        ensures same_hold { self.new.hold ≡ self.old.hold }
     {
         self.parser
             .reserve(&mut self.state.text, self.hold.len(), more)
@@ -248,12 +249,11 @@ impl<P: EventParser + Drop, B: TextBuffer + Drop, T: Timeout + Drop, A: Allocato
     fn hold_bytes<H: Handler, G: ParseAs<H, T, P>>(&mut self, handler: &mut H, bytes: &[u8])
         requires not_empty { 0 < length bytes.now }
         requires fits { length (held_of self.old.hold) + length bytes.now ≤ max_held }
-        ensures { EngineLeadsOn (engine_view P.limit P.view B.text_capacity T.value_of) self.old
-            self.new (H.value_of handler.old) (H.value_of handler.new)
-            (λ state IsNowAt. P.view.has_memory self.old.parser
-            (B.text_capacity self.old.state.text)
-            state.parsed (length state.held + length bytes.now) →
-            IsNowAt (hold_turn
+        ensures { let view = engine_view P.limit P.view B.text_capacity T.value_of in
+            LeadsOn (engine_facts view self.old) (engine_facts view self.new)
+            (H.value_of handler.old) (H.value_of handler.new)
+            (λ state IsNowAt. (engine_facts view self.old).has_memory state.parsed
+            (length state.held + length bytes.now) → IsNowAt (hold_turn
             (processor_meaning P.limit H.step T.set T.clear T.allows) state bytes.now)) }
     {
         let begins = self.hold.add(bytes);

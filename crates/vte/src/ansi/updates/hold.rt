@@ -28,7 +28,7 @@ pub(crate) struct SyncState<A: Allocator> {
 }
 
 impl<A: Allocator + Clone> Clone for SyncState<A> {
-    ghost use Rattle.vte.specs.ProcessorCalls.{held_of};
+    ghost use Rattle.vte.specs.ProcessorFacts.{held_of};
 
     ghost is_clone = { λ hold clone. held_of clone ≡ held_of hold };
 
@@ -43,7 +43,8 @@ impl<A: Allocator + Clone> Clone for SyncState<A> {
 
 impl<A: Allocator> SyncState<A> {
     ghost use Rattle.vte.specs.private.Hold.{AddsToHold, released_of};
-    ghost use Rattle.vte.specs.ProcessorCalls.{CountsHeld, held_of};
+    ghost use Rattle.vte.specs.ProcessorFacts.{held_of};
+    ghost use Rattle.vte.specs.ProcessorCalls.{CountsHeld};
 
     /// Allocates the memory.
     pub(crate) fn new(alloc: A) -> Result<Self, AllocError>

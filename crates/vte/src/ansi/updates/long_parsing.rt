@@ -48,7 +48,7 @@ impl<H: Handler, T: Timeout + Drop, A: Allocator> ParseAs<H, T, LongParser<A>> f
         performer: &mut Performer<'_, '_, H, T, B, Self>,
         bytes: &[u8],
     ) {
-        // There is memory.
+        // The engine has reserved memory for these bytes, so none is refused.
         let _ = parser.advance(performer, bytes);
     }
 
@@ -59,7 +59,7 @@ impl<H: Handler, T: Timeout + Drop, A: Allocator> ParseAs<H, T, LongParser<A>> f
         bytes: &[u8],
     ) -> usize {
         match parser.advance_until_terminated(performer, bytes) {
-            // There is memory.
+            // The engine has reserved memory for these bytes, so none is refused.
             Ok(read) | Err(Refused { read }) => read,
         }
     }
@@ -73,7 +73,7 @@ impl<H: HandlerText, T: Timeout + Drop, A: Allocator> ParseAs<H, T, LongParser<A
         performer: &mut Performer<'_, '_, H, T, B, Self>,
         bytes: &[u8],
     ) {
-        // There is memory.
+        // The engine has reserved memory for these bytes, so none is refused.
         let _ = parser.advance_text(performer, bytes);
     }
 
@@ -84,7 +84,7 @@ impl<H: HandlerText, T: Timeout + Drop, A: Allocator> ParseAs<H, T, LongParser<A
         bytes: &[u8],
     ) -> usize {
         match parser.advance_text_until_terminated(performer, bytes) {
-            // There is memory.
+            // The engine has reserved memory for these bytes, so none is refused.
             Ok(read) | Err(Refused { read }) => read,
         }
     }

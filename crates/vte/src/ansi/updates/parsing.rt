@@ -141,7 +141,7 @@ pub(crate) fn parse_all<
         parser.new lent.new (H.value_of handler.new) (length bytes.now)
         (λ state IsNowAt.
         IsNowAt (parse (processor_meaning P.limit H.step T.set T.clear T.allows) state bytes.now)) }
-    ensures memory { PartsLeaveMemory (engine_view P.limit P.view B.text_capacity T.value_of)
+    ensures leaves_memory { PartsLeaveMemory (engine_view P.limit P.view B.text_capacity T.value_of)
         parser.old lent.old (H.value_of handler.old) parser.new lent.new bytes.now }
 {
     let mut performer = Performer {
@@ -163,7 +163,7 @@ pub(crate) fn parse_until_begin<
     G: ParseAs<H, T, P>,
 >(parser: &mut P, lent: &mut ProcessorState<T, B>, handler: &mut H, bytes: &[u8]) -> (usize, bool)
     ensures within { result.0 ≤ length bytes.now }
-    ensures stops { PartsLeadOn (engine_view P.limit P.view B.text_capacity T.value_of)
+    ensures parses_prefix { PartsLeadOn (engine_view P.limit P.view B.text_capacity T.value_of)
         parser.old lent.old (H.value_of handler.old)
         parser.new lent.new (H.value_of handler.new) (length bytes.now)
         (λ state. HasParsedPrefix

@@ -1,7 +1,7 @@
 //! What a hold releases when bytes are added to it.
 ghost use Rattle.std.specs.Prelude.{IsTrue, length, List, None, ℕ, ◌++◌, ◌+◌, ◌<◌, ◌^◌, ◌≡◌, ◌≤◌};
 ghost use Rattle.vte.specs.private.Hold.{FindsRelease, HasNoPrivateSequence, HasNoSequenceBetween, IsHeldTail};
-ghost use Rattle.vte.specs.Synchronized.{after_last_end, begin_update, begins_with, end_update};
+ghost use Rattle.vte.specs.Synchronized.{after_last_end, begin_update, end_update, is_prefix_of};
 
 use memchr::memrchr;
 
@@ -79,16 +79,16 @@ fn has_no_private_sequence(block: &[u8; 34]) -> bool
 
 /// Returns whether the text starts with a begin-update.
 fn begins_update(text: &[u8]) -> bool
-    ensures bound { IsTrue result → 8 ≤ length text.now }
-    ensures value { result ≡ begins_with begin_update text.now }
+    ensures has_eight_bytes { IsTrue result → 8 ≤ length text.now }
+    ensures value { result ≡ is_prefix_of begin_update text.now }
 {
     text.starts_with(b"\x1b[?2026h")
 }
 
 /// Returns whether the text starts with an end-update.
 fn ends_update(text: &[u8]) -> bool
-    ensures bound { IsTrue result → 8 ≤ length text.now }
-    ensures value { result ≡ begins_with end_update text.now }
+    ensures has_eight_bytes { IsTrue result → 8 ≤ length text.now }
+    ensures value { result ≡ is_prefix_of end_update text.now }
 {
     text.starts_with(b"\x1b[?2026l")
 }

@@ -4,7 +4,6 @@
 mod bounded_processor;
 mod calls;
 mod long_processor;
-mod split;
 mod updates;
 
 pub use bounded_processor::BoundedProcessor;

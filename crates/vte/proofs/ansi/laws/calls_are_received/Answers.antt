@@ -1,5 +1,5 @@
 -- Each law is a lemma on lists of calls.
-use Rattle.vte.proofs.lemmas.replays.ReplayedSteps.{refused_delivered, replay-append, replay-only_one, replay-well, steps_delivered}
+use Rattle.vte.proofs.lemmas.replays.ReplayedSteps.{refused_delivered, replay-append, replay-invariant, replay-only_one, steps_delivered}
 use Rattle.vte.proofs.ansi.laws.calls_are_received.Goals as goal
 
 pub returns-clause-calls : goal.returns-clause-calls
@@ -11,8 +11,8 @@ returns-clause-refused g c = refused_delivered _
 pub returns-clause-goes_on : goal.returns-clause-goes_on
 returns-clause-goes_on g c = λ limit. replay-append _
 
-pub returns-clause-holds_well : goal.returns-clause-holds_well
-returns-clause-holds_well g c = λ limit. replay-well _
+pub returns-clause-hold_invariant : goal.returns-clause-hold_invariant
+returns-clause-hold_invariant g c = λ limit. replay-invariant _
 
 pub returns-clause-unique_state : goal.returns-clause-unique_state
 returns-clause-unique_state g c =

@@ -3,4 +3,4 @@ use Rattle.vte.proofs.lemmas.replays.ProcessorAndEngine.{stops_within}
 use Rattle.vte.proofs.ansi.bounded_processor.BoundedProcessor.stop_sync.Goals as goal
 
 pub returns : goal.returns
-returns g c = stops_within c.stop.ensures.stopped
+returns g c = stops_within (λ had. had) (λ has. has) c.stop.ensures.stopped

@@ -7,8 +7,8 @@ use Rattle.vte.proofs.ansi.calls.joined_text.join_texts.Goals.{in-Some, in_defau
 pub loop-piece-init : goal.loop-piece-init
 loop-piece-init g c = record {
   joins = joins-begin c.clear.ensures.holds_nothing c.requires;
-  keeps_capacity =
-      c.clear.ensures.keeps_capacity;
+  same_capacity =
+      c.clear.ensures.same_capacity;
 }
 
 pub push_part-requires : goal.push_part-requires
@@ -16,7 +16,7 @@ push_part-requires g c =
     let fits =
     joins-fits c.args.keeps_all c.args.pieces.now c.loop-piece.piece-index _ c.loop-piece-test.true
     c.loop-piece.invariant.joins c.in-Some.ensures in
-    omega (arith, fits, c.loop-piece.invariant.keeps_capacity)
+    omega (arith, fits, c.loop-piece.invariant.same_capacity)
 
 pub loop-piece-preserved : goal.loop-piece-preserved
 loop-piece-preserved g c = elim c.match-text_in.branch [
@@ -26,8 +26,8 @@ loop-piece-preserved g c = elim c.match-text_in.branch [
       c.loop-piece.invariant.joins branch.in-Some.ensures in
       record {
         joins = rw (branch.text-is, branch.push_part.ensures.pushed, branch.is_first-is) more;
-        keeps_capacity = ap g.B.TextBuffer.text_capacity branch.text-is ∙ branch.push_part.ensures.keeps_capacity
-            ∙ c.loop-piece.invariant.keeps_capacity;
+        same_capacity = ap g.B.TextBuffer.text_capacity branch.text-is ∙ branch.push_part.ensures.same_capacity
+            ∙ c.loop-piece.invariant.same_capacity;
       }
   | in_default branch ↦
       record {
@@ -35,6 +35,6 @@ loop-piece-preserved g c = elim c.match-text_in.branch [
             rw (branch.text-is, branch.is_first-is)
             (joins-same c.args.keeps_all c.args.pieces.now c.loop-piece.piece-index _ c.loop-piece-test.true
             c.loop-piece.invariant.joins branch.in_default.ensures);
-        keeps_capacity = ap g.B.TextBuffer.text_capacity branch.text-is ∙ c.loop-piece.invariant.keeps_capacity;
+        same_capacity = ap g.B.TextBuffer.text_capacity branch.text-is ∙ c.loop-piece.invariant.same_capacity;
       }
 ]

@@ -8,5 +8,5 @@ invariant-loop-piece g l = record {
   joins : Joins l.keeps_all (g.B.TextBuffer.text_capacity l.fn.text) (g.B.TextBuffer.held l.text) l.is_first
       (map (λ piece. piece.now) (drop l.piece-index l.pieces))
       (map (λ piece. piece.now) l.pieces);
-  keeps_capacity : g.B.TextBuffer.text_capacity l.text ≡ g.B.TextBuffer.text_capacity l.fn.text;
+  same_capacity : g.B.TextBuffer.text_capacity l.text ≡ g.B.TextBuffer.text_capacity l.fn.text;
 }

@@ -8,7 +8,7 @@ push-requires-else-number-lt10-clause-fits g t c =
     let digits =
     decimal_step c.args.number c.if-number-lt10.false (let fits = c.ranges.number.fits in omega (arith, fits)) in
     let size = ap length digits ∙ length-append (decimal (c.args.number / 10)) ((48 + c.args.number % 10) ∷ []) in
-    rw (c.push_number.ensures.pushed, c.push_number.ensures.keeps_capacity, length-append)
+    rw (c.push_number.ensures.pushed, c.push_number.ensures.same_capacity, length-append)
     (omega (arith, size, c.requires))
 
 pub returns-else-number-lt10-clause-pushed : goal.returns-else-number-lt10-clause-pushed

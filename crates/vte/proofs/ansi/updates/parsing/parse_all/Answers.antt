@@ -14,8 +14,8 @@ returns-clause-parsed g c = λ state spare ready.
     c.advance.new.performer parses.fits parses.performs c.lent-1.given.1
     ready.parts_at refl refl refl refl parses.reads c.handler-1.given.1 c.advance.ensures.keeps_memory
 
-pub returns-clause-memory : goal.returns-clause-memory
-returns-clause-memory g c = λ state spare ready.
+pub returns-clause-leaves_memory : goal.returns-clause-leaves_memory
+returns-clause-leaves_memory g c = λ state spare ready.
     let meaning = processor_meaning g.P.EventParser.limit g.H.Handler.step g.T.Timeout.set g.T.Timeout.clear
     g.T.Timeout.allows in
     let parses = c.advance.ensures.parses state.parsed spare ready.parts_at.has_read ready.memory in

@@ -6,8 +6,8 @@ use Rattle.vte.proofs.lemmas.EnoughMemory.{prefix_fits}
 use Rattle.vte.proofs.lemmas.turns.EachOnce.{prefix-rest}
 use Rattle.vte.proofs.ansi.updates.parsing.parse_until_begin.Goals as goal
 
-pub returns-clause-stops : goal.returns-clause-stops
-returns-clause-stops g c = λ state spare ready.
+pub returns-clause-parses_prefix : goal.returns-clause-parses_prefix
+returns-clause-parses_prefix g c = λ state spare ready.
     let meaning = processor_meaning g.P.EventParser.limit g.H.Handler.step g.T.Timeout.set g.T.Timeout.clear
     g.T.Timeout.allows in
     let bytes = c.args.bytes.now in

@@ -1,7 +1,7 @@
 // Written by tools/erase from crates/vte/src/ansi/calls/color_text.rt: edit that one.
 //! Colours as texts.
 
-use crate::proved::vte::ansi::split::{split_at_first, strip_word};
+use crate::proved::vte::ansi::calls::split::{split_at_first, strip_word};
 use crate::proved::vte_types::Rgb;
 
 /// Returns the colour that a text names.

@@ -57,13 +57,13 @@ impl TextBuffer for GrowingText {
 
     #[inline]
     fn push(&mut self, c: char) {
-        // It fits.
+        // The contract requires room for it.
         let _ = self.text.push(c);
     }
 
     #[inline]
     fn push_str(&mut self, part: &str) {
-        // It fits.
+        // The contract requires room for it.
         let _ = self.text.push_str(part);
     }
 

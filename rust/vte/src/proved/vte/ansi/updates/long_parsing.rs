@@ -38,7 +38,7 @@ impl<H: Handler + ?Sized, T: Timeout> ParseAs<H, T, LongParser> for ByCharacter 
         performer: &mut Performer<'_, '_, H, T, B, Self>,
         bytes: &[u8],
     ) {
-        // There is memory.
+        // The engine has reserved memory for these bytes, so none is refused.
         let _ = parser.advance(performer, bytes);
     }
 
@@ -49,7 +49,7 @@ impl<H: Handler + ?Sized, T: Timeout> ParseAs<H, T, LongParser> for ByCharacter 
         bytes: &[u8],
     ) -> usize {
         match parser.advance_until_terminated(performer, bytes) {
-            // There is memory.
+            // The engine has reserved memory for these bytes, so none is refused.
             Ok(read) | Err(Refused { read }) => read,
         }
     }
@@ -62,7 +62,7 @@ impl<H: HandlerText + ?Sized, T: Timeout> ParseAs<H, T, LongParser> for InRuns {
         performer: &mut Performer<'_, '_, H, T, B, Self>,
         bytes: &[u8],
     ) {
-        // There is memory.
+        // The engine has reserved memory for these bytes, so none is refused.
         let _ = parser.advance_text(performer, bytes);
     }
 
@@ -73,7 +73,7 @@ impl<H: HandlerText + ?Sized, T: Timeout> ParseAs<H, T, LongParser> for InRuns {
         bytes: &[u8],
     ) -> usize {
         match parser.advance_text_until_terminated(performer, bytes) {
-            // There is memory.
+            // The engine has reserved memory for these bytes, so none is refused.
             Ok(read) | Err(Refused { read }) => read,
         }
     }

@@ -1,5 +1,5 @@
 -- The turns so far have led to a state in which the processor is. Each reads a byte or more.
-use Rattle.vte.proofs.Common.{engine_view, EngineIsAt, EngineIsAtKeepingMemory, length, processor_meaning, State, ◌<◌, ◌≤◌}
+use Rattle.vte.proofs.Common.{engine_facts, engine_view, IsAt, IsAtKeepingMemory, length, processor_meaning, State, ◌<◌, ◌≤◌}
 use Rattle.vte.proofs.lemmas.turns.EngineTurns.{HasReached}
 use Rattle.vte.proofs.ansi.updates.engine.Engine.advance.Given as goal
 
@@ -13,7 +13,8 @@ invariant-loop-turn g l =
       within : l.read ≤ length l.bytes;
       some : l._turn < length l.bytes → l.read < length l.bytes;
       reaches : (state : State g.H.Handler.Value g.T.Timeout.Value)
-          → EngineIsAt view l.initial.self (g.H.Handler.value_of l.initial.handler) state
+          → IsAt (engine_facts view l.initial.self) (g.H.Handler.value_of l.initial.handler) state
           → HasReached meaning state l.bytes l._turn l.read
-          (EngineIsAtKeepingMemory view l.initial.self l.self (g.H.Handler.value_of l.handler));
+          (IsAtKeepingMemory (engine_facts view l.initial.self) (engine_facts view l.self)
+          (g.H.Handler.value_of l.handler));
     }

@@ -4,7 +4,7 @@ use Rattle.vte.proofs.lemmas.turns.EngineTurns.{parts-at, stops_update}
 use Rattle.vte.proofs.ansi.updates.engine.Engine.stop.Goals as goal
 
 pub returns-clause-stopped : goal.returns-clause-stopped
-returns-clause-stopped g c = stops_update (λ stream count had. had) (λ state is_at.
+returns-clause-stopped g c = stops_update (λ state is_at.
     c.end_update.ensures.stops state 0 (parts-at is_at)
-    (c.release_all.ensures.released ∙ is_at.agrees.holds) c.release_all.ensures.nothing_held
-    (λ some_held. rw add-zero (is_at.agrees.has_memory some_held)))
+    (c.release_all.ensures.released ∙ is_at.processor_is.holds) c.release_all.ensures.nothing_held
+    (λ some_held. rw add-zero (is_at.processor_is.has_memory some_held))) (λ stream count had. had)

@@ -35,8 +35,8 @@ returns-then-begins-clause-parsed g c = λ state is_at.
     slice-size c.args.bytes.now c.loop-slice.read c.loop-slice.invariant.within
     (omega (arith, c.min-count.ensures)) in
     let parsed_slice =
-    slice-parsed so_far c.if-not-reserve.ensures.reserved size_is (sym is_at.agrees.holds ∙ c.requires.nothing_held)
-    c.parse_until_begin-parsed.ensures.stops in
+    slice-parsed so_far c.if-not-reserve.ensures.reserved size_is
+    (sym is_at.processor_is.holds ∙ c.requires.nothing_held) c.parse_until_begin-parsed.ensures.parses_prefix in
     elim c.then-begins.branch [
       -- An update begins.
       | then-begins-via-then-begins branch ↦
@@ -78,7 +78,7 @@ loop-slice-preserved g c =
           let so_far = before.reaches state is_at in
           let parsed_slice =
           slice-parsed so_far.1 c.if-not-reserve.ensures.reserved size_is
-          (sym is_at.agrees.holds ∙ c.requires.nothing_held) c.parse_until_begin-parsed.ensures.stops in (
+          (sym is_at.processor_is.holds ∙ c.requires.nothing_held) c.parse_until_begin-parsed.ensures.parses_prefix in (
             omega (
               arith,
               so_far.0,

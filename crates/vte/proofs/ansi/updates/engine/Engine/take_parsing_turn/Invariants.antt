@@ -1,5 +1,5 @@
 -- The slices so far begin no update, and are parsed. Each has at least one byte, so the loop reads all.
-use Rattle.vte.proofs.Common.{engine_view, EngineIsAt, EngineIsAtKeepingMemory, HasParsedWithoutBegin, length, processor_meaning, State, ◌<◌, ◌≤◌}
+use Rattle.vte.proofs.Common.{engine_facts, engine_view, HasParsedWithoutBegin, IsAt, IsAtKeepingMemory, length, processor_meaning, State, ◌<◌, ◌≤◌}
 use Rattle.vte.proofs.ansi.updates.engine.Engine.take_parsing_turn.Given as goal
 
 abbrev pub invariant-loop-slice : goal.invariant-loop-slice
@@ -12,8 +12,9 @@ invariant-loop-slice g l =
       within : l.read ≤ length l.bytes;
       some : l._slice < length l.bytes → l.read < length l.bytes;
       reaches : (state : State g.H.Handler.Value g.T.Timeout.Value)
-          → EngineIsAt view l.initial.self (g.H.Handler.value_of l.initial.handler) state
+          → IsAt (engine_facts view l.initial.self) (g.H.Handler.value_of l.initial.handler) state
           → (l._slice ≤ l.read)
           × HasParsedWithoutBegin meaning state l.bytes l.read
-          (EngineIsAtKeepingMemory view l.initial.self l.self (g.H.Handler.value_of l.handler));
+          (IsAtKeepingMemory (engine_facts view l.initial.self) (engine_facts view l.self)
+          (g.H.Handler.value_of l.handler));
     }

@@ -1,6 +1,6 @@
 -- By the timeout's answer: the bytes are held while an update is pending and they fit the hold. Otherwise it is
 -- stopped if it is pending or bytes are held, and the turn parses.
-use Rattle.vte.proofs.Common.{and-false, arith, engine_view, EngineIsAtKeepingMemory, false, held_of, inr, length, max_held, nat_le, nat_tests, processor_meaning, refl, sym, true, ◌+◌, ◌<◌, ◌∙◌, ◌≡◌}
+use Rattle.vte.proofs.Common.{and-false, arith, engine_facts, engine_view, false, held_of, inr, IsAtKeepingMemory, length, max_held, nat_le, nat_tests, processor_meaning, refl, sym, true, ◌+◌, ◌<◌, ◌∙◌, ◌≡◌}
 use Rattle.vte.proofs.lemmas.turns.TurnKinds.{is_held, is_stopped, stop_if_due}
 use Rattle.vte.proofs.lemmas.turns.RefusedTurns.{refused-nothing}
 use Rattle.vte.proofs.lemmas.turns.EngineTurns.{ends_turn, engine-at_stop, keeping_memory-reserved, keeping_memory-same, keeping_memory-then, turned_hold}
@@ -15,7 +15,7 @@ returns-clause-turned g c = λ state is_at.
       -- The bytes don't fit the hold.
       | else-pending-via-then-pending+else-has_room branch ↦
           let full : nat_le (length state.held + length c.args.bytes.now) max_held ≡ false =
-          rw (← is_at.agrees.holds) (sym branch.has_room.ensures ∙ branch.if-has_room.false) in
+          rw (← is_at.processor_is.holds) (sym branch.has_room.ensures ∙ branch.if-has_room.false) in
           rw (full, and-false) refl
       -- No update is pending.
       | else-pending-via-else-pending branch ↦ rw branch.if-pending.false refl
@@ -24,8 +24,8 @@ returns-clause-turned g c = λ state is_at.
     g.T.Timeout.allows in
     let view = engine_view g.P.EventParser.limit g.P.EventParser.view g.B.TextBuffer.text_capacity g.T.Timeout.value_of
     in
-    let here : EngineIsAtKeepingMemory view c.args.self.now c.if-pending-2.self
-    (g.H.Handler.value_of c.if-pending-2.handler)
+    let here : IsAtKeepingMemory (engine_facts view c.args.self.now)
+    (engine_facts view c.if-pending-2.self) (g.H.Handler.value_of c.if-pending-2.handler)
     (stop_if_due meaning pending state) = elim c.if-pending-2.branch [
       -- The update is stopped first.
       | then-pending-2 branch ↦
@@ -33,19 +33,19 @@ returns-clause-turned g c = λ state is_at.
             | then-pending-2-via-then-pending-2 v ↦ rw v.if-pending-2.true refl
             | then-pending-2-via-else-pending-2+then-len-gt0 v ↦
                 let some_held : 0 < length state.held =
-                rw (← is_at.agrees.holds) (omega (arith, v.len.ensures.count, v.if-len-gt0.true)) in
+                rw (← is_at.processor_is.holds) (omega (arith, v.len.ensures.count, v.if-len-gt0.true)) in
                 grind (arith, nat_tests)
           ] in
           rw (branch.self-is, branch.handler-is, stopped) (engine-at_stop branch.stop.ensures.stopped is_at)
       -- Nothing is held.
       | else-pending-2+else-len-gt0 branch ↦
           let none_held : length state.held ≡ 0 =
-          rw (← is_at.agrees.holds) (omega (arith, branch.len.ensures.count, branch.if-len-gt0.false)) in
+          rw (← is_at.processor_is.holds) (omega (arith, branch.len.ensures.count, branch.if-len-gt0.false)) in
           let not_stopped : is_stopped pending state ≡ false = rw (branch.if-pending-2.false, none_held) refl in
           rw (branch.self-is, branch.handler-is, not_stopped) (keeping_memory-same is_at)
     ] in
     ends_turn pending
-    (rw is_at.agrees.timeout_is at c.pending_timeout-pending.ensures) not_held here.keeps_memory _
+    (rw is_at.processor_is.timeout_is at c.pending_timeout-pending.ensures) not_held here _
     c.take_parsing_turn.ensures.within
     (c.take_parsing_turn.ensures.parsed _ here.engine_at)
 
@@ -54,14 +54,14 @@ pub returns-then-has_room-clause-turned : goal.returns-then-has_room-clause-turn
 returns-then-has_room-clause-turned g c = λ state is_at.
     let here = keeping_memory-reserved c.reserve.ensures.reserved (keeping_memory-same is_at) in
     let fits : nat_le (length state.held + length c.args.bytes.now) max_held ≡ true =
-    rw (← is_at.agrees.holds) (sym c.has_room.ensures ∙ c.if-has_room.true) in
+    rw (← is_at.processor_is.holds) (sym c.has_room.ensures ∙ c.if-has_room.true) in
     let held : is_held c.pending_timeout-pending.result state c.args.bytes.now ≡ true =
     rw (c.if-pending.true, fits) refl in
     record {
-      turned = turned_hold _ (rw is_at.agrees.timeout_is at c.pending_timeout-pending.ensures) held refl
-          (keeping_memory-then here.keeps_memory
+      turned = turned_hold _ (rw is_at.processor_is.timeout_is at c.pending_timeout-pending.ensures) held refl
+          (keeping_memory-then here
           (c.hold_bytes.ensures state here.engine_at
-          (c.if-not-reserve.ensures.reserved.memory refl _ _ _ here.engine_at.agrees)));
+          (c.if-not-reserve.ensures.reserved.memory refl _ _ _ here.engine_at.processor_is)));
       refused = tt;
     }
 
@@ -77,7 +77,7 @@ returns-then-not-reserve-clause-turned g c =
 pub returns-then-not-reserve-clause-lacks_memory : goal.returns-then-not-reserve-clause-lacks_memory
 returns-then-not-reserve-clause-lacks_memory g c =
     let fits : nat_le (length (held_of c.reserve.new.self.hold) + length c.args.bytes.now) max_held ≡ true =
-    rw c.reserve.ensures.hold (sym c.has_room.ensures ∙ c.if-has_room.true) in
+    rw c.reserve.ensures.same_hold (sym c.has_room.ensures ∙ c.if-has_room.true) in
     record {
       more = length c.args.bytes.now;
       within = omega arith;

@@ -1,4 +1,4 @@
-// Written by tools/erase from crates/vte/src/ansi/split.rt: edit that one.
+// Written by tools/erase from crates/vte/src/ansi/calls/split.rt: edit that one.
 //! Prefixes of texts, and texts between separators.
 
 /// Returns what follows a word at the start of the text, or `None` if the text doesn't start with

@@ -1,7 +1,7 @@
 """What is open, at each byte of vectors and of hostile streams."""
 from lib.generating.hostile_streams import make_hostile_stream
 from lib.generating.vectors import bytes_of, read_vectors
-from lib.judging.open_ends import find_open_end
+from lib.judging.open_ends import open_at_end
 
 from calling import OSC, make_parsers
 from library import run_at_once
@@ -16,7 +16,7 @@ def test_each_prefix_is_open_as_the_grammar_says(library):
                 rest = stream[:end]
                 while rest:
                     rest = rest[fast.feed(rest, kinds=1 << OSC)[0]:]
-                wanted = find_open_end(stream[:end])
+                wanted = open_at_end(stream[:end])
                 assert slow.find_open() == fast.find_open() == wanted, stream[:end]
                 slow.feed(stream[end:end + 1], kinds=0)
 

@@ -51,7 +51,7 @@ def test_events(vector):
 @each("events.json", "events")
 def test_open(monkeypatch, vector):
     monkeypatch.syspath_prepend(FOLDER.parent / "tools")
-    from lib.judging.open_ends import find_open_end
+    from lib.judging.open_ends import open_at_end
     stream, by_bytes = stream_of(vector)[:300], parsers()
     for end in range(len(stream) + 1):
         others = parsers()

@@ -30,7 +30,7 @@ def find_open_in_text(text):
     return CHARACTER if TRUNCATED.search(text) else NOTHING
 
 
-def find_open_end(stream):
+def open_at_end(stream):
     text, escape, body = stream.rpartition(b"\x1b")
     if not escape:
         return find_open_in_text(body)

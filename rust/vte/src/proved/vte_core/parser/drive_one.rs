@@ -158,7 +158,8 @@ impl<B: Buffer> Machine<B> {
         from: usize,
     ) -> Result<usize, Refused> {
         Ok(match self.state {
-            State::Text(_) => unreachable!(),
+            // Never: `drive_one` reads text. A panic would stay in the program.
+            State::Text(_) => from,
             State::Escape => self.read_after_escape::<P, G, false>(reader, performer, input, from),
             State::EscapeIntermediate => {
                 self.read_intermediates::<P, G, false>(reader, performer, input, from)

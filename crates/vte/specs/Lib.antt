@@ -23,7 +23,7 @@ pub mod Views
 pub mod ProcessorFacts
 pub mod ProcessorCalls
 pub mod StdSyncHandler
--- The same where memory may be refused.
+-- The same if memory may be refused.
 pub mod Refusal
 pub mod LongProcessor
 -- Examples, worked out by hand.
@@ -50,37 +50,37 @@ pub use Rattle.vte_core.specs.Examples
 pub use Rattle.vte_core.specs.Head
 pub use Rattle.vte_core.specs.IgnoredString
 pub use Rattle.vte_core.specs.Intermediates
-pub use Rattle.vte_core.specs.SequenceKind
 pub use Rattle.vte_core.specs.Laws
 pub use Rattle.vte_core.specs.LongParser
 pub use Rattle.vte_core.specs.LongParserCalls
 pub use Rattle.vte_core.specs.Looks
 pub use Rattle.vte_core.specs.Open
 pub use Rattle.vte_core.specs.Outcome
-pub use Rattle.vte_core.specs.Parameters
-pub use Rattle.vte_core.specs.Parts
-pub use Rattle.vte_core.specs.Parser
 pub use Rattle.vte_core.specs.OutsideRuns
+pub use Rattle.vte_core.specs.Parameters
+pub use Rattle.vte_core.specs.Parser
+pub use Rattle.vte_core.specs.Parts
 pub use Rattle.vte_core.specs.Saved
+pub use Rattle.vte_core.specs.SequenceKind
 pub use Rattle.vte_core.specs.Stream
 pub use Rattle.vte_core.specs.SystemCommand
 pub use Rattle.vte_core.specs.Text
 pub use Rattle.vte_core.specs.Utf8
 pub use Rattle.vte_handler.specs.Call
-pub use Rattle.vte_handler.specs.HandlerCall
 pub use Rattle.vte_handler.specs.Handler
+pub use Rattle.vte_handler.specs.HandlerCall
 pub use Rattle.vte_handler.specs.Link
 pub use Rattle.vte_handler.specs.Timeout
-pub use Rattle.vte_types.specs.NamedColor
 pub use Rattle.vte_types.specs.Charset
 pub use Rattle.vte_types.specs.CursorIcon
-pub use Rattle.vte_types.specs.Rgb
-pub use Rattle.vte_types.specs.Keyboard
-pub use Rattle.vte_types.specs.Mode
-pub use Rattle.vte_types.specs.Words
 pub use Rattle.vte_types.specs.declared.charset
 pub use Rattle.vte_types.specs.declared.color
 pub use Rattle.vte_types.specs.declared.cursor_icon
 pub use Rattle.vte_types.specs.declared.keyboard
 pub use Rattle.vte_types.specs.declared.mode
 pub use Rattle.vte_types.specs.declared.screen
+pub use Rattle.vte_types.specs.Keyboard
+pub use Rattle.vte_types.specs.Mode
+pub use Rattle.vte_types.specs.NamedColor
+pub use Rattle.vte_types.specs.Rgb
+pub use Rattle.vte_types.specs.Words

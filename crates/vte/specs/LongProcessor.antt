@@ -9,7 +9,7 @@ use Rattle.vte.specs.Processor.{max_held, Meaning, State}
 use Rattle.vte.specs.ProcessorCalls.{AdvancesInTurns, IsAt}
 use Rattle.vte.specs.Refusal.{HasAdvancedPart}
 use Rattle.vte.specs.declared.ansi.long_processor.LongProcessor.{LongProcessor}
-use Rattle.vte.specs.declared.ansi.updates.engine.TheConstants.{SLICE}
+use Rattle.vte.specs.declared.ansi.updates.engine.TheConstants.{SLICE_SIZE}
 
 -- The processor has given back its memory: that for data of a command, and that to join a text.
 abbrev pub HasFreedMemoryLong : {T A : Type 0} → LongProcessor T A → Type 0
@@ -24,7 +24,7 @@ pub record ProcessorLacksMemory {T W : Type 0} (processor : ProcessorFacts T W) 
   pub more : ℕ
   pub within : more ≤ left
   -- A turn asks for memory for at most a slice, or for all bytes if they fit the hold.
-  pub at_most : (more ≤ SLICE) ⊎ (length processor.held + more ≤ max_held)
+  pub at_most : (more ≤ SLICE_SIZE) ⊎ (length processor.held + more ≤ max_held)
   pub lacks_memory : (stream : List ℕ) → processor.has_read stream
       → ¬ processor.has_memory stream (length processor.held + more)
 

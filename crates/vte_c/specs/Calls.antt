@@ -67,7 +67,7 @@ pub record Strips (parser next : Saved) (bytes old_text text : List ℕ)
   pub within : bytes_read result ≤ length bytes
   -- With enough room, it reads at least one byte, whatever the parser's bytes are.
   pub reads_some : min_text ≤ length old_text → 0 < length bytes → 0 < result
-  -- It stops early only where the text of one more byte may not fit.
+  -- It stops early only if the text of one more byte may not fit.
   pub fills : (given stream rest : List ℕ) → HasStripped parser given stream (bytes ++ rest) →
       min_text ≤ length old_text → result < length bytes → length text < written + 8
   -- Whatever text was written before, the text written now comes next, and nothing else.

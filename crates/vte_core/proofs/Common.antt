@@ -60,7 +60,7 @@ pub use Rattle.vte_core.specs.declared.utf8.Unfinished.{Unfinished}
 pub use Rattle.vte_core.specs.declared.utf8.Unfinished.TheVariants.{Empty, One, Three, Two}
 pub use Rattle.vte_core.specs.private.Scans.{AreIgnored, ArePositions, ArePrintedAscii, ArePut, IsIgnored, IsPrintedAscii, IsRun, IsUtf8Run, PrintsRun, Scans}
 pub use Rattle.vte_core.specs.private.Place.{AtEscape, BytesLead, closing_events_at, InControlSequence, InDeviceControl, InDeviceData, InEscape, InIgnoredString, InSystemCommand, InText, IsAfter, IsSettledPlace, Leads, Place, rest_outcome, to_close_at}
-pub use Rattle.vte_core.specs.private.Progress.{Advances, any_events, chunk_call, ChunkCall, events_outside_runs, IsAtPosition, IsInsidePosition, IsRefusedInCommand, IsSettled, MayGoOn, ProgressAt, ProgressInside, ReadsUntilRefused, ReadsUpTo}
+pub use Rattle.vte_core.specs.private.Progress.{Advances, AnyEvents, chunk_call, ChunkCall, EventsOutsideRuns, IsAtPosition, IsInsidePosition, IsRefusedInCommand, IsSettled, MayGoOn, ProgressAt, ProgressInside, ReadsUntilRefused, ReadsUpTo}
 pub use Rattle.vte_core.specs.private.Costs.{caller_looks, lookahead, SpendsWithin}
 pub use Rattle.vte_core.specs.private.AtPlace.{HasReadWithLimit, IsAtPlace, IsPlaceOfState}
 pub use Rattle.vte_core.specs.private.HeldHead.{CountsNumbers, HasReadHead, HoldsHead, HoldsIntermediates, HoldsNumbers, IsMarker, numbers_from, ReadsHead, SameIntermediates, SameNumbers, StaysIllShaped}

@@ -1,5 +1,5 @@
 -- Where a call may stop early, and what has been reported by then: at the first start where the
--- performer is terminated. Its answer changes with events alone, so where nothing was reported it
+-- performer is terminated. Its answer changes with events alone, so if nothing was reported it
 -- need not be asked again.
 use Rattle.std.specs.Prelude.{Bool, drop, false, if◌then◌else◌, length, List, not, Option, take, true, ℕ, [], ◌&&◌, ◌++◌, ◌<◌, ◌∷◌, ◌≡◌, ◌≤◌, ◌⊎◌}
 use Rattle.vte_core.specs.Event.{after, Event, Print, replacement}

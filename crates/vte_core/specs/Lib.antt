@@ -30,7 +30,7 @@ pub mod Advance
 pub mod Open
 pub mod OutsideRuns
 pub mod AdvanceToRun
--- The same without a limit, where memory may be refused.
+-- The same without a limit, if memory may be refused.
 pub mod CommandMemory
 pub mod LongParser
 pub mod LongParserCalls

@@ -1,6 +1,5 @@
 -- The events of a stream, which is cut at each ESC.
-use Rattle.std.specs.Prelude.{drop, length, List, None, Option, Some, ℕ, [], ◌++◌, ◌∷◌, ◌≡◌, ◌≢◌}
-use Rattle.std.specs.Prelude.{if◌then◌else◌, ◌==◌}
+use Rattle.std.specs.Prelude.{drop, if◌then◌else◌, length, List, None, Option, Some, ℕ, [], ◌++◌, ◌==◌, ◌∷◌, ◌≡◌, ◌≢◌}
 use Rattle.vte_core.specs.Body.{body_outcome}
 use Rattle.vte_core.specs.Event.{Event, Print}
 use Rattle.vte_core.specs.Outcome.{events_before_escape, open_bytes, Outcome, report}

@@ -17,11 +17,11 @@ const MAX_PIECES: usize = 16;
 /// The items of a command, as far as they are kept.
 #[derive(Drop)]
 pub(crate) struct CommandStore<B: Buffer> {
-    // the data bytes, without the `;` between the pieces
+    /// The data bytes, without the `;` between the pieces.
     bytes: B,
-    // the ends of the first 16 pieces in them
+    /// The ends of the first 16 pieces in them.
     ends: ArrayVec<usize, MAX_PIECES>,
-    // whether data bytes were dropped
+    /// Whether data bytes were dropped.
     lost: bool,
 }
 

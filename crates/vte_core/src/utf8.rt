@@ -44,18 +44,18 @@ impl Unfinished {
         match self {
             Unfinished::One(first) if may_be_second(first, byte) => {
                 if first < 0xe0 {
-                    return whole_character(code_point_of_two(first, byte));
+                    return complete_character(code_point_of_two(first, byte));
                 }
                 Extension::Truncated(Unfinished::Two(first, byte))
             }
             Unfinished::Two(first, second) if is_continuation(byte) => {
                 if first < 0xf0 {
-                    return whole_character(code_point_of_three(first, second, byte));
+                    return complete_character(code_point_of_three(first, second, byte));
                 }
                 Extension::Truncated(Unfinished::Three(first, second, byte))
             }
             Unfinished::Three(first, second, third) if is_continuation(byte) => {
-                whole_character(code_point_of_four(first, second, third, byte))
+                complete_character(code_point_of_four(first, second, third, byte))
             }
             _ => Extension::Malformed,
         }
@@ -98,7 +98,7 @@ pub(crate) fn may_begin_four(first: u8, second: u8) -> bool
     is_continuation(second) && matches!(number, 0x10000..=0x10ffff)
 }
 
-/// Returns whether `byte` is an ASCII character that is printed. DEL is.
+/// Returns whether `byte` is an ASCII character that is printed, which includes DEL.
 #[inline(always)]
 pub(crate) fn is_printed_ascii(byte: u8) -> bool
     ensures { result ≡ is_in (from_to 0x20 0x7f) byte }
@@ -150,7 +150,7 @@ fn code_point_of_four(first: u8, second: u8, third: u8, fourth: u8) -> u32
 
 /// Returns the character with this number, or `Malformed` for the number of a surrogate, which no
 /// well-formed sequence has.
-fn whole_character(code: u32) -> Extension
+fn complete_character(code: u32) -> Extension
     ensures { InScalarRange code → result ≡ Extension.WellFormed code }
 {
     match char::from_u32(code) {

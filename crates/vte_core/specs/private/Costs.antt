@@ -9,10 +9,10 @@ use Rattle.vte_core.specs.private.Progress.{ChunkCall, IsRefusedInCommand, IsSet
 -- ---- where the looks go
 
 -- A byte takes at most
---   3 in text by characters, and 1 more where ESC is searched
+--   3 in text by characters, and 1 more if ESC is searched
 --   3 in a sequence
---   4 where the end of a run is searched, and 1 for its event: 5, the rate of a call
---   4 where a call that returns runs finds none, and 3 to be read: 7, the rate of that call
+--   4 if the end of a run is searched, and 1 for its event: 5, the rate of a call
+--   4 if a call that returns runs finds none, and 3 to be read: 7, the rate of that call
 --
 -- The search of a run is counted in thirds of looks: 11 per byte, 12 for the character that ends
 -- it and, if it is long, 66 for its blocks: 3 × (3 + 19), for the three bytes before them and for

@@ -4,7 +4,7 @@
 //! most one number, and calls nothing before the dispatch; `read_control_sequence` takes numbers
 //! with `;` between them, and `read_rest_of_head` whatever else a head has.
 ghost use Rattle.std.specs.Prelude.{false, List, true, ℕ, ◌+◌, ◌<◌, ◌^◌, ◌≡◌};
-ghost use Rattle.vte_core.specs.private.Prelude.{Advances, caller_looks, chunk_call, class_of, CsiDispatch, Dispatches, events_outside_runs, HandlesByteWithin, HasReadHead, InControlSequence, is_final, MayRead, per_byte, ReadsWithin, TakesByte};
+ghost use Rattle.vte_core.specs.private.Prelude.{Advances, caller_looks, chunk_call, class_of, CsiDispatch, Dispatches, EventsOutsideRuns, HandlesByteWithin, HasReadHead, InControlSequence, is_final, MayRead, per_byte, ReadsWithin, TakesByte};
 
 use crate::buffer::Buffer;
 use crate::class::{ends_sequence, is_final, is_plain_control};
@@ -27,7 +27,7 @@ impl<B: Buffer> Machine<B> {
             (chunk_call MAY_STOP P.step P.is_terminated B.limit input.bytes.now)
             (P.value_of performer.old) (State.ControlSequence HeadProgress.Entry) self.old from }
         requires not_joined { self.old.collected.joined ≡ false }
-        ensures advances { Advances events_outside_runs
+        ensures advances { Advances EventsOutsideRuns
             (chunk_call MAY_STOP P.step P.is_terminated B.limit input.entry.bytes.now)
             (P.value_of performer.old) (P.value_of performer.new) from result self.old self.new }
         ensures reads_within { ReadsWithin (per_byte 5) (caller_looks 0)
@@ -74,7 +74,7 @@ impl<B: Buffer> Machine<B> {
     ) -> usize
         requires { MayRead (chunk_call MAY_STOP P.step P.is_terminated B.limit input.bytes.now)
             (P.value_of performer.old) (State.ControlSequence reached) self.old from }
-        ensures advances { Advances events_outside_runs
+        ensures advances { Advances EventsOutsideRuns
             (chunk_call MAY_STOP P.step P.is_terminated B.limit input.entry.bytes.now)
             (P.value_of performer.old) (P.value_of performer.new) from result self.old self.new }
         ensures reads_within { ReadsWithin (per_byte 4) (caller_looks 0)
@@ -97,7 +97,7 @@ impl<B: Buffer> Machine<B> {
     ) -> usize
         requires { MayRead (chunk_call MAY_STOP P.step P.is_terminated B.limit input.bytes.now)
             (P.value_of performer.old) (State.ControlSequence reached) self.old from }
-        ensures advances { Advances events_outside_runs
+        ensures advances { Advances EventsOutsideRuns
             (chunk_call MAY_STOP P.step P.is_terminated B.limit input.entry.bytes.now)
             (P.value_of performer.old) (P.value_of performer.new) from result self.old self.new }
         ensures reads_within { ReadsWithin (per_byte 4) (caller_looks 0)
@@ -141,7 +141,7 @@ impl<B: Buffer> Machine<B> {
     ) -> usize
         requires { MayRead (chunk_call MAY_STOP P.step P.is_terminated B.limit input.bytes.now)
             (P.value_of performer.old) (State.ControlSequence reached) self.old from }
-        ensures advances { Advances events_outside_runs
+        ensures advances { Advances EventsOutsideRuns
             (chunk_call MAY_STOP P.step P.is_terminated B.limit input.entry.bytes.now)
             (P.value_of performer.old) (P.value_of performer.new) from result self.old self.new }
         ensures reads_within { ReadsWithin (per_byte 3) (caller_looks 0)

@@ -1,6 +1,6 @@
 //! Device control strings.
 ghost use Rattle.std.specs.Prelude.{false, List, true, ℕ, ◌≡◌};
-ghost use Rattle.vte_core.specs.private.Prelude.{Advances, any_events, caller_looks, chunk_call, class_of, DeviceData, events_outside_runs, HandlesByteWithin, HasReadHead, InDeviceControl, is_device_data, is_final, MayRead, MayReadByte, per_byte, ReadsWithin, TakesByte};
+ghost use Rattle.vte_core.specs.private.Prelude.{Advances, AnyEvents, caller_looks, chunk_call, class_of, DeviceData, EventsOutsideRuns, HandlesByteWithin, HasReadHead, InDeviceControl, is_device_data, is_final, MayRead, MayReadByte, per_byte, ReadsWithin, TakesByte};
 
 use crate::buffer::Buffer;
 use crate::class::{ends_sequence, is_device_data, is_final};
@@ -25,7 +25,7 @@ impl<B: Buffer> Machine<B> {
     ) -> usize
         requires { MayRead (chunk_call MAY_STOP P.step P.is_terminated B.limit input.bytes.now)
             (P.value_of performer.old) (State.DeviceControl reached) self.old from }
-        ensures advances { Advances events_outside_runs
+        ensures advances { Advances EventsOutsideRuns
             (chunk_call MAY_STOP P.step P.is_terminated B.limit input.entry.bytes.now)
             (P.value_of performer.old) (P.value_of performer.new) from result self.old self.new }
         ensures reads_within { ReadsWithin (per_byte 5) (caller_looks 0)
@@ -69,7 +69,7 @@ impl<B: Buffer> Machine<B> {
         self.state = State::DeviceData;
     }
 
-    /// Reads the data of a device control string, and the byte that ends it. If data comes in
+    /// Reads the data of a device control string, and the byte that ends it. If data come in
     /// slices and the call can't stop, it reads either a slice, up to the next byte that isn't
     /// data, or that byte.
     pub(crate) fn read_device_data<P: CountedPerform<G>, G: Granularity, const MAY_STOP: bool>(
@@ -81,7 +81,7 @@ impl<B: Buffer> Machine<B> {
     ) -> usize
         requires { MayRead (chunk_call MAY_STOP P.step P.is_terminated B.limit input.bytes.now)
             (P.value_of performer.old) DeviceData self.old from }
-        ensures advances { Advances any_events
+        ensures advances { Advances AnyEvents
             (chunk_call MAY_STOP P.step P.is_terminated B.limit input.entry.bytes.now)
             (P.value_of performer.old) (P.value_of performer.new) from result self.old self.new }
         ensures reads_within { ReadsWithin (per_byte 5) (caller_looks 0)
@@ -121,7 +121,7 @@ impl<B: Buffer> Machine<B> {
             (chunk_call MAY_STOP P.step P.is_terminated B.limit input.bytes.now)
             (P.value_of performer.old) DeviceData self.old from byte }
         requires no_data { is_device_data (class_of byte) ≡ false }
-        ensures advances { Advances events_outside_runs
+        ensures advances { Advances EventsOutsideRuns
             (chunk_call MAY_STOP P.step P.is_terminated B.limit input.entry.bytes.now)
             (P.value_of performer.old) (P.value_of performer.new) from result self.old self.new }
         ensures reads_within { ReadsWithin (per_byte 5) (caller_looks 1)

@@ -5,7 +5,7 @@
 ghost use Rattle.std.specs.Prelude.{false, IfErr, IfOk, length, List, ℕ, [], ◌+◌, ◌≡◌, ◌≢◌};
 ghost use Rattle.vte_core.specs.Event.{Print, replacement};
 ghost use Rattle.vte_core.specs.Utf8.{from_to, is_in};
-ghost use Rattle.vte_core.specs.private.Prelude.{Advances, any_events, bytes_of, caller_looks, chunk_call, Costs, DeviceData, Empty, events_outside_runs, HasReadWithLimit, IsAtPosition, IsRefusedAt, lookahead, looks_of, MayReadAt, MayReadByte, per_byte, read_count, ReadsUntilRefused, ReadsUpTo, ReadsWithin, SpendsWithin, Text};
+ghost use Rattle.vte_core.specs.private.Prelude.{Advances, AnyEvents, bytes_of, caller_looks, chunk_call, Costs, DeviceData, Empty, EventsOutsideRuns, HasReadWithLimit, IsAtPosition, IsRefusedAt, lookahead, looks_of, MayReadAt, MayReadByte, per_byte, read_count, ReadsUntilRefused, ReadsUpTo, ReadsWithin, SpendsWithin, Text};
 
 use crate::buffer::Buffer;
 use crate::class::{ESCAPE, is_device_data, is_parameter_byte};
@@ -61,7 +61,7 @@ impl<B: Buffer> Machine<B> {
             (chunk_call false P.step P.is_terminated B.limit input.bytes.now)
             (P.value_of performer.old) (Text Empty) self.old from }
         requires last { from + 1 ≡ length input.bytes.now }
-        ensures advances { Advances any_events
+        ensures advances { Advances AnyEvents
             (chunk_call false P.step P.is_terminated B.limit input.entry.bytes.now)
             (P.value_of performer.old) (P.value_of performer.new) from result self.old self.new }
         ensures reads_within { ReadsWithin (per_byte 5) (caller_looks 0)
@@ -90,7 +90,7 @@ impl<B: Buffer> Machine<B> {
             (P.value_of performer.old) (Text Empty) self.old from byte }
         requires not_printed { is_in (from_to 0x20 0x7f) byte ≡ false }
         requires last { from + 1 ≡ length input.bytes.now }
-        ensures advances { Advances any_events
+        ensures advances { Advances AnyEvents
             (chunk_call false P.step P.is_terminated B.limit input.entry.bytes.now)
             (P.value_of performer.old) (P.value_of performer.new) from result self.old self.new }
         ensures reads_within { ReadsWithin (per_byte 5) (caller_looks 1)
@@ -155,7 +155,7 @@ impl<B: Buffer> Machine<B> {
     ) -> usize
         requires one_byte { length input.bytes.now ≡ 1 }
         requires in_text { self.old.state ≡ Text Empty }
-        ensures advances { Advances any_events
+        ensures advances { Advances AnyEvents
             (chunk_call false P.step P.is_terminated B.limit input.entry.bytes.now)
             (P.step (P.value_of performer.old) (Print replacement)) (P.value_of performer.new) 0
             result self.old self.new }
@@ -180,7 +180,7 @@ impl<B: Buffer> Machine<B> {
         requires may_read { MayReadAt
             (chunk_call false P.step P.is_terminated B.limit input.bytes.now)
             (P.value_of performer.old) (State.ControlSequence reached) self.old from }
-        ensures advances { Advances events_outside_runs
+        ensures advances { Advances EventsOutsideRuns
             (chunk_call false P.step P.is_terminated B.limit input.entry.bytes.now)
             (P.value_of performer.old) (P.value_of performer.new) from result self.old self.new }
         ensures reads_within { ReadsWithin (per_byte 5) (caller_looks 0)
@@ -208,7 +208,7 @@ impl<B: Buffer> Machine<B> {
     ) -> usize
         requires { MayReadAt (chunk_call false P.step P.is_terminated B.limit input.bytes.now)
             (P.value_of performer.old) DeviceData self.old from }
-        ensures advances { Advances any_events
+        ensures advances { Advances AnyEvents
             (chunk_call false P.step P.is_terminated B.limit input.entry.bytes.now)
             (P.value_of performer.old) (P.value_of performer.new) from result self.old self.new }
         ensures reads_within { ReadsWithin (per_byte 5) (caller_looks 0)
@@ -235,7 +235,7 @@ impl<B: Buffer> Machine<B> {
             (chunk_call false P.step P.is_terminated B.limit input.bytes.now)
             (P.value_of performer.old) self.old.state self.old from }
         requires outside_text { (begun : Unfinished) → self.old.state ≢ Text begun }
-        ensures advances { Advances any_events
+        ensures advances { Advances AnyEvents
             (chunk_call false P.step P.is_terminated B.limit input.entry.bytes.now)
             (P.value_of performer.old) (P.value_of performer.new) from (read_count result) self.old
             self.new }

@@ -1,7 +1,7 @@
 //! Runs of text and data in the input, for callers that take them from there.
 ghost use Rattle.std.specs.Prelude.{false, IfErr, IfOk, List, Some, true, ℕ, ◌*◌, ◌+◌, ◌≤◌};
 ghost use Rattle.vte_core.specs.Parser.{HasRead};
-ghost use Rattle.vte_core.specs.private.Prelude.{Advances, caller_looks, chunk_call, ComesToRun, Costs, Empty, events_outside_runs, HasNoRunAt, HasReadWithLimit, looks_of, MayReadAt, per_byte, read_before_range, read_through_range, ReadsUntilRefused, ReadsWithin, ReportsOutsideRuns, Text, total_looks};
+ghost use Rattle.vte_core.specs.private.Prelude.{Advances, caller_looks, chunk_call, ComesToRun, Costs, Empty, EventsOutsideRuns, HasNoRunAt, HasReadWithLimit, looks_of, MayReadAt, per_byte, read_before_range, read_through_range, ReadsUntilRefused, ReadsWithin, ReportsOutsideRuns, Text, total_looks};
 
 use crate::buffer::Buffer;
 use crate::class::ESCAPE;
@@ -111,7 +111,7 @@ impl<B: Buffer> Machine<B> {
             (chunk_call true P.step P.is_terminated B.limit input.bytes.now)
             (P.value_of performer.old) (Text Empty) self.old from }
         requires no_run { HasNoRunAt false input.bytes.now from }
-        ensures advances { Advances events_outside_runs
+        ensures advances { Advances EventsOutsideRuns
             (chunk_call true P.step P.is_terminated B.limit input.entry.bytes.now)
             (P.value_of performer.old) (P.value_of performer.new) from result self.old self.new }
         ensures reads_within { ReadsWithin (per_byte 7) (caller_looks 0)

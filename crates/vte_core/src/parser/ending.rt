@@ -1,6 +1,6 @@
 //! ESC, CAN and SUB, which end whatever is open, in every state.
 ghost use Rattle.std.specs.Prelude.{true, [], ◌∷◌, ◌≡◌};
-ghost use Rattle.vte_core.specs.private.Prelude.{Advances, after, caller_looks, chunk_call, class_of, closing_events_at, ends_sequence, Escape, events_outside_runs, HandlesByteWithin, IsAtPlace, IsOutsideRunsInState, IsSettledPlace, LooksWithin, MayReadByte, per_byte, Place, ReadsWithin, TakesBytes};
+ghost use Rattle.vte_core.specs.private.Prelude.{Advances, after, caller_looks, chunk_call, class_of, closing_events_at, ends_sequence, Escape, EventsOutsideRuns, HandlesByteWithin, IsAtPlace, IsOutsideRunsInState, IsSettledPlace, LooksWithin, MayReadByte, per_byte, Place, ReadsWithin, TakesBytes};
 
 use crate::buffer::Buffer;
 use crate::class::ESCAPE;
@@ -48,7 +48,7 @@ impl<B: Buffer> Machine<B> {
             (P.value_of performer.old) self.old.state self.old from byte }
         requires ends { ends_sequence (class_of byte) ≡ true }
         requires outside_runs { IsOutsideRunsInState self.old.state byte }
-        ensures advances { Advances events_outside_runs
+        ensures advances { Advances EventsOutsideRuns
             (chunk_call MAY_STOP P.step P.is_terminated B.limit input.entry.bytes.now)
             (P.value_of performer.old) (P.value_of performer.new) from result self.old self.new }
         ensures reads_within { ReadsWithin (per_byte 3) (caller_looks 1)

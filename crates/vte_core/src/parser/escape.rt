@@ -1,6 +1,6 @@
 //! Escape sequences, and what ESC begins.
 ghost use Rattle.std.specs.Prelude.{slice_index, true, [], ◌*◌, ◌+◌, ◌<◌, ◌∷◌, ◌≡◌, ◌≢◌, ◌≤◌};
-ghost use Rattle.vte_core.specs.private.Prelude.{Advances, AtEscape, caller_looks, Dispatches, Empty, Escape, EscapeIntermediate, EscDispatch, events_outside_runs, HandlesByteWithin, IsSettledPlace, MayRead, MayReadAt, per_byte, Place, ReadsWithin, TakesBytes};
+ghost use Rattle.vte_core.specs.private.Prelude.{Advances, AtEscape, caller_looks, Dispatches, Empty, Escape, EscapeIntermediate, EscDispatch, EventsOutsideRuns, HandlesByteWithin, IsSettledPlace, MayRead, MayReadAt, per_byte, Place, ReadsWithin, TakesBytes};
 ghost use Rattle.vte_core.specs.private.Prelude.{chunk_call, class_of, is_final, IsAtPlace, looks_of, TakesByte, Text};
 
 use crate::buffer::Buffer;
@@ -26,7 +26,7 @@ impl<B: Buffer> Machine<B> {
             (chunk_call MAY_STOP P.step P.is_terminated B.limit input.bytes.now)
             (P.value_of performer.old) (Text Empty) self.old from }
         requires escape { slice_index input.bytes.now from ≡ 0x1b }
-        ensures advances { Advances events_outside_runs
+        ensures advances { Advances EventsOutsideRuns
             (chunk_call MAY_STOP P.step P.is_terminated B.limit input.entry.bytes.now)
             (P.value_of performer.old) (P.value_of performer.new) from result self.old self.new }
         ensures reads_within { ReadsWithin (per_byte 5) (caller_looks 1)
@@ -59,7 +59,7 @@ impl<B: Buffer> Machine<B> {
     ) -> usize
         requires { MayRead (chunk_call MAY_STOP P.step P.is_terminated B.limit input.bytes.now)
             (P.value_of performer.old) Escape self.old from }
-        ensures advances { Advances events_outside_runs
+        ensures advances { Advances EventsOutsideRuns
             (chunk_call MAY_STOP P.step P.is_terminated B.limit input.entry.bytes.now)
             (P.value_of performer.old) (P.value_of performer.new) from result self.old self.new }
         ensures reads_within { ReadsWithin (per_byte 3) (caller_looks 0)
@@ -162,7 +162,7 @@ impl<B: Buffer> Machine<B> {
     ) -> usize
         requires { MayRead (chunk_call MAY_STOP P.step P.is_terminated B.limit input.bytes.now)
             (P.value_of performer.old) EscapeIntermediate self.old from }
-        ensures advances { Advances events_outside_runs
+        ensures advances { Advances EventsOutsideRuns
             (chunk_call MAY_STOP P.step P.is_terminated B.limit input.entry.bytes.now)
             (P.value_of performer.old) (P.value_of performer.new) from result self.old self.new }
         ensures reads_within { ReadsWithin (per_byte 5) (caller_looks 0)

@@ -1,8 +1,8 @@
 //! Ignored strings: SOS, PM, APC, and device control strings with an ill-shaped head.
-ghost use Rattle.vte_core.specs.private.Prelude.{Advances, caller_looks, chunk_call, events_outside_runs, IgnoredString, MayReadAt, per_byte, ReadsWithin};
+ghost use Rattle.vte_core.specs.private.Prelude.{Advances, caller_looks, chunk_call, EventsOutsideRuns, IgnoredString, MayReadAt, per_byte, ReadsWithin};
 
 use crate::buffer::Buffer;
-use crate::parser::machine::Machine;
+use crate::parser::Machine;
 use crate::reader::{CountedPerform, Granularity, Input, Reader};
 
 impl<B: Buffer> Machine<B> {
@@ -16,7 +16,7 @@ impl<B: Buffer> Machine<B> {
     ) -> usize
         requires { MayReadAt (chunk_call MAY_STOP P.step P.is_terminated B.limit input.bytes.now)
             (P.value_of performer.old) IgnoredString self.old from }
-        ensures advances { Advances events_outside_runs
+        ensures advances { Advances EventsOutsideRuns
             (chunk_call MAY_STOP P.step P.is_terminated B.limit input.entry.bytes.now)
             (P.value_of performer.old) (P.value_of performer.new) from result self.old self.new }
         ensures reads_within { ReadsWithin (per_byte 5) (caller_looks 0)

@@ -1,4 +1,4 @@
-//! What is unfinished where a parser is.
+//! What a parser has left unfinished.
 ghost use Rattle.std.specs.Prelude.{◌≡◌};
 ghost use Rattle.vte_core.specs.private.AtPlace.{open_in};
 

@@ -1,6 +1,6 @@
 //! Operating system commands.
 ghost use Rattle.std.specs.Prelude.{IfErr, IfOk};
-ghost use Rattle.vte_core.specs.private.Prelude.{Advances, caller_looks, chunk_call, events_outside_runs, IsRefusedAt, MayReadAt, per_byte, read_count, ReadsWithin, SystemCommand};
+ghost use Rattle.vte_core.specs.private.Prelude.{Advances, caller_looks, chunk_call, EventsOutsideRuns, IsRefusedAt, MayReadAt, per_byte, read_count, ReadsWithin, SystemCommand};
 
 use crate::buffer::Buffer;
 use crate::class::ends_sequence;
@@ -23,7 +23,7 @@ impl<B: Buffer> Machine<B> {
     ) -> Result<usize, Refused>
         requires { MayReadAt (chunk_call MAY_STOP P.step P.is_terminated B.limit input.bytes.now)
             (P.value_of performer.old) SystemCommand self.old from }
-        ensures advances { Advances events_outside_runs
+        ensures advances { Advances EventsOutsideRuns
             (chunk_call MAY_STOP P.step P.is_terminated B.limit input.entry.bytes.now)
             (P.value_of performer.old) (P.value_of performer.new) from (read_count result) self.old
             self.new }

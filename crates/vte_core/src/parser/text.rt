@@ -1,6 +1,6 @@
 //! Text: characters, runs of them, and malformed sequences.
 ghost use Rattle.std.specs.Prelude.{false, IfSome, length, None, slice_index, true, ◌*◌, ◌+◌, ◌<◌, ◌≡◌, ◌≤◌};
-ghost use Rattle.vte_core.specs.private.Prelude.{Advances, any_events, caller_looks, chunk_call, Empty, IsLead, IsPrintedAscii, looks_of, MayReadAt, MayReadByte, NoCharacterStops, per_byte, PrintsRun, ReadsWithin, Text};
+ghost use Rattle.vte_core.specs.private.Prelude.{Advances, AnyEvents, caller_looks, chunk_call, Empty, IsLead, IsPrintedAscii, looks_of, MayReadAt, MayReadByte, NoCharacterStops, per_byte, PrintsRun, ReadsWithin, Text};
 
 use crate::buffer::Buffer;
 use crate::class::ESCAPE;
@@ -81,7 +81,7 @@ impl<B: Buffer> Machine<B> {
             (P.value_of performer.old) (Text Empty) self.old from }
         requires no_stop { G.IN_RUNS ≡ true → MAY_STOP ≡ true
             → NoCharacterStops P.layout P.step P.is_terminated }
-        ensures advances { Advances any_events
+        ensures advances { Advances AnyEvents
             (chunk_call MAY_STOP P.step P.is_terminated B.limit input.entry.bytes.now)
             (P.value_of performer.old) (P.value_of performer.new) from result self.old self.new }
         ensures reads_within { ReadsWithin (per_byte 5) (caller_looks 0)
@@ -110,7 +110,7 @@ impl<B: Buffer> Machine<B> {
             (chunk_call MAY_STOP P.step P.is_terminated B.limit input.bytes.now)
             (P.value_of performer.old) (Text Empty) self.old from }
         requires no_stop { MAY_STOP ≡ true → NoCharacterStops P.layout P.step P.is_terminated }
-        ensures advances { Advances any_events
+        ensures advances { Advances AnyEvents
             (chunk_call MAY_STOP P.step P.is_terminated B.limit input.entry.bytes.now)
             (P.value_of performer.old) (P.value_of performer.new) from result self.old self.new }
         ensures reads_within { ReadsWithin (per_byte 5) (caller_looks 0)
@@ -166,7 +166,7 @@ impl<B: Buffer> Machine<B> {
         requires may_read { MayReadAt
             (chunk_call true P.step P.is_terminated B.limit input.bytes.now)
             (P.value_of performer.old) (Text Empty) self.old from }
-        ensures advances { Advances any_events
+        ensures advances { Advances AnyEvents
             (chunk_call true P.step P.is_terminated B.limit input.entry.bytes.now)
             (P.value_of performer.old) (P.value_of performer.new) from result self.old self.new }
         ensures reads_within { ReadsWithin (per_byte 5) (caller_looks 0)
@@ -185,7 +185,7 @@ impl<B: Buffer> Machine<B> {
                     position = self.read_character::<P, G, true>(
                         reader, performer, input, position, byte,
                     );
-                    // asked here too, which takes fewer instructions
+                    // The performer is asked here too, which takes fewer instructions.
                     if performer.terminated() {
                         return position;
                     }
@@ -224,7 +224,7 @@ impl<B: Buffer> Machine<B> {
         requires may_read { MayReadAt
             (chunk_call false P.step P.is_terminated B.limit input.bytes.now)
             (P.value_of performer.old) (Text Empty) self.old from }
-        ensures advances { Advances any_events
+        ensures advances { Advances AnyEvents
             (chunk_call false P.step P.is_terminated B.limit input.entry.bytes.now)
             (P.value_of performer.old) (P.value_of performer.new) from result self.old self.new }
         ensures reads_within { ReadsWithin (per_byte 5) (caller_looks 0)
@@ -266,7 +266,7 @@ impl<B: Buffer> Machine<B> {
         ensures unread { result ≡ None → (self.new ≡ self.old)
             × (P.value_of performer.new ≡ P.value_of performer.old)
             × (looks_of reader.new ≡ looks_of reader.old) }
-        ensures advances { IfSome result (λ end. Advances any_events
+        ensures advances { IfSome result (λ end. Advances AnyEvents
             (chunk_call false P.step P.is_terminated B.limit input.entry.bytes.now)
             (P.value_of performer.old) (P.value_of performer.new) from end self.old self.new) }
         ensures in_text { IfSome result (λ end. end < length input.entry.bytes.now
@@ -280,7 +280,7 @@ impl<B: Buffer> Machine<B> {
             let end = self.read_character::<P, G, false>(reader, performer, input, from, first);
             return Some(end);
         } else if first >= 0xa0 {
-            // tested before ESC, which takes fewer instructions
+            // These are tested before ESC, which takes fewer instructions.
             reader.report_lone_byte(performer, first);
         } else if first == ESCAPE {
             return None;
@@ -308,7 +308,7 @@ impl<B: Buffer> Machine<B> {
             (P.value_of performer.old) (Text Empty) self.old from first }
         requires lead { IsLead first }
         requires no_stop { MAY_STOP ≡ true → NoCharacterStops P.layout P.step P.is_terminated }
-        ensures advances { Advances any_events
+        ensures advances { Advances AnyEvents
             (chunk_call MAY_STOP P.step P.is_terminated B.limit input.entry.bytes.now)
             (P.value_of performer.old) (P.value_of performer.new) from result self.old self.new }
         ensures in_text { result < length input.entry.bytes.now → self.new.state ≡ Text Empty }

@@ -24,7 +24,7 @@ pub enum Taken<'a> {
     Nothing,
 }
 
-/// What a call found where it ends or a run begins.
+/// What follows the bytes that a call performed.
 #[derive(Clone, Copy)]
 pub(crate) enum RunKind {
     /// Text to print.

@@ -12,14 +12,14 @@ pub(crate) fn xparse_color(text: &[u8]) -> Option<Rgb>
     ensures { result ≡ xparse_color_of text.now }
 {
     if let Some(parts) = strip_word(text, b"rgb:") {
-        return color_by_parts(parts);
+        return read_parts(parts);
     }
-    color_by_thirds(strip_word(text, b"#")?)
+    read_thirds(strip_word(text, b"#")?)
 }
 
 /// Returns the colour of three numbers with `/` between them.
 #[tactic(auto, using(crate::proofs::lemmas::calls::Colors::fourth_part))]
-fn color_by_parts(text: &[u8]) -> Option<Rgb>
+fn read_parts(text: &[u8]) -> Option<Rgb>
     ensures { result ≡ color_of_parts (split_by 0x2f text.now) }
 {
     let (r, after_r) = split_at_first(text, b'/');
@@ -36,16 +36,16 @@ fn color_by_parts(text: &[u8]) -> Option<Rgb>
 }
 
 /// Returns the colour of hex digits, a third of them for each component.
-fn color_by_thirds(digits: &[u8]) -> Option<Rgb>
+fn read_thirds(digits: &[u8]) -> Option<Rgb>
     ensures { result ≡ color_of_thirds digits.now }
 {
     let count = digits.len() / 3;
     if digits.len() != 3 * count {
         return None;
     }
-    let r = top_eight_bits(&digits[..count])?;
-    let g = top_eight_bits(&digits[count..][..count])?;
-    let b = top_eight_bits(&digits[2 * count..])?;
+    let r = take_top_eight_bits(&digits[..count])?;
+    let g = take_top_eight_bits(&digits[count..][..count])?;
+    let b = take_top_eight_bits(&digits[2 * count..])?;
     Some(Rgb { r, g, b })
 }
 
@@ -77,7 +77,7 @@ fn scale_to_255(digits: &[u8]) -> Option<u8>
 }
 
 /// Returns the top eight bits of a number of this many digits.
-fn top_eight_bits(digits: &[u8]) -> Option<u8>
+fn take_top_eight_bits(digits: &[u8]) -> Option<u8>
     ensures { result ≡ component_by top_eight_bits digits.now }
 {
     let range = match digits.len() {

@@ -203,14 +203,14 @@ fn set_pointer<H: Handler>(handler: &mut H, texts: &[&[u8]])
         (pointer_calls (map (λ piece. piece.now) texts.now)) }
 {
     if let [name] = texts {
-        if let Some(icon) = icon_named(name) {
+        if let Some(icon) = find_icon(name) {
             handler.set_mouse_cursor_icon(icon);
         }
     }
 }
 
 /// Returns the icon of a keyword.
-fn icon_named(name: &[u8]) -> Option<CursorIcon>
+fn find_icon(name: &[u8]) -> Option<CursorIcon>
     ensures { result ≡ icon_of name.now }
 {
     laws::keywords_are_text();

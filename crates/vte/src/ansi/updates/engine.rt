@@ -23,7 +23,7 @@ use vte_types::{NamedPrivateMode, PrivateMode};
 
 /// How many bytes a parsing turn allocates for at once: few compared with the memory of a hold, but
 /// enough that a call takes few slices.
-const SLICE: usize = 65_536;
+const SLICE_SIZE: usize = 65_536;
 
 /// The parser, the hold and the state of a processor, whatever its limit. `P`: parser, `B`: buffer
 /// for joined texts, `T`: timeout, `A`: allocator.
@@ -214,7 +214,7 @@ impl<P: EventParser + Drop, B: TextBuffer + Drop, T: Timeout + Drop, A: Allocato
         let mut read = 0;
         // Each slice has at least one byte.
         for _slice in 0..bytes.len() {
-            let count = (bytes.len() - read).min(SLICE);
+            let count = (bytes.len() - read).min(SLICE_SIZE);
             if !self.reserve(count) {
                 return Err(Refused { read });
             }

@@ -1,7 +1,7 @@
 -- A byte between characters: it is one (`advances-printed`), a control or malformed (`advances-lone`), or the first of
 -- one (`advances-first`). What the code does is what `places/PlaceLeads` says of the byte, and the parser is at the
 -- next place. A control or malformed byte reports nothing that a run would, after a stretch (`advances-single`).
-use Rattle.vte_core.proofs.Common.{AddsOutsideRuns, Advances, All, any_events, ap, arith, BytesLead, caller_looks, cases_lt, character_event, ChunkCall, drop, drop_more, Empty, escape, Event, Extends, false, false≢true, from_to, HasNoRunAt, inl, inr, InText, is_in, is_truncated, IsAfter, IsAtPlace, IsOutsideRuns, IsSettledPlace, Leads, length, List, lookahead, Machine, malformed_event, MayGoOn, nat_tests, One, Option, per_byte, Place, Print, refl, resumed_stream, rules, slice_index, SpendsWithin, subst, suc, sym, take, TakesBytes, Text, true, Unfinished, ℕ, [], ◌+◌, ◌<◌, ◌∙◌, ◌∷◌, ◌≡◌, ◌≢◌, ◌≤◌}
+use Rattle.vte_core.proofs.Common.{AddsOutsideRuns, Advances, All, AnyEvents, ap, arith, BytesLead, caller_looks, cases_lt, character_event, ChunkCall, drop, drop_more, Empty, escape, Event, Extends, false, false≢true, from_to, HasNoRunAt, inl, inr, InText, is_in, is_truncated, IsAfter, IsAtPlace, IsOutsideRuns, IsSettledPlace, Leads, length, List, lookahead, Machine, malformed_event, MayGoOn, nat_tests, One, Option, per_byte, Place, Print, refl, resumed_stream, rules, slice_index, SpendsWithin, subst, suc, sym, take, TakesBytes, Text, true, Unfinished, ℕ, [], ◌+◌, ◌<◌, ◌∙◌, ◌∷◌, ◌≡◌, ◌≢◌, ◌≤◌}
 use Rattle.vte_core.specs.declared.reader.Reader.{Reader}
 use Rattle.vte_core.specs.declared.utf8.Extension.TheVariants.{Truncated}
 use Rattle.vte_core.proofs.lemmas.bytes.Scalars.{begins_none, first_truncated}
@@ -25,7 +25,7 @@ module _ {V B : Type 0} {call : ChunkCall V} {old new : V} {i b : ℕ} {parser :
     (may_read : MayReadByte call old (Text Empty) parser i b) where
   -- After a byte with this event, the parser is between characters again.
   advances-event : {event : Event} → b ≢ escape → Leads call.limit (InText []) b (event ∷ []) (InText [])
-      → new ≡ call.step old event → Advances any_events call old new i (i + 1) parser parser
+      → new ≡ call.step old event → Advances AnyEvents call old new i (i + 1) parser parser
   advances-event is_no_escape leads performed =
       advances-without_promise (advances-byte may_read.before_end may_read.looked_at may_read.may_go_on
       (takes_bytes-begun may_read.in_state is_no_escape (λ is_at. takes-byte performed is_at leads))
@@ -33,7 +33,7 @@ module _ {V B : Type 0} {call : ChunkCall V} {old new : V} {i b : ℕ} {parser :
 
   -- A character of ASCII that is printed is reported by `Print`.
   pub advances-printed : {scalar : ℕ} → is_in (from_to 0x20 0x7f) b ≡ true → scalar ≡ b
-      → new ≡ call.step old (Print scalar) → Advances any_events call old new i (i + 1) parser parser
+      → new ≡ call.step old (Print scalar) → Advances AnyEvents call old new i (i + 1) parser parser
   advances-printed printed same reported =
       let low : 0x20 ≤ b = grind (arith, nat_tests) in
       let high : b < 0x80 = grind (arith, nat_tests) in
@@ -45,7 +45,7 @@ module _ {V B : Type 0} {call : ChunkCall V} {old new : V} {i b : ℕ} {parser :
   pub advances-lone : b ≢ escape → is_in (from_to 0xc2 0xf4) b ≡ false
       → (b < 0x80 → new ≡ call.step old (character_event b))
       → (0x80 ≤ b → new ≡ call.step old (malformed_event (b ∷ [])))
-      → Advances any_events call old new i (i + 1) parser parser
+      → Advances AnyEvents call old new i (i + 1) parser parser
   advances-lone is_no_escape no_lead control malformed = elim (cases_lt b 0x80) [
     | inl low ↦ advances-event is_no_escape (text-well_formed (ascii-alone b low).is_whole) (control low)
     | inr high ↦
@@ -76,7 +76,7 @@ takes_bytes-opened {limit} {b} {longer} {next} in_state is_no_escape extends sta
 -- From one position the call has come to another, where it may go on, between characters if bytes are left.
 pub record ReadsOn {V B : Type 0} (call : ChunkCall V) (first value : V) (from position : ℕ) (before parser : Machine B)
     (old_reader new_reader : Reader) : Type 0 where
-  pub advances : Advances any_events call first value from position before parser
+  pub advances : Advances AnyEvents call first value from position before parser
   pub may_go_on : MayGoOn call value
   pub settled : position < length call.bytes → parser.state ≡ Text Empty
   pub spends : SpendsWithin (per_byte 5) (caller_looks 0) (lookahead 0) call.bytes from position before parser

@@ -2,7 +2,7 @@
 -- byte and bytes of a device control string, which are put.
 use Rattle.vte_core.specs.declared.reader.Reader.{Reader}
 use Rattle.vte_core.specs.private.Prelude.{FindsEnd, IsCommandData, MayReadAt, SameItems, StoredCommand}
-use Rattle.vte_core.proofs.Common.{Advances, after, any_events, ArePut, arith, ChunkCall, class_of, DeviceData, drop, drop_more, false, false≢true, HoldsItems, InSystemCommand, is_device_data, IsAtPosition, IsDeviceData, length, List, Machine, map, MayGoOn, ProgressAt, Put, refl, rules, slice_index, subst, suc, sym, SystemCommand, take, true, zero, ℕ, [], ◌++◌, ◌+◌, ◌-◌, ◌<◌, ◌∙◌, ◌∷◌, ◌≡◌, ◌≢◌, ◌≤◌}
+use Rattle.vte_core.proofs.Common.{Advances, after, AnyEvents, ArePut, arith, ChunkCall, class_of, DeviceData, drop, drop_more, false, false≢true, HoldsItems, InSystemCommand, is_device_data, IsAtPosition, IsDeviceData, length, List, Machine, map, MayGoOn, ProgressAt, Put, refl, rules, slice_index, subst, suc, sym, SystemCommand, take, true, zero, ℕ, [], ◌++◌, ◌+◌, ◌-◌, ◌<◌, ◌∙◌, ◌∷◌, ◌≡◌, ◌≢◌, ◌≤◌}
 use Rattle.vte_core.proofs.lemmas.positions.SettledStates.{settled-same_state}
 use Rattle.vte_core.proofs.lemmas.positions.Progress.{progress-items}
 use Rattle.vte_core.proofs.lemmas.positions.AddedEvents.{adds-same, recorded-at, reported-at}
@@ -61,7 +61,7 @@ module _ {V B : Type 0} {call : ChunkCall V} {i j : ℕ} {parser next : Machine 
 pub advances-put : {V B : Type 0} {call : ChunkCall V} {old new : V} {i b : ℕ} {parser : Machine B}
     → parser.state ≡ DeviceData → i < length call.bytes → b ≡ slice_index call.bytes i → MayGoOn call old
     → is_device_data (class_of b) ≡ true → new ≡ after call.step old (Put b ∷ [])
-    → Advances any_events call old new i (i + 1) parser parser
+    → Advances AnyEvents call old new i (i + 1) parser parser
 advances-put {parser} in_state before_end byte_is may_go_on put performed =
     advances-without_promise
     (advances-in in_state before_end byte_is may_go_on (data_ends_nothing _ put)
@@ -72,7 +72,7 @@ advances-put {parser} in_state before_end byte_is may_go_on put performed =
 
 advances-by : {V B : Type 0} {call : ChunkCall V} {value : V} {parser : Machine B} (n i : ℕ)
     → parser.state ≡ DeviceData → i + n ≤ length call.bytes → ArePut call.bytes i (i + n) → call.may_stop ≡ false
-    → Advances any_events call value (after call.step value (map Put (take n (drop i call.bytes)))) i (i + n) parser
+    → Advances AnyEvents call value (after call.step value (map Put (take n (drop i call.bytes)))) i (i + n) parser
     parser
 advances-by zero i in_state within are_put never_stops =
     advances-to_same (omega arith) (advances-nothing (λ _. settled-same_state in_state tt))
@@ -88,9 +88,9 @@ advances-by {call} {parser} (suc n) i in_state within are_put never_stops =
 pub advances-data : {V B : Type 0} {call : ChunkCall V} {old new : V} {i j : ℕ} {parser : Machine B}
     → parser.state ≡ DeviceData → i ≤ j → j ≤ length call.bytes → ArePut call.bytes i j → call.may_stop ≡ false
     → new ≡ after call.step old (map Put (take (j - i) (drop i call.bytes)))
-    → Advances any_events call old new i j parser parser
+    → Advances AnyEvents call old new i j parser parser
 advances-data {call} {old} {i} {j} {parser} in_state in_order within are_put never_stops performed =
-    subst (λ value. Advances any_events call old value i j parser parser) (sym performed)
+    subst (λ value. Advances AnyEvents call old value i j parser parser) (sym performed)
     (advances-to_same (omega (arith, in_order))
     (advances-by (j - i) i in_state (omega (arith, in_order, within))
     (λ k from to. are_put k from (omega (arith, in_order, to))) never_stops))

@@ -10,7 +10,7 @@
 --
 -- Other files have an `advances-X` for each X that a function reads, such as `advances-text` and `advances-head`.
 use Rattle.vte_core.specs.private.Prelude.{IsOutsideRunsInState}
-use Rattle.vte_core.proofs.Common.{AddsOutsideRuns, Advances, after, All-nil, any_events, arith, ChunkCall, Empty, escape, IsAfter, IsAtPlace, IsAtPosition, IsInsidePosition, IsOutsideRuns, IsSettled, IsSettledPlace, length, List, Machine, MayGoOn, Place, refl, resumed_stream, rules, slice_index, subst, sym, TakesBytes, Text, ℕ, [], ◌+◌, ◌-◌, ◌<◌, ◌∷◌, ◌≡◌}
+use Rattle.vte_core.proofs.Common.{AddsOutsideRuns, Advances, after, All-nil, AnyEvents, arith, ChunkCall, Empty, escape, IsAfter, IsAtPlace, IsAtPosition, IsInsidePosition, IsOutsideRuns, IsSettled, IsSettledPlace, length, List, Machine, MayGoOn, Place, refl, resumed_stream, rules, slice_index, subst, sym, TakesBytes, Text, ℕ, [], ◌+◌, ◌-◌, ◌<◌, ◌∷◌, ◌≡◌}
 use Rattle.vte_core.proofs.lemmas.positions.SettledStates.{place-settled_text}
 use Rattle.vte_core.proofs.lemmas.positions.Progress.{progress-byte}
 use Rattle.vte_core.proofs.lemmas.positions.CallEnds.{settles}
@@ -63,7 +63,7 @@ module _ {V B : Type 0} {call : ChunkCall V} where
 
   -- A function that may report a run can use `Advances` without its promise.
   pub advances-without_promise : {known : Type 0} {old new : V} {i j : ℕ} {parser next : Machine B}
-      → Advances known call old new i j parser next → Advances any_events call old new i j parser next
+      → Advances known call old new i j parser next → Advances AnyEvents call old new i j parser next
   advances-without_promise advances = advances-weaker (λ never. absurd never) advances
 
   pub advances-to_same : {outside : Type 0} {old new : V} {i j k : ℕ} {parser next : Machine B} → j ≡ k

@@ -1,6 +1,6 @@
 -- What a run of text does to a call's progress: its characters one by one do the same. By induction over the
 -- characters, and for the performer by its contract over the whole run.
-use Rattle.vte_core.proofs.Common.{added, Advances, after, All, All-append, All-head, All-nil, All-tail, any_events, ap, append-nil, arith, Bool, breaks_at, BytesLead, cases_Bool, character_event, chars, ChunkCall, cut_at_escape, drop, Empty, encode, encodes, escape, Event, events, false, inl, inr, InText, is_control_character, IsAtPlace, IsAtPosition, IsInsidePosition, IsPrintedAscii, IsUtf8, IsUtf8Run, length, List, Machine, malformed_event, map, MayGoOn, nat_tests, NoCharacterStops, Option, outcome_from, Print, PrintsRun, ProgressAt, refl, replacement, reported_before, resumed_stream, rules, run_event, slice_index, StaysInRun, subst, sym, take, take-append-drop, Text, text_outcome, true, with_bodies, ℕ, [], ◌++◌, ◌+◌, ◌-◌, ◌<◌, ◌∙◌, ◌∷◌, ◌≡◌, ◌≢◌, ◌≤◌}
+use Rattle.vte_core.proofs.Common.{added, Advances, after, All, All-append, All-head, All-nil, All-tail, AnyEvents, ap, append-nil, arith, Bool, breaks_at, BytesLead, cases_Bool, character_event, chars, ChunkCall, cut_at_escape, drop, Empty, encode, encodes, escape, Event, events, false, inl, inr, InText, is_control_character, IsAtPlace, IsAtPosition, IsInsidePosition, IsPrintedAscii, IsUtf8, IsUtf8Run, length, List, Machine, malformed_event, map, MayGoOn, nat_tests, NoCharacterStops, Option, outcome_from, Print, PrintsRun, ProgressAt, refl, replacement, reported_before, resumed_stream, rules, run_event, slice_index, StaysInRun, subst, sym, take, take-append-drop, Text, text_outcome, true, with_bodies, ℕ, [], ◌++◌, ◌+◌, ◌-◌, ◌<◌, ◌∙◌, ◌∷◌, ◌≡◌, ◌≢◌, ◌≤◌}
 use Rattle.std.proofs.lemmas.List.{take-take}
 use Rattle.std.proofs.lemmas.Str.{encodes-chars, scalars-chars}
 use Rattle.vte_core.proofs.lemmas.bytes.Each.{each-one}
@@ -145,7 +145,7 @@ may_go_on-malformed layout call {old} {b} never may_go_on high performed asks =
 pub advances-text : {V B : Type 0} {call : ChunkCall V} {layout : Bool} {old new : V} {i j : ℕ} {parser : Machine B}
     → (call.may_stop ≡ true → NoCharacterStops layout call.step call.is_terminated) → MayGoOn call old
     → parser.state ≡ Text Empty → i < j → j ≤ length call.bytes
-    → PrintsRun layout call.step old new call.bytes i j → Advances any_events call old new i j parser parser
+    → PrintsRun layout call.step old new call.bytes i j → Advances AnyEvents call old new i j parser parser
 advances-text {V} {call} {layout} {old} {new} {i} {j} {parser}
     never may_go_on in_state in_order within prints = record {
       is_at_position =

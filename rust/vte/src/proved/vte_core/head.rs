@@ -42,15 +42,15 @@ pub(crate) struct HeadEnd {
 /// What is collected of a sequence: intermediates and parameters.
 #[derive(Clone)]
 pub(crate) struct CollectedHead {
-    // the first two, a marker among them
+    /// The first two, a marker among them.
     pub(crate) intermediates: ArrayVec<u8, MAX_INTERMEDIATES>,
-    // whether there were more
+    /// Whether there were more.
     pub(crate) too_many_intermediates: bool,
-    // the first 32 numbers, without the one that is being read
+    /// The first 32 numbers, without the one that is being read.
     pub(crate) params: Params,
-    // the number that is being read
+    /// The number that is being read.
     pub(crate) number: u16,
-    // whether it follows a colon
+    /// Whether it follows a colon.
     pub(crate) joined: bool,
 }
 

@@ -12,9 +12,9 @@ const MAX_NUMBERS: usize = 32;
 #[derive(Clone)]
 #[doc = include_str!("../../docs/params.md")]
 pub struct Params {
-    // all numbers in a row
+    /// All numbers in a row.
     numbers: ArrayVec<u16, MAX_NUMBERS>,
-    // how many of them are in each group
+    /// How many of them are in each group.
     lengths: ArrayVec<u8, MAX_NUMBERS>,
 }
 

@@ -31,8 +31,8 @@ pub trait Perform {
     /// Called when an operating system command ends, with its 1 to 16 pieces, and whether BEL ended
     /// it.
     ///
-    /// A command that CAN, SUB or ESC cancelled comes like one that `ESC \` ended. The next event
-    /// tells: [`execute`](Self::execute) of CAN (18) or SUB (1A) if one of these cancelled it, and
+    /// A cancelled command looks the same as one that `ESC \` ended. The next event shows which it
+    /// was: [`execute`](Self::execute) of CAN (18) or SUB (1A) if one of these cancelled it, and
     /// [`esc_dispatch`](Self::esc_dispatch) with the byte `\` if it ended. What follows the 16th
     /// piece, and what is over the parser's limit, is dropped without an event: a link (OSC 8) is
     /// cut at the 14th `;` of its URI. `command_lost_data` of the parser says whether data were

@@ -38,24 +38,24 @@ fn encode_single_number(number: u16) -> [u8; 3] {
 pub(crate) struct EventWriter<'a> {
     records: &'a mut [VteEvent],
     area: &'a mut [u8],
-    // how many data bytes there is room for, at offsets of 32 bits
+    /// How many data bytes there is room for, at offsets of 32 bits.
     data_capacity: usize,
-    // how many records were written
+    /// How many records were written.
     record_count: usize,
-    // how many data bytes were written
+    /// How many data bytes were written.
     data_used: usize,
-    // the kinds of events to write
+    /// The kinds of events to write.
     kinds: u32,
-    // the kinds of events after which to stop
+    /// The kinds of events after which to stop.
     stop_kinds: u32,
-    // whether a record of these kinds was written
+    /// Whether a record of these kinds was written.
     has_stopped: bool,
-    // whether a command came about which the parser wasn't asked yet
+    /// Whether a command came about which the parser wasn't asked yet.
     is_paused: bool,
-    // the index of that command's record
+    /// The index of that command's record.
     command_index: usize,
-    // the number of records at which the buffers are full: 0 once a record that stops was written,
-    // in a pause, and if the area has little room left
+    /// The number of records at which the buffers are full: 0 once a record that stops was written,
+    /// in a pause, and if the area has little room left.
     full_at: usize,
 }
 
@@ -231,7 +231,7 @@ impl<'a> EventWriter<'a> {
         }
     }
 
-    /// Writes the record of an event whose data was written up to `end`, if that is in the area.
+    /// Writes the record of an event whose data were written up to `end`, if that is in the area.
     #[inline(always)]
     fn finish_event(&mut self, record: VteEvent, end: usize) {
         if end <= self.data_capacity && self.record_count < self.records.len() {

@@ -88,7 +88,7 @@ fn find_unexpected<'a>(args: &[&'a str]) -> Option<&'a str> {
     }
 }
 
-/// Returns whether it could be the only argument.
+/// Returns whether a word could be the only argument.
 fn is_known(word: &str) -> bool {
     let args = [word];
     find_page(&args).is_some() || choose(&args).is_some()

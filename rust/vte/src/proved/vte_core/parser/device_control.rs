@@ -58,7 +58,7 @@ impl<B: Buffer> Machine<B> {
         self.state = State::DeviceData;
     }
 
-    /// Reads the data of a device control string, and the byte that ends it. If data comes in
+    /// Reads the data of a device control string, and the byte that ends it. If data come in
     /// slices and the call can't stop, it reads either a slice, up to the next byte that isn't
     /// data, or that byte.
     pub(crate) fn read_device_data<

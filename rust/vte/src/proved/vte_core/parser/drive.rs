@@ -23,8 +23,8 @@ impl<B: Buffer> Machine<B> {
 
     /// Reads the bytes of a call, as many as there is memory for, and returns how many: all of
     /// them, or up to a stop if `MAY_STOP`.
-    // inlined into a program's own function, its loops would keep their variables on the stack
-    // (DECISIONS)
+    // Inlined into a program's own function, its loops would keep their variables on the stack
+    // (DECISIONS).
     #[inline(never)]
     fn drive_loop<P: CountedPerform<G> + ?Sized, G: Granularity, const MAY_STOP: bool>(
         &mut self,
@@ -84,7 +84,7 @@ impl<B: Buffer> Machine<B> {
             return Ok(self.read_text::<P, G, MAY_STOP>(reader, performer, input, from));
         }
         Ok(match self.state {
-            // this was tested above
+            // Never: this was tested above.
             State::Text(_) => unreachable!(),
             State::Escape => {
                 self.read_after_escape::<P, G, MAY_STOP>(reader, performer, input, from)

@@ -2,7 +2,7 @@
 //! Ignored strings: SOS, PM, APC, and device control strings with an ill-shaped head.
 
 use crate::proved::vte_core::buffer::Buffer;
-use crate::proved::vte_core::parser::machine::Machine;
+use crate::proved::vte_core::parser::Machine;
 use crate::proved::vte_core::reader::{CountedPerform, Granularity, Reader};
 
 impl<B: Buffer> Machine<B> {

@@ -1,5 +1,5 @@
 // Written by tools/erase from crates/vte_core/src/parser/open.rt: edit that one.
-//! What is unfinished where a parser is.
+//! What a parser has left unfinished.
 
 use crate::proved::vte_core::parser::{State, Unfinished};
 

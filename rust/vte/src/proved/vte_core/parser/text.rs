@@ -134,7 +134,7 @@ impl<B: Buffer> Machine<B> {
                 } else if is_lead(byte) {
                     position =
                         self.read_character::<P, G, true>(reader, performer, input, position, byte);
-                    // asked here too, which takes fewer instructions
+                    // The performer is asked here too, which takes fewer instructions.
                     if performer.terminated() {
                         return position;
                     }
@@ -208,7 +208,7 @@ impl<B: Buffer> Machine<B> {
             let end = self.read_character::<P, G, false>(reader, performer, input, from, first);
             return Some(end);
         } else if first >= 0xa0 {
-            // tested before ESC, which takes fewer instructions
+            // These are tested before ESC, which takes fewer instructions.
             reader.report_lone_byte(performer, first);
         } else if first == ESCAPE {
             return None;

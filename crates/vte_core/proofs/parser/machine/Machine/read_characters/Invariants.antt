@@ -1,5 +1,5 @@
 -- The call is before this byte of a text. A byte has three looks at most, and one more if it is searched.
-use Rattle.vte_core.proofs.Common.{Advances, any_events, chunk_call, ChunkCall, Empty, false, length, List, looks_of, slice_index, Text, ℕ, ◌*◌, ◌+◌, ◌-◌, ◌<◌, ◌≡◌, ◌≤◌}
+use Rattle.vte_core.proofs.Common.{Advances, AnyEvents, chunk_call, ChunkCall, Empty, false, length, List, looks_of, slice_index, Text, ℕ, ◌*◌, ◌+◌, ◌-◌, ◌<◌, ◌≡◌, ◌≤◌}
 use Rattle.vte_core.specs.private.Prelude.{MayReadByte}
 use Rattle.vte_core.proofs.parser.machine.Machine.read_characters.Given as goal
 
@@ -10,7 +10,7 @@ call_at g bytes =
 
 abbrev pub invariant-loop-next : goal.invariant-loop-next
 invariant-loop-next g l = record {
-  advances : Advances any_events (call_at g l.input.bytes.now) (g.P.CountedPerform.value_of l.fn.performer)
+  advances : Advances AnyEvents (call_at g l.input.bytes.now) (g.P.CountedPerform.value_of l.fn.performer)
       (g.P.CountedPerform.value_of l.performer) l.from l.position l.fn.self l.self;
   may_read : MayReadByte (call_at g l.input.bytes.now) (g.P.CountedPerform.value_of l.performer) (Text Empty) l.self
       l.position l.byte;

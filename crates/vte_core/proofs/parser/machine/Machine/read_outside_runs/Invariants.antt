@@ -1,11 +1,11 @@
 -- The call is before this byte, which neither is printed nor begins a longer character, and has reported no run.
-use Rattle.vte_core.proofs.Common.{Advances, caller_looks, chunk_call, Empty, events_outside_runs, false, from_to, is_in, length, lookahead, looks_of, per_byte, SpendsWithin, Text, true, ◌+◌, ◌-◌, ◌≡◌, ◌≤◌}
+use Rattle.vte_core.proofs.Common.{Advances, caller_looks, chunk_call, Empty, EventsOutsideRuns, false, from_to, is_in, length, lookahead, looks_of, per_byte, SpendsWithin, Text, true, ◌+◌, ◌-◌, ◌≡◌, ◌≤◌}
 use Rattle.vte_core.specs.private.Prelude.{MayReadByte}
 use Rattle.vte_core.proofs.parser.machine.Machine.read_outside_runs.Given as goal
 
 abbrev pub invariant-loop-byte : goal.invariant-loop-byte
 invariant-loop-byte g l = record {
-  advances : Advances events_outside_runs
+  advances : Advances EventsOutsideRuns
       (chunk_call true g.P.CountedPerform.step g.P.CountedPerform.is_terminated g.B.Buffer.limit l.input.bytes.now)
       (g.P.CountedPerform.value_of l.fn.performer) (g.P.CountedPerform.value_of l.performer) l.from l.position l.fn.self
       l.self;

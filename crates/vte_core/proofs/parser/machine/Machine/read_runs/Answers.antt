@@ -1,6 +1,6 @@
 -- In a round the call may first print a run of ASCII (`advances-ascii`). Then it is before a byte (`may_read-next`),
 -- which it reads by one of three branches, of which two join (`advances-next`).
-use Rattle.vte_core.proofs.Common.{Advances, any_events, arith, Empty, length, rules, sym, Text, ◌<◌, ◌∙◌}
+use Rattle.vte_core.proofs.Common.{Advances, AnyEvents, arith, Empty, length, rules, sym, Text, ◌<◌, ◌∙◌}
 use Rattle.vte_core.specs.private.Prelude.{MayReadByte}
 use Rattle.vte_core.proofs.lemmas.positions.Stretches.{advances-then, advances-without_promise}
 use Rattle.vte_core.proofs.lemmas.positions.TextRuns.{advances-text, may_go_on-malformed, may_go_on-text}
@@ -12,7 +12,7 @@ use Rattle.vte_core.proofs.parser.machine.Machine.read_runs.Goals as goal
 
 -- The call has come past the run of ASCII, if there was one.
 advances-ascii : (g : Over) (c : Joined-is_printed_ascii g)
-    → Advances any_events (call_at g c.args.input.bytes.now) (g.P.CountedPerform.value_of c.args.performer.now)
+    → Advances AnyEvents (call_at g c.args.input.bytes.now) (g.P.CountedPerform.value_of c.args.performer.now)
     (g.P.CountedPerform.value_of c.if-is_printed_ascii.performer) c.args.from c.if-is_printed_ascii.position
     c.args.self.now c.loop-position.self
 advances-ascii g c =
@@ -94,7 +94,7 @@ returns-then-byte-eq-ESCAPE-clause-advances g c =
 advances-next : (g : Over) (c : Joined-byte-lt160 g)
     → MayReadByte (call_at g c.args.input.bytes.now) (g.P.CountedPerform.value_of c.if-is_printed_ascii.performer)
     (Text Empty) c.loop-position.self c.if-is_printed_ascii.position c.if-is_printed_ascii.byte
-    → Advances any_events (call_at g c.args.input.bytes.now)
+    → Advances AnyEvents (call_at g c.args.input.bytes.now)
     (g.P.CountedPerform.value_of c.if-is_printed_ascii.performer)
     (g.P.CountedPerform.value_of c.if-byte-lt160.performer) c.if-is_printed_ascii.position c.if-byte-lt160.position
     c.loop-position.self c.if-byte-lt160.self

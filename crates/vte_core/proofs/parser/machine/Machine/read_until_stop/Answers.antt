@@ -1,6 +1,6 @@
 -- A round reads the byte before which the call is: what begins with a lead byte by a branch of its own, and a
 -- character, a control or malformed byte alone by two that join.
-use Rattle.vte_core.proofs.Common.{Advances, any_events, arith, Empty, length, rules, sym, Text, ◌+◌, ◌<◌, ◌∙◌}
+use Rattle.vte_core.proofs.Common.{Advances, AnyEvents, arith, Empty, length, rules, sym, Text, ◌+◌, ◌<◌, ◌∙◌}
 use Rattle.vte_core.specs.private.Prelude.{MayReadByte}
 use Rattle.vte_core.proofs.lemmas.positions.Stretches.{advances-then, advances-without_promise}
 use Rattle.vte_core.proofs.lemmas.positions.BetweenCharacters.{advances-lone, advances-printed}
@@ -10,7 +10,7 @@ use Rattle.vte_core.proofs.parser.machine.Machine.read_until_stop.Goals.{else-is
 use Rattle.vte_core.proofs.parser.machine.Machine.read_until_stop.Goals as goal
 
 advances-single : (g : Over) (c : Joined-is_printed_ascii g)
-    → Advances any_events (call_at g c.args.input.bytes.now) (g.P.CountedPerform.value_of c.args.performer.now)
+    → Advances AnyEvents (call_at g c.args.input.bytes.now) (g.P.CountedPerform.value_of c.args.performer.now)
     (g.P.CountedPerform.value_of c.if-is_printed_ascii.performer) c.args.from (c.loop-position-2.position + 1)
     c.args.self.now c.loop-position-2.self
 advances-single g c =

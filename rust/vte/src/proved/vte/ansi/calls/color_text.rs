@@ -7,13 +7,13 @@ use crate::proved::vte_types::Rgb;
 /// Returns the colour that a text names.
 pub(crate) fn xparse_color(text: &[u8]) -> Option<Rgb> {
     if let Some(parts) = strip_word(text, b"rgb:") {
-        return color_by_parts(parts);
+        return read_parts(parts);
     }
-    color_by_thirds(strip_word(text, b"#")?)
+    read_thirds(strip_word(text, b"#")?)
 }
 
 /// Returns the colour of three numbers with `/` between them.
-fn color_by_parts(text: &[u8]) -> Option<Rgb> {
+fn read_parts(text: &[u8]) -> Option<Rgb> {
     let (r, after_r) = split_at_first(text, b'/');
     let (g, after_g) = split_at_first(after_r?, b'/');
     let (b, after_b) = split_at_first(after_g?, b'/');
@@ -28,14 +28,14 @@ fn color_by_parts(text: &[u8]) -> Option<Rgb> {
 }
 
 /// Returns the colour of hex digits, a third of them for each component.
-fn color_by_thirds(digits: &[u8]) -> Option<Rgb> {
+fn read_thirds(digits: &[u8]) -> Option<Rgb> {
     let count = digits.len() / 3;
     if digits.len() != 3 * count {
         return None;
     }
-    let r = top_eight_bits(&digits[..count])?;
-    let g = top_eight_bits(&digits[count..][..count])?;
-    let b = top_eight_bits(&digits[2 * count..])?;
+    let r = take_top_eight_bits(&digits[..count])?;
+    let g = take_top_eight_bits(&digits[count..][..count])?;
+    let b = take_top_eight_bits(&digits[2 * count..])?;
     Some(Rgb { r, g, b })
 }
 
@@ -61,7 +61,7 @@ fn scale_to_255(digits: &[u8]) -> Option<u8> {
 }
 
 /// Returns the top eight bits of a number of this many digits.
-fn top_eight_bits(digits: &[u8]) -> Option<u8> {
+fn take_top_eight_bits(digits: &[u8]) -> Option<u8> {
     let range = match digits.len() {
         1 => 0x10,
         2 => 0x100,

@@ -160,14 +160,14 @@ fn set_dynamic_colors<H: Handler + ?Sized>(
 /// Sets the icon of the mouse pointer: 22.
 fn set_pointer<H: Handler + ?Sized>(handler: &mut H, texts: &[&[u8]]) {
     if let [name] = texts {
-        if let Some(icon) = icon_named(name) {
+        if let Some(icon) = find_icon(name) {
             handler.set_mouse_cursor_icon(icon);
         }
     }
 }
 
 /// Returns the icon of a keyword.
-fn icon_named(name: &[u8]) -> Option<CursorIcon> {
+fn find_icon(name: &[u8]) -> Option<CursorIcon> {
     CursorIcon::from_str(text_in(name, false)?).ok()
 }
 

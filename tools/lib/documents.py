@@ -92,6 +92,12 @@ class Repository:
                              *DECLARED.findall(re.sub(r"(--|//).*", "", text)))}
 
     @cached_property
+    def lemmas(self):
+        """The names that proofs declare."""
+        return {name for path, text in self.sources.items() if path.parts[2:3] == ("proofs",)
+                for name in re.findall(r"(?m)^ *(?:pub )?([\w-]+) :", text)}
+
+    @cached_property
     def suffixes(self):
         return {path.suffix for path in self.paths if path.suffix[1:].isalpha()}
 

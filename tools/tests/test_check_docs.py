@@ -20,11 +20,11 @@ def make_tool(**known):
 def find_failures(text, run=True, name="page.md"):
     files = "a/src/known.rt", *(f"crates/{it}/specs/Two.antt" for it in ("a", "examples", "a/b"))
     tool = make_tool(paths=list(map(Path, files)), words={"one", "two", "three", "rt"},
-                     words_by_file=[{"one", "two", "rt"}, {"three"}],
+                     words_by_file=[{"one", "two", "rt"}, {"three"}], lemmas={"one-two"},
                      source_lines={"f();", "g(1);"}, sources={Path("a.rt"): "f();\n h"},
                      is_in_history=lambda commit: commit == "abc1234")
     if not name.endswith(".md"):
-        return [it for _, it in tool.parts["check_comments"](text)]
+        return [it for _, it in tool.parts["check_comments"](text, name.endswith(".antt"))]
     page = Page(write(name, text))
     return [it for _, it in tool.parts["check_page"](page, run)]
 
@@ -67,6 +67,24 @@ def test_what_is_wrong_with_a_page_is_told(page, failure, monkeypatch):
 def test_comments_of_sources_are_checked():
     source = "-- `four`\nf();  // `four`\n/// `one` `four`\n# `four`\nf(`four`) --four\n"
     assert find_failures(source, name="a.rt") == ["no source file contains four"] * 4
+
+
+# the name of a file, its text, and the lemmas that it names and no proof declares
+@pytest.mark.parametrize("name, text, wanted", [
+    ("a.antt", "-- `one-two`, `one-X`, two-one, `two-one`\n`two-two`", "two-one"),
+    ("a.rt", "// `two-one`", ""), ("page.md", "`two-one`\n```\ntwo-two\n```", ""),
+    ("PROOFS.md", "`one-two`, `push-2`, `else-IN_RUNS`, two-one\n```sh\ntwo-two\n```", ""),
+    ("PROOFS.md", "`two-one`\n```\none: one-two, (by two-two)\n```", "two-one two-two")])
+def test_lemmas_are_declared(name, text, wanted):
+    assert find_failures(text, name=name) == [f"no proof declares {it}" for it in wanted.split()]
+
+
+def test_proofs_declare_lemmas():
+    texts = {"crates/a/proofs/B/C.antt": "pub a-b : ℕ\na-c :\n  pub d : ℕ\na-b = 0\n-- e: f",
+             "crates/a/specs/B.antt": "g : ℕ", "proofs/B.antt": "h : ℕ"}
+    repository = Repository(Path.cwd())
+    repository.sources = {Path(path): text for path, text in texts.items()}
+    assert repository.lemmas == {"a-b", "a-c", "d"}
 
 
 def test_each_module_is_named():

@@ -1,6 +1,7 @@
 """What documents name: the parts of a page, and the files, sources and history of a repository."""
 import re
 import subprocess
+from collections import defaultdict
 from functools import cache, cached_property
 from pathlib import Path
 
@@ -11,9 +12,10 @@ SOURCES = {".rt", ".antt", ".rs", ".py", ".h", ".hpp", ".c", ".cpp", ".sh", ".to
 FILE = re.compile(r"[\w*-][\w.*-]*")
 PATH = re.compile(r"[\w.*-]*/[\w.*/-]*")
 BUILT = re.compile(r"(^|/)(out|target)/|\b[A-Z]{4,}\b")
-# a name after a word that declares it in Rust and Rattle
-DECLARED = re.compile(r"\b(?:pub|record|data|ensures\*?|requires|ghost|fn|mod|struct|enum|trait|const"
-                      r"|static|type)\s+(?=(\w+))")
+# a name after a word that declares it in Rust and Rattle: a definition's, and one that is in it
+DEFINED = re.compile(r"\b(?:record|data|fn|mod|struct|enum|trait|const|static|type|abbrev(?: pub)?)"
+                     r"\s+(?!fn\b)(\w+)")
+CLAUSE = re.compile(r"\b(?:pub|ensures\*?|requires|ghost)\s+(\w+)")
 DECLARING = re.compile(r"(crates|rust)/\w+/(src|specs)/")
 
 
@@ -85,11 +87,17 @@ class Repository:
         return set().union(*self.words_by_file)
 
     @cached_property
-    def declared(self):
-        """The names of modules, and of what they declare."""
-        return {name for path, text in self.sources.items() if DECLARING.match(str(path))
-                for name in (*path.parts, path.stem,
-                             *DECLARED.findall(re.sub(r"(--|//).*", "", text)))}
+    def clauses(self):
+        """The names of fields and clauses, by that of the module or the definition."""
+        clauses = defaultdict(set)
+        for path, text in self.sources.items():
+            if DECLARING.match(str(path)):
+                code = re.sub(r"(--|//).*", "", text)
+                parts = DEFINED.split(code)
+                for name, part in [*((folder, "") for folder in path.parts), (path.stem, code),
+                                   *zip(parts[1::2], parts[2::2])]:
+                    clauses[name].update(CLAUSE.findall(part))
+        return clauses
 
     @cached_property
     def lemmas(self):

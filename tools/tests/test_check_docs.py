@@ -103,20 +103,23 @@ def test_each_call_is_named_and_has_an_example():
         "crates/vte/specs/CallExamples.antt doesn't have PutTab"]
 
 
-# a text, and the names that nothing declares
+# a text, and the names that nothing declares or whose definition the section doesn't name
 @pytest.mark.parametrize("text, wanted", [
-    ("(`one`, clause\n`two`) and `gone`", ""), ("(`B`, `c`, `s` of `C::one`) (`x/y.z`)", ""),
-    ("(`one`, `gone`)", "gone"), ("(`three`, as\n`four`)", "three four"), ("(`five::B`)", "five"),
-    ("(`six`)", "six"), ("(`seven`)", "seven")])
+    ("`C::f` (`one`, clause\n`two`) and `gone`", ""), ("(`B`, `c`, `s` of `d`) (`x/y.z`)", ""),
+    ("(`one`, `gone`) `f`", "gone"), ("`f` (`three`, as\n`four`)", "three four"),
+    ("(`five::B`)", "five"), ("(`six`)", "six"), ("(`seven`)", "seven"), ("(`one`) `B`", "one"),
+    ("`B`\n## `f`\n(`c`)", "c"), ("`B`\n## `A`\n(`c`)\n# C\n`specs/A`, (`c`)", ""),
+    ("(`e`) `d`", "e"), ("(`e`) `B`, `C` and `specs`", "e")])
 def test_clauses_are_declared(text, wanted):
     files = {"crates/C/src/s.rt": "pub const fn f()\n    requires one {\n    ensures* two { four }",
-             "crates/C/specs/A.antt": "pub record B : Type 0 where\n  -- pub three\n  pub c : ℕ",
+             "crates/C/specs/A.antt": "pub record B : Type 0 where\n  -- pub three\n  pub c : ℕ\n"
+                                      "abbrev pub d : ℕ\nrecord E : Type 0 where\n  pub e : ℕ\n",
              "rust/C/src/r.rs": "/// A type five.\nfn g() {}", "rust/C/tests/t.rs": "fn six() {}",
              "crates/C/proofs/P.antt": "pub seven : ℕ"}
     texts = {Path(path): text for path, text in files.items()}
     tool = make_tool(sources=texts, paths=list(texts))
     found = list(tool.parts["check_clauses"](text))
-    assert found == [f"no module, definition, field or clause is named {it}"
+    assert found == [f"no module, definition, or clause of what the section names: {it}"
                      for it in wanted.split()]
 
 

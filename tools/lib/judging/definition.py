@@ -74,16 +74,16 @@ class Reader:
 
     def __init__(self, text, house, state=(False, False)):
         self.text, self.house, self.steps, self.position = text, house, [], 0
-        # whether ESC has just ended a string, of which a backslash makes it the terminator; and
+        # whether ESC has just ended a string, so that a backslash makes it the terminator; and
         # whether data of a device control string come
-        self.is_open, self.is_hooked = state
+        self.has_ended_string, self.is_hooked = state
 
     @property
     def state(self):
-        return self.is_open, self.is_hooked
+        return self.has_ended_string, self.is_hooked
 
     def read_next(self):
-        """Returns the steps of what stands at the position; none at the end."""
+        """Returns the steps of what is at the position; none at the end."""
         self.steps = []
         if self.position < len(self.text):
             if self.is_hooked:
@@ -147,9 +147,9 @@ class Reader:
     # ---- sequences
 
     def read_body(self, escape):
-        """Returns what ESC begins."""
-        was_open, self.is_open = self.is_open, False
-        if was_open and self.character_at(escape + 1) == "\\":
+        """Reads what ESC begins."""
+        has_ended_string, self.has_ended_string = self.has_ended_string, False
+        if has_ended_string and self.character_at(escape + 1) == "\\":
             lines = ["esc - false 5c"] if self.house.terminator == "event" else []
             return self.add(["escape-sequence", "terminator"], escape, escape + 2, *lines)
         key = self.find_final(escape, escape + 1, " -~")
@@ -172,7 +172,7 @@ class Reader:
         last = self.character_at(end)
         if last in ("", ESC):
             self.add(["restart"], escape, end)
-            self.is_open = dropped != "dropped-in-sequence"
+            self.has_ended_string = dropped != "dropped-in-sequence"
         elif last in ENDS:
             self.add(["cancel"], escape, end + 1, execute(last))
         else:
@@ -226,7 +226,7 @@ class Reader:
             self.is_hooked = True
 
     def read_device_byte(self, start):
-        """Returns a byte of data, or the end. If that is ESC, it also begins what comes next."""
+        """Reads a byte of data, or the end. If that is ESC, it also begins what comes next."""
         byte = self.text[start]
         if byte < "\x7f" and byte not in ESC + ENDS:
             self.add(["device-data"], start, start + 1, f"put {hex_of(byte)}")
@@ -234,8 +234,8 @@ class Reader:
             is_ended = byte == ESC and self.character_at(start + 1) == "\\"
             rule = "byte-9c" if byte == ST else "device-end" if is_ended else "device-cut-short"
             self.add([rule], start, start + 1, "unhook", *lines_of_end(byte))
-            self.is_hooked, self.is_open = False, byte == ESC
-            if self.is_open:
+            self.is_hooked, self.has_ended_string = False, byte == ESC
+            if self.has_ended_string:
                 self.position = start
         else:
             rule = "byte-9c" if byte == ST else "dropped-in-device-data"
@@ -245,7 +245,7 @@ class Reader:
         self.read_dropped_string(escape, key + 1, "ignored-string")
 
     def read_dropped_string(self, escape, start, rule):
-        """Returns a string of which nothing is reported, up to ESC, CAN or SUB."""
+        """Reads a string of which nothing is reported, up to ESC, CAN or SUB."""
         stop = self.find_first(ST if self.house.ignored_9c == "ends" else "", start)
         last, text, rules = self.character_at(stop), self.text[start:stop], [rule]
         if ST in text + last:
@@ -255,7 +255,7 @@ class Reader:
         self.add(rules, escape, stop)
         if last not in ("", ESC):
             self.add(["cancel"], stop, stop + 1, *lines_of_end(last))
-        self.is_open = last == ESC
+        self.has_ended_string = last == ESC
 
     def read_system_command(self, escape, key):
         stop = self.find_first(ends_of_command(self.house), key + 1)
@@ -274,7 +274,7 @@ class Reader:
             shown = pieces[:self.house.pieces]
             lines = [f"osc {str(last == BEL).lower()} {len(shown)} {' '.join(map(hex_of, shown))}"]
         self.add(["command", *filter(rules.get, rules)], escape, end, *lines, *lines_of_end(last))
-        self.is_open = last == ESC
+        self.has_ended_string = last == ESC
 
     def drop_command_controls(self, start, stop):
         for position, byte in enumerate(self.text[start:stop], start):

@@ -7,7 +7,7 @@ from lib.erasing.rules import GENERAL, OLDER, apply
 from lib.erasing.source import Source
 from lib.erasing.tokens import Refused
 
-MARK = "// Written by tools/erase from {origin}: edit that one.\n"
+HEADER = "// Written by tools/erase from {origin}: edit that one.\n"
 
 ROOT = """// Written by tools/erase from crates/: edit those.
 //! The proved text.
@@ -44,7 +44,7 @@ def write_crate(plan, read_files):
             except Refused as refused:
                 where = f"crates/{crate}/src/{path}:{refused.line or 1}"
                 raise Failure(f"{where}: {refused}") from None
-            files[target_of(name)] = MARK.format(origin=f"crates/{crate}/src/{path}") + erased
+            files[target_of(name)] = HEADER.format(origin=f"crates/{crate}/src/{path}") + erased
             left |= its_left
             used |= its_used
     if unused := {sought for sought, _ in plan.list_entries() - used}:

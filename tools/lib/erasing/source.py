@@ -1,5 +1,5 @@
 """The tokens of one file, with the ways to find items and to change them."""
-from lib.erasing.tokens import COMMENT, MARK, SPACE, Refused, Token, split
+from lib.erasing.tokens import COMMENT, SIGN, SPACE, Refused, Token, split
 
 OPENING, CLOSING = "([{", ")]}"
 
@@ -25,8 +25,8 @@ class Source:
         return "".join(token.text for token in self.tokens[first : last + 1])
 
     def is_sign(self, at, signs):
-        """Whether one of these marks stands at an index, and not in a string or comment."""
-        return self.kind(at) == MARK and self.text(at) in signs
+        """Whether one of these signs is the token at an index."""
+        return self.kind(at) == SIGN and self.text(at) in signs
 
     def is_word(self, at, *words):
         return self.text(at) in words

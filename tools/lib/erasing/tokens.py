@@ -3,7 +3,7 @@ import re
 from typing import NamedTuple
 
 SPACE, COMMENT, STRING, CHARACTER = "space", "comment", "string", "character"
-WORD, LIFETIME, NUMBER, MARK = "word", "lifetime", "number", "mark"
+WORD, LIFETIME, NUMBER, SIGN = "word", "lifetime", "number", "sign"
 # what only the prover reads: a contract's clause, and a ghost item or statement
 CLAUSE, GHOST = "clause", "ghost"
 
@@ -19,14 +19,14 @@ TOKEN = re.compile(
   | (?P<word>[^\W\d]\w*)
   | (?P<lifetime>'\w+)
   | (?P<number>\d\w*(?:\.\d\w*)?)
-  | (?P<mark>\S)
+  | (?P<sign>\S)
     """,
     re.VERBOSE,
 )
 # a function's clause that names a ghost value, which the next clause follows
 GHOST_VALUE = re.compile(r"ghost \w+: \{[^{}]*\}(?=\s+(?:ghost|requires|ensures)\b)")
 # of ghost text a string, a comment, or a sign
-GHOST_MARK = re.compile(r'"(?:[^"\\]|\\(?s:.))*"|(?://|-- )[^\n]*|["{};,]')
+GHOST_TOKEN = re.compile(r'"(?:[^"\\]|\\(?s:.))*"|(?://|-- )[^\n]*|["{};,]')
 
 
 class Refused(Exception):
@@ -67,7 +67,7 @@ def _read_token(text, at):
         raise Refused("a comment of several lines")
     found = TOKEN.match(text, at)
     kind = STRING if found.lastgroup == "hashes" else found.lastgroup
-    if kind == MARK and found[0] in ('"', "'"):
+    if kind == SIGN and found[0] in ('"', "'"):
         raise Refused(f"unclosed quote: {found[0]}")
     if kind == WORD and found[0] == "ghost":
         value = GHOST_VALUE.match(text, at)
@@ -81,13 +81,13 @@ def _find_ghost_end(text, at, stops):
     """Finds where ghost text ends: after one of `stops` outside braces. It isn't Rust, so only its
     braces, strings and comments are looked at."""
     depth = 0
-    for found in GHOST_MARK.finditer(text, at):
-        mark = found[0]
-        if mark == '"':
+    for found in GHOST_TOKEN.finditer(text, at):
+        token = found[0]
+        if token == '"':
             raise Refused("a quote that isn't closed in ghost text")
-        depth += (mark == "{") - (mark == "}")
+        depth += (token == "{") - (token == "}")
         if depth < 0:
             raise Refused("ghost text that closes a brace it hasn't opened")
-        if depth == 0 and mark in stops:
+        if depth == 0 and token in stops:
             return found.end()
     raise Refused("ghost text that isn't closed")

@@ -16,7 +16,7 @@ typedef struct {
     size_t length, room;
 } Text;
 
-static Text row, wanted, told, shown, stream;
+static Text row, wanted, got, shown, stream;
 static char id[200];
 
 static void add(Text *to, const char *text, size_t length) {
@@ -27,8 +27,8 @@ static void add(Text *to, const char *text, size_t length) {
 }
 
 void event(const char *line) {
-    add(&told, line, strlen(line));
-    add(&told, "\n", 1);
+    add(&got, line, strlen(line));
+    add(&got, "\n", 1);
 }
 
 // Appends what a value stands for: a text, to which an end is added, a list of values, or a
@@ -72,7 +72,7 @@ static void give(size_t from, size_t to) {
 static int answers(const char *piece, int way) {
     Text hex = {0};
     reset();
-    for (stream.length = told.length = shown.length = 0, piece++; *piece != ']';) {
+    for (stream.length = got.length = shown.length = 0, piece++; *piece != ']';) {
         size_t before = stream.length;
         hex.length = 0;
         piece = write_out(&hex, piece, "");
@@ -86,8 +86,8 @@ static int answers(const char *piece, int way) {
     }
     free(hex.text);
     if (way == 1) give(0, stream.length);
-    return told.length == wanted.length
-        && (told.length == 0 || memcmp(told.text, wanted.text, told.length) == 0);
+    return got.length == wanted.length
+        && (got.length == 0 || memcmp(got.text, wanted.text, got.length) == 0);
 }
 
 static void crashed(int number) {
@@ -126,9 +126,9 @@ int main(int count, char **words) {
         tried++;
         for (int way = 0; way < 3; way++) {
             if (answers(strchr(limit, '['), way)) continue;
-            add(&told, "", 0), add(&wanted, "", 0), wrong++;
+            add(&got, "", 0), add(&wanted, "", 0), wrong++;
             printf("wrong: %s: %.300s\n", id, shown.text);
-            printf("gives\n%.300s\nnot\n%.300s\n", told.text, wanted.text);
+            printf("gives\n%.300s\nnot\n%.300s\n", got.text, wanted.text);
             break;
         }
     }

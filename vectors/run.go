@@ -38,23 +38,23 @@ func writtenOut(value any, end string) (text string) {
 	return text
 }
 
-func answer(pieces [][]byte) (told string) {
+func answer(pieces [][]byte) (got string) {
 	defer func() {
 		if fault := recover(); fault != nil {
-			told = fmt.Sprint("panic: ", fault)
+			got = fmt.Sprint("panic: ", fault)
 		}
 	}()
 	return strings.Join(append(parsePieces(pieces), ""), "\n")
 }
 
 func isRight(v vector, wanted string, pieces [][]byte) bool {
-	told := answer(pieces)
-	if told != wanted {
+	got := answer(pieces)
+	if got != wanted {
 		given := fmt.Sprintf("%x", pieces)
-		fmt.Printf("%s: %.300s gives %.300q, not %.300q (%s: %s)\n", v.ID, given, told, wanted,
+		fmt.Printf("%s: %.300s gives %.300q, not %.300q (%s: %s)\n", v.ID, given, got, wanted,
 			v.Level, v.Rules)
 	}
-	return told == wanted
+	return got == wanted
 }
 
 func main() {

@@ -39,8 +39,8 @@ for (const vector of [...file.vectors, ...file.long]) {
   if (bad) {
     wrong += 1;
     const shown = [bad.map((piece) => piece.toString("hex")), answer(bad), wanted];
-    const [given, told, right] = shown.map((it) => JSON.stringify(it).slice(0, 300));
-    console.log(`${id}: ${given} gives ${told}, not ${right} (${level}: ${rules.join(", ")})`);
+    const [given, got, right] = shown.map((it) => JSON.stringify(it).slice(0, 300));
+    console.log(`${id}: ${given} gives ${got}, not ${right} (${level}: ${rules.join(", ")})`);
   }
 }
 console.log(`${wrong} of ${tried} wrong`);

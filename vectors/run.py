@@ -42,11 +42,11 @@ for vector in file["vectors"] + file["long"]:
     stream, wanted = b"".join(pieces), written_out(vector["events"], "\n")
     tried += 1
     for cut in pieces, [stream], [bytes([byte]) for byte in stream]:
-        told = answer(cut)
-        if told != wanted:
+        got = answer(cut)
+        if got != wanted:
             wrong += 1
             shown = str([piece.hex() for piece in cut])
-            print(f"{vector['id']}: {shown[:300]} gives {told[:300]!r}, not {wanted[:300]!r} "
+            print(f"{vector['id']}: {shown[:300]} gives {got[:300]!r}, not {wanted[:300]!r} "
                   f"({vector['level']}: {', '.join(vector['rules'])})")
             break
 print(f"{wrong} of {tried} wrong")

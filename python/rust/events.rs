@@ -49,7 +49,7 @@ pub struct Recorder {
     seen: Kinds,
     // the index of the value that says whether the last command lost data
     truncated: Option<usize>,
-    // whether the last call was refused memory, so that the next is to tell where it stopped
+    // whether the last call was refused memory, so that the next reports where it stopped
     pub is_refused: bool,
 }
 

@@ -57,7 +57,7 @@ def find_failures(text, run=True, name="page.md"):
     ("```sh run\nexit 7\n```", "these commands failed with status 7"),
     ("```sh run\nexec 2>&-\necho $NO_SUCH_NAME\ntrue\n```", "these commands failed with status"),
     ("```sh run\ntrue\n```\n```sh\nfalse\n```", None), ("```sh run\ntest -e page.md\n```", None)])
-def test_what_is_wrong_with_a_page_is_told(page, failure, monkeypatch):
+def test_what_is_wrong_with_a_page_is_reported(page, failure, monkeypatch):
     monkeypatch.setattr(shutil, "which", lambda _: "/bin/rt")
     found = find_failures(page)
     assert [it[: len(failure or "")] for it in found] == [failure] * bool(failure)

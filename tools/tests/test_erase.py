@@ -110,7 +110,7 @@ def run_erase(*words):
     return Tool("erase", PLANS=plans, format_files=lambda files: files).run(*words)
 
 
-def test_what_is_out_of_date_is_told_and_then_written(folder):
+def test_what_is_out_of_date_is_reported_and_then_written(folder):
     write("crates/c/src/d/e.rt", "fn f() { laws::x(); }\n")
     write("w/left/over", "")
     write("w/mod.rs", "as it was")
@@ -140,7 +140,7 @@ def test_files_have_the_layout_of_rustfmt():
 
 
 @pytest.mark.parametrize("words", [[], ["--check"]])
-def test_what_the_eraser_refuses_is_told(words, folder):
+def test_what_the_eraser_refuses_is_reported(words, folder):
     write("crates/c/src/lib.rt", "\n#[test]\nfn f() {}\n")
     reported = "tools/erase: crates/c/src/lib.rt:2: unknown attribute: test"
     assert run_erase(*words) == (reported, "")

@@ -178,7 +178,7 @@ def test_what_is_erased_has_no_difference(entries, marked):
     # marks, and what is below them, in the line of the source
     ("\n// cargo inlines: a\n", 2), ("\n// Cargo: a\n", 2), ("\n/// proof: a\nfn f() {}\n", 2),
     ("\n// cargo lacks:\nfn f() {}\n", 2), ("// cargo instead: a\n// cargo: b\nc\n#[test]\n", 4)])
-def test_a_refusal_tells_its_line(text, line):
+def test_a_refusal_has_its_line(text, line):
     with pytest.raises(Refused) as caught:
         erase(text, "a", "a/x", make_plan())
     assert (caught.value.line or 1) == line, caught.value

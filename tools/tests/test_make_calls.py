@@ -60,7 +60,7 @@ def test_a_call_is_added_to_all_lists_and_removed(calls):
     ("rust/vte_c/src/processor.rs", "set_tabs(interval: u16)", "set_tabs(interval: u8)"),
     (HEADER, "put_tab)(void *user, uint16_t", "put_tab)(void *user, size_t"),
     ("python/src/vte/calls.py", "bottom: int | None", "bottom: int")])
-def test_a_wrong_entry_is_told_and_written_again(calls, path, old, new):
+def test_a_wrong_entry_is_reported_and_written_again(calls, path, old, new):
     tool, texts = calls
     assert old in texts[path]
     write(path, texts[path].replace(old, new))

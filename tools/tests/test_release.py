@@ -37,7 +37,7 @@ RELEASE = {
     ("CHANGELOG.md", "| 1.2.3", "| 1.2.4", 'CHANGELOG.md has no "| 1.2.3 | the crate"'),
     ("CHANGELOG.md", "+naqshuve", "", 'CHANGELOG.md has no "| 0.15.0+naqshuve.1.2.3 | the same"'),
     ("CHANGELOG.md", ", 7", ", 6", 'CHANGELOG.md has no "`VTE_VERSION`, 7 |"')])
-def test_a_wrong_version_is_told(path, old, new, reported):
+def test_a_wrong_version_is_reported(path, old, new, reported):
     for name, text in RELEASE.items():
         write(name, (text.replace(old, new) if name == path else text) + "\n")
     write(CHECK, (TOOLS.parent / CHECK).read_text(), 0o755)

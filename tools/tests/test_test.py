@@ -89,7 +89,7 @@ def test_what_is_run_and_listed(folder, words, fails, ran, untested, status):
 
 
 @pytest.mark.parametrize("words", ["unknown", "first unknown", "fir.t", "bash"])
-def test_a_name_of_no_part_is_told(folder, words):
+def test_a_name_of_no_part_is_reported(folder, words):
     assert run(folder, words) == (2, [f"test: no part is named {words.split()[-1]}"], [])
 
 

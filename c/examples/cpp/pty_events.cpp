@@ -13,7 +13,7 @@ class Parser {
     std::array<uint8_t, 8192> data;
 
 public:
-    template <typename Function> void feed(const uint8_t *bytes, size_t length, Function tell) {
+    template <typename Function> void feed(const uint8_t *bytes, size_t length, Function report) {
         vte_counts counts;
         for (size_t at = 0; at < length;) {
             const uint8_t *unread = bytes + at;
@@ -23,7 +23,7 @@ public:
                 const vte_event &event = events[i];
                 const uint8_t *text = vte_text_of(&event, unread, data.data());
                 size_t size = event.kind == VTE_TEXT ? event.code : 0;
-                tell(event, std::string(text, text + size));
+                report(event, std::string(text, text + size));
             }
         }
     }

@@ -1,5 +1,4 @@
-"""What a plan says: which crates of crates/ become which Rust crate, and what the passes are told.
-"""
+"""Plans: which crates of crates/ become which Rust crate, and what the passes need for that."""
 from dataclasses import dataclass, field
 
 

@@ -38,7 +38,7 @@ def find_processes(word):
 
 @pytest.mark.parametrize("words, fault", [
     ("--house delete=drop --house bell=drop", "largest=9999"),
-    ("--leave-out largest,delete --untold ignore,bell --memory 999", "colon=separates"),
+    ("--leave-out largest,delete --unreported ignore,bell --memory 999", "colon=separates"),
     ("", "stateful")])
 def test_a_finding_can_be_shown_again(judge, judge_toy, words, fault):
     output = judge_toy(1, "--seconds", 600, *words.split(), fault=fault)
@@ -166,10 +166,10 @@ def test_known_differences_are_passed(judge_toy, tmp_path):
     ("--house bell=x cat", "bell is one of"), ("--house limit=x cat", "limit is a number"),
     ("--house pieces=0 cat", "pieces is a number from 1"), ("--house numbers=0 cat", "numbers is"),
     ("--house x=1 cat", "unknown house"), ("--leave-out x cat", "unknown class"),
-    ("--leave-out largest/numbers cat", "unknown class"), ("--untold x cat", "unknown word"),
+    ("--leave-out largest/numbers cat", "unknown class"), ("--unreported x cat", "unknown word"),
     ("--streams x cat", "unknown kind"), ("--known /no/file cat", "No such file"),
     ("--case 6 cat", "invalid case: '6'"), ("--vtlog /no/vtlog cat", "judge: not a program"),
     ("--vtlog /usr/bin/cat cat", "judge: /usr/bin/cat isn't vtlog"),
     ("--write-known /no/file cat", "No such file")])
-def test_a_wrong_word_is_told(judge, words, message):
+def test_a_wrong_word_is_reported(judge, words, message):
     assert message in judge(2, *words.split())

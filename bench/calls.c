@@ -26,7 +26,7 @@ static void fail(const char *what) {
     exit(1);
 }
 
-static void *made(void *object) {
+static void *require_memory(void *object) {
     if (object == NULL) fail("there is no memory");
     return object;
 }
@@ -37,7 +37,7 @@ static void take(size_t count) {
     for (size_t i = 0; i < count; i++) sum += events[i].code + events[i].count;
 }
 
-static void *new_feed(void) { return made(calloc(1, sizeof(vte_parser))); }
+static void *new_feed(void) { return require_memory(calloc(1, sizeof(vte_parser))); }
 
 static void feed(void *parser, const uint8_t *bytes, size_t length) {
     vte_counts counts;
@@ -50,7 +50,7 @@ static void feed(void *parser, const uint8_t *bytes, size_t length) {
     }
 }
 
-static void *new_long_feed(void) { return made(vte_long_parser_new()); }
+static void *new_long_feed(void) { return require_memory(vte_long_parser_new()); }
 
 static void long_feed(void *parser, const uint8_t *bytes, size_t length) {
     const uint8_t *area;
@@ -91,7 +91,7 @@ static void *new_processor(void) {
     static const vte_handler calls = {.input = input, .linefeed = control,
                                       .carriage_return = control, .go_to = go_to,
                                       .terminal_attribute = attribute};
-    return made(vte_processor_new(&calls, sizeof calls, NULL));
+    return require_memory(vte_processor_new(&calls, sizeof calls, NULL));
 }
 
 static void process(void *processor, const uint8_t *bytes, size_t length) {
@@ -139,7 +139,7 @@ static int their_string(const char *text, size_t length, void *user) {
 static void *new_libvterm(void) {
     static const VTermParserCallbacks calls = {their_text,   their_control, their_escape, their_csi,
                                                their_string, their_string,  NULL};
-    VTerm *terminal = made(vterm_new(24, 80));
+    VTerm *terminal = require_memory(vterm_new(24, 80));
     vterm_set_utf8(terminal, 1);
     vterm_parser_set_callbacks(terminal, &calls, NULL);
     return terminal;
@@ -173,7 +173,7 @@ static uint64_t now(void) {
 
 int main(int argc, char **argv) {
     size_t kind = 0, length = fread(stream, 1, STREAM, stdin);
-    if (argc != 4) fail("KIND, CHUNK and PASSES are wanted");
+    if (argc != 4) fail("expected KIND, CHUNK and PASSES");
     while (kind < sizeof kinds / sizeof *kinds && strcmp(kinds[kind].name, argv[1]) != 0) kind++;
     if (kind == sizeof kinds / sizeof *kinds) fail("no such kind");
     size_t chunk = strtoull(argv[2], NULL, 10);

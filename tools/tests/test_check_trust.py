@@ -13,7 +13,7 @@ MADE, USED, UNCOUNTED = (f":1: {fault}" for fault in (
 
 
 def fault_of(places, allowed="0"):
-    return f": `unsafe` stands here {places}; allowed is {allowed}"
+    return f": has `unsafe` {places}, expected {allowed}"
 
 
 # a file, its text, and its fault: `unsafe` in files that may have some, or none
@@ -99,7 +99,7 @@ def test_all_files_and_handles_are_checked():
     ("reader/advance", "take_run", r"nothing there is ^ *take_run\(bytes, range\)$"),
     ("reader/run_end", "", "it isn't there"),
     ("reader", "no word of it", None)])
-def test_a_name_that_nothing_has_is_told(path, word, fault):
+def test_a_name_that_nothing_has_is_reported(path, word, fault):
     tool = Tool("check_trust", PLACES={}, ROOTS=())
     files = {*tool.parts["MAKERS"], *tool.parts["CALLS"], *tool.parts["RUNS"]}
     changed = f"{CORE}{path}.rt"

@@ -36,10 +36,10 @@ def copy(tmp_path_factory):
       for gone in ("a::gone", "src/a/gone.rt:1")),
     *((PATH, " by goal", verdict, "its verdict names no goal")
       for verdict in (" by a goal", ": `goal`: why")),
-    ("crates/c/must-fail/m.edit", "", "", "it stands twice")])
-def test_what_is_wrong_with_a_mutant_is_told(copy, path, old, new, fault):
+    ("crates/c/must-fail/m.edit", "", "", "it is also in must-fail/")])
+def test_what_is_wrong_with_a_mutant_is_reported(copy, path, old, new, fault):
     write(path, MUTANT.replace(old, new))
-    faults = [f"{PATH if 'twice' in fault else path}: {fault}"] if fault else []
+    faults = [f"{PATH if 'also' in fault else path}: {fault}"] if fault else []
     output = "\n".join([*faults, f"1 mutants, {len(faults)} faults\n"])
     assert Tool("mutate").run("--check") == (len(faults), output)
 

@@ -106,9 +106,9 @@ kinds! {
 fn main() {
     let words: Vec<String> = std::env::args().skip(1).collect();
     let [kind, chunk, passes] = &words[..] else {
-        panic!("KIND, CHUNK and PASSES are wanted");
+        panic!("usage: peer KIND CHUNK PASSES");
     };
-    let number = |word: &String| word.parse().expect("a number is wanted");
+    let number = |word: &String| word.parse().expect("expected a number");
     let mut stream = Vec::new();
     let read = std::io::stdin().lock().read_to_end(&mut stream);
     read.expect("the read failed");

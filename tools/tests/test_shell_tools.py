@@ -72,7 +72,8 @@ def test_a_tool_obeys_its_words(folder, monkeypatch, tool, words, variables, sta
 
 # a function that calls a panic, and whether it is known
 @pytest.mark.parametrize("function, is_known", [
-    ("<vte::Parser>::drive", True), ("vte::scan::find_escape", True), ("vte::any::drive_on", False),
+    ("<vte::Machine>::drive_loop", True), ("vte::scan::find_escape", True),
+    ("vte::any::drive_on", False),
     ("vte::Store<8>::dispatch", True), ("vte::Store::dispatch_all", False),
     ("<vte::ParamsIter as Iterator>::next", True), ("vte::Params::next", False),
     ("vte::Engine<P>::stop", True), ("vte::Engine<P>::stops", False), ("other::f", True)])

@@ -127,7 +127,7 @@ def find_nearest(chunks, same, rules, house):
 # ---- freeing a case of rules
 
 def free_case(chunks, rules, house):
-    """The case without what these rules are about: their bytes, or the cuts that divide them."""
+    """Frees a case of what these rules are about: their bytes, or the cuts that divide them."""
     stream, cuts = b"".join(chunks), cuts_of(chunks)
     steps = steps_of(stream, house) if rules else []
     if any(rules.intersection(step.rules) for step in steps):

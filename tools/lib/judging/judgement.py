@@ -288,7 +288,7 @@ class Judge:
                      case)
 
     def find_after_others(self, difference):
-        """The smallest streams whose last one is answered so only after the others, or None."""
+        """Returns the smallest streams whose last is answered so only after the others, or None."""
         if KEPT_STATE in self.result.findings:
             return difference
         tries = Tries(self.time, MAX_CASES // 10)

@@ -56,12 +56,12 @@ def find_smallest(items, find_first):
 
 
 def places_of(text):
-    """The positions of the bytes to replace: all, or in a long text the first of each value."""
+    """Returns the positions of bytes to replace: all, or in a long text the first of each value."""
     return range(len(text)) if len(text) <= SHORT else map(text.index, sorted(set(text)))
 
 
 def find_plainer(text, position):
-    """The texts with a plainer byte at a position, and in a long one wherever this byte is."""
+    """Returns texts with a plainer byte at a position, and in a long one wherever this byte is."""
     byte, times = text[position], 1 if len(text) <= SHORT else -1
     order = next(order for last, order in PLAIN if byte <= last)
     return [text[:position] + text[position:].replace(byte, plain, times)

@@ -25,18 +25,24 @@ pub const ESC: u8 = 7;
 #[repr(C)]
 #[derive(Clone, Copy)]
 pub struct VteEvent {
+    /// One of the kinds above.
     pub kind: u8,
-    // `ignore` of a sequence; of a command 1 if BEL ended it, and 2 if it lost data bytes; whether
-    // a text or data is in the data area
+    /// `ignore` of a sequence. Of a command, 1 if BEL ended it, and 2 if it lost data bytes.
+    /// Whether a text or data is in the data area.
     pub flag: u8,
+    /// How many intermediates there are, at most 2.
     pub intermediate_count: u8,
-    // how many groups or pieces there are
+    /// How many groups or pieces there are.
     pub count: u8,
+    /// The first intermediate, or 0.
     pub first_intermediate: u8,
+    /// The second intermediate, or 0.
     pub second_intermediate: u8,
+    /// Always 0.
     pub unused: u16,
-    // how many bytes a text or data has; a byte, or a final byte
+    /// How many bytes a text or data has. A byte, or a final byte.
     pub code: u32,
+    /// Where its groups, pieces, text or data start.
     pub start: u32,
 }
 

@@ -18,7 +18,7 @@ const MAX_TEXT_PER_BYTE: usize = 8;
 struct TextWriter<'a> {
     bytes: &'a mut [u8],
     used: usize,
-    // if not, nothing is kept
+    /// Whether all of it has fitted. If not, nothing is kept.
     fits: bool,
 }
 

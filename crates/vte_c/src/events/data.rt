@@ -27,7 +27,7 @@ impl EventWriter<'_> {
         ensures { (buffers : Buffers) (text : List ℕ) → AreaHolds buffers self.old start text →
             AreaHolds buffers self.new result (text ++ group_bytes group.now) }
     {
-        // most groups have one number
+        // Most groups have one number.
         if let [number] = group {
             return self.write(start, &encode_single_number(*number));
         }

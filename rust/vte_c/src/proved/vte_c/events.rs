@@ -256,7 +256,7 @@ impl Perform for EventWriter<'_> {
         }
     }
 
-    // inlined, it would slow down what comes before each sequence
+    // Inlined, it would slow down what comes before each sequence.
     #[inline(never)]
     fn execute(&mut self, byte: u8) {
         self.write_without_data(VteEvent::new(event::EXECUTE, u32::from(byte)));

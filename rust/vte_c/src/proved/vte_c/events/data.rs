@@ -18,7 +18,7 @@ impl EventWriter<'_> {
 
     /// Writes a group into the area at `start`: its count of numbers, and two bytes for each.
     fn write_group(&mut self, start: usize, group: &[u16]) -> usize {
-        // most groups have one number
+        // Most groups have one number.
         if let [number] = group {
             return self.write(start, &encode_single_number(*number));
         }

@@ -1,10 +1,11 @@
 -- How far the function of a state reads, and what that costs: looks at bytes, and memory.
-use Rattle.std.specs.Prelude.{IfOk, length, List, Result, ℕ, ◌*◌, ◌+◌, ◌<◌, ◌≡◌, ◌≤◌}
-use Rattle.vte_core.specs.Looks.{looks_of}
+use Rattle.std.specs.Prelude.{IfErr, IfOk, length, List, Result, ℕ, ◌*◌, ◌+◌, ◌<◌, ◌≡◌, ◌≤◌}
+use Rattle.vte_core.specs.LongParser.{read_count}
+use Rattle.vte_core.specs.Looks.{looks_of, per_byte}
 use Rattle.vte_core.specs.declared.parser.machine.Machine.{Machine}
 use Rattle.vte_core.specs.declared.parser.refused.Refused.{Refused}
 use Rattle.vte_core.specs.declared.reader.Reader.{Reader}
-use Rattle.vte_core.specs.private.Progress.{ChunkCall, IsRefusedInCommand, IsSettled, MayGoOn}
+use Rattle.vte_core.specs.private.Progress.{ChunkCall, IsRefusedInCommand, IsSettled, MayGoOn, ReadsUntilRefused, ReadsUpTo}
 
 -- ---- where the looks go
 
@@ -64,6 +65,14 @@ pub record Costs (rate : ℕ) {Answer B : Type 0} (bytes : List ℕ) (result : R
   pub looks_at_most_if_ok : IfOk result (λ _. new_looks ≤ old_looks + rate * n + 8)
   pub looks_at_least : old_looks + n ≤ new_looks
   pub keeps_memory : parser.command.capacity ≤ next.command.capacity
+
+-- What a call ensures of this result, which is how many bytes it read, or that memory was refused.
+pub record ReadsCall {V B : Type 0} (call : ChunkCall V) (old new : V) (result : Result ℕ Refused)
+    (parser next : Machine B) (old_looks new_looks : ℕ) : Type 0 where
+  pub reads : IfOk result (λ read. ReadsUpTo call old new read parser next)
+  pub refuses : IfErr result (λ refused. ReadsUntilRefused call old new refused.read parser next)
+  pub costs : Costs (per_byte 5) call.bytes result (read_count result) parser next old_looks
+      new_looks
 
 -- The bounds of a function that reads nothing at position i, because memory was refused. It
 -- searched for the end of the data: it took at least one look, and at most one for each byte from

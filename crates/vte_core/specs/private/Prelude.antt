@@ -18,7 +18,7 @@ pub use Rattle.vte_core.specs.declared.parser.State.TheVariants.{DeviceData, Esc
 pub use Rattle.vte_core.specs.declared.utf8.Unfinished.TheVariants.{Empty, One}
 pub use Rattle.vte_core.specs.private.Scans.{AreIgnored, ArePositions, ArePrintedAscii, ArePut, Each, FindsEnd, IsPrintedAscii, IsRun, IsWindow, LooksWithin, PrintsRun, Scans}
 pub use Rattle.vte_core.specs.private.Progress.{Advances, AnyEvents, chunk_call, Completes, EventsOutsideRuns, IsAtPosition, IsSettled, MayRead, MayReadAt, MayReadByte, ReadsUntilRefused, ReadsUpTo}
-pub use Rattle.vte_core.specs.private.Costs.{caller_looks, Costs, HandlesByteWithin, IsRefusedAt, lookahead, ReadsWithin, SpendsWithin}
+pub use Rattle.vte_core.specs.private.Costs.{caller_looks, Costs, HandlesByteWithin, IsRefusedAt, lookahead, ReadsCall, ReadsWithin, SpendsWithin}
 pub use Rattle.vte_core.specs.private.AtPlace.{HasReadWithLimit, IsAtPlace}
 pub use Rattle.vte_core.specs.private.HeldHead.{CountsNumbers, HasReadHead, HoldsHead, HoldsIntermediates, HoldsNumbers, HoldsWholeHead, ReadsHeadUpTo, SameIntermediates, SameNumbers, with_open_number}
 pub use Rattle.vte_core.specs.private.OpenCharacter.{BeginsFour, BeginsThree, BeginsTwo, bytes_of, Extends, IsLead, second_range}

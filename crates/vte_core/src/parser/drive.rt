@@ -1,6 +1,6 @@
 //! The bytes of a call, and the loop over them.
 ghost use Rattle.std.specs.Prelude.{IfErr, IfOk, length, List, true, ℕ, ◌<◌, ◌≡◌};
-ghost use Rattle.vte_core.specs.private.Prelude.{Advances, caller_looks, chunk_call, Costs, HasReadWithLimit, IsAtPosition, IsOutsideTextAndData, IsRefusedAt, IsSettled, lookahead, looks_of, MayReadAt, NoCharacterStops, per_byte, read_count, ReadsUntilRefused, ReadsUpTo, ReadsWithin, ReportsOutsideRuns, SpendsWithin};
+ghost use Rattle.vte_core.specs.private.Prelude.{Advances, caller_looks, chunk_call, HasReadWithLimit, IsAtPosition, IsOutsideTextAndData, IsRefusedAt, IsSettled, lookahead, looks_of, MayReadAt, NoCharacterStops, per_byte, read_count, ReadsCall, ReadsWithin, ReportsOutsideRuns, SpendsWithin};
 
 use crate::buffer::Buffer;
 use crate::parser::{Machine, Refused, State};
@@ -18,16 +18,9 @@ impl<B: Buffer> Machine<B> {
     ) -> Result<usize, Refused>
         requires no_stop { G.IN_RUNS ≡ true → MAY_STOP ≡ true
             → NoCharacterStops P.layout P.step P.is_terminated }
-        ensures reads { IfOk result
-            (λ read. ReadsUpTo
+        ensures { ReadsCall
             (chunk_call MAY_STOP P.step P.is_terminated B.limit input.entry.bytes.now)
-            (P.value_of performer.old) (P.value_of performer.new) read self.old self.new) }
-        ensures refuses { IfErr result
-            (λ refused. ReadsUntilRefused
-            (chunk_call MAY_STOP P.step P.is_terminated B.limit input.entry.bytes.now)
-            (P.value_of performer.old) (P.value_of performer.new) refused.read self.old self.new) }
-        ensures costs { Costs (per_byte 5) input.entry.bytes.now result
-            (read_count result) self.old self.new
+            (P.value_of performer.old) (P.value_of performer.new) result self.old self.new
             (looks_of reader.old) (looks_of reader.new) }
     {
         if !MAY_STOP && input.len() == 1 {
@@ -49,16 +42,9 @@ impl<B: Buffer> Machine<B> {
     ) -> Result<usize, Refused>
         requires no_stop { G.IN_RUNS ≡ true → MAY_STOP ≡ true
             → NoCharacterStops P.layout P.step P.is_terminated }
-        ensures reads { IfOk result
-            (λ read. ReadsUpTo
+        ensures { ReadsCall
             (chunk_call MAY_STOP P.step P.is_terminated B.limit input.entry.bytes.now)
-            (P.value_of performer.old) (P.value_of performer.new) read self.old self.new) }
-        ensures refuses { IfErr result
-            (λ refused. ReadsUntilRefused
-            (chunk_call MAY_STOP P.step P.is_terminated B.limit input.entry.bytes.now)
-            (P.value_of performer.old) (P.value_of performer.new) refused.read self.old self.new) }
-        ensures costs { Costs (per_byte 5) input.entry.bytes.now result
-            (read_count result) self.old self.new
+            (P.value_of performer.old) (P.value_of performer.new) result self.old self.new
             (looks_of reader.old) (looks_of reader.new) }
     {
         let mut position = self.finish_character::<P, G, MAY_STOP>(reader, performer, input);

@@ -2,10 +2,10 @@
 //!
 //! `drive_loop` saves registers for its loops at each call. These functions have none, and those
 //! that most bytes take do nothing after a call of another one, so they save no registers.
-ghost use Rattle.std.specs.Prelude.{false, IfErr, IfOk, length, List, ℕ, [], ◌+◌, ◌≡◌, ◌≢◌};
+ghost use Rattle.std.specs.Prelude.{false, IfErr, IfOk, length, List, ℕ, [], ◌≡◌, ◌≢◌};
 ghost use Rattle.vte_core.specs.Event.{Print, replacement};
 ghost use Rattle.vte_core.specs.Utf8.{from_to, is_in};
-ghost use Rattle.vte_core.specs.private.Prelude.{Advances, AnyEvents, bytes_of, caller_looks, chunk_call, Costs, DeviceData, Empty, EventsOutsideRuns, HasReadWithLimit, IsAtPosition, IsRefusedAt, lookahead, looks_of, MayReadAt, MayReadByte, per_byte, read_count, ReadsUntilRefused, ReadsUpTo, ReadsWithin, SpendsWithin, Text};
+ghost use Rattle.vte_core.specs.private.Prelude.{Advances, AnyEvents, bytes_of, caller_looks, chunk_call, DeviceData, Empty, EventsOutsideRuns, HasReadWithLimit, IsAtPosition, IsRefusedAt, lookahead, looks_of, MayReadAt, MayReadByte, per_byte, read_count, ReadsCall, ReadsWithin, SpendsWithin, Text};
 
 use crate::buffer::Buffer;
 use crate::class::{ESCAPE, is_device_data, is_parameter_byte};
@@ -24,28 +24,21 @@ impl<B: Buffer> Machine<B> {
         input: Input<'_>,
     ) -> Result<usize, Refused>
         requires one_byte { length input.bytes.now ≡ 1 }
-        ensures reads { IfOk result
-            (λ read. ReadsUpTo
+        ensures { ReadsCall
             (chunk_call false P.step P.is_terminated B.limit input.entry.bytes.now)
-            (P.value_of performer.old) (P.value_of performer.new) read self.old self.new) }
-        ensures refuses { IfErr result
-            (λ refused. ReadsUntilRefused
-            (chunk_call false P.step P.is_terminated B.limit input.entry.bytes.now)
-            (P.value_of performer.old) (P.value_of performer.new) refused.read self.old self.new) }
-        ensures costs { Costs (per_byte 5) input.entry.bytes.now result
-            (read_count result) self.old self.new
+            (P.value_of performer.old) (P.value_of performer.new) result self.old self.new
             (looks_of reader.old) (looks_of reader.new) }
     {
         if let State::Text(begun) = self.state {
             if begun.is_empty() {
-                return Ok(self.read_last_of_text(reader, performer, input, 0));
+                return Ok(self.read_last_of_text(reader, performer, input));
             }
             return Ok(self.read_continuing_byte(reader, performer, begun, input));
         }
         if let State::ControlSequence(reached) = self.state {
-            return Ok(self.read_parameter_byte(reader, performer, input, reached, 0));
+            return Ok(self.read_parameter_byte(reader, performer, input, reached));
         }
-        self.read_outside_text(reader, performer, input, 0)
+        self.read_outside_text(reader, performer, input)
     }
 
     /// Reads the last byte of a call in a text.
@@ -55,24 +48,23 @@ impl<B: Buffer> Machine<B> {
         reader: &mut Reader,
         performer: &mut P,
         input: Input<'_>,
-        from: usize,
     ) -> usize
         requires may_read { MayReadAt
             (chunk_call false P.step P.is_terminated B.limit input.bytes.now)
-            (P.value_of performer.old) (Text Empty) self.old from }
-        requires last { from + 1 ≡ length input.bytes.now }
+            (P.value_of performer.old) (Text Empty) self.old 0 }
+        requires one_byte { length input.bytes.now ≡ 1 }
         ensures advances { Advances AnyEvents
             (chunk_call false P.step P.is_terminated B.limit input.entry.bytes.now)
-            (P.value_of performer.old) (P.value_of performer.new) from result self.old self.new }
+            (P.value_of performer.old) (P.value_of performer.new) 0 result self.old self.new }
         ensures reads_within { ReadsWithin (per_byte 5) (caller_looks 0)
-            input.entry.bytes.now from result self.old self.new reader.old reader.new }
+            input.entry.bytes.now 0 result self.old self.new reader.old reader.new }
     {
-        let byte = reader.byte_at(input, from);
+        let byte = reader.byte_at(input, 0);
         if is_printed_ascii(byte) {
             performer.print_char(reader, char::from(byte));
-            return from + 1;
+            return 1;
         }
-        self.read_other_last(reader, performer, input, from, byte)
+        self.read_other_last(reader, performer, input, byte)
     }
 
     /// Reads the last byte of a call in a text, if it isn't printed ASCII.
@@ -82,29 +74,28 @@ impl<B: Buffer> Machine<B> {
         reader: &mut Reader,
         performer: &mut P,
         input: Input<'_>,
-        from: usize,
         byte: u8,
     ) -> usize
         requires may_read { MayReadByte
             (chunk_call false P.step P.is_terminated B.limit input.bytes.now)
-            (P.value_of performer.old) (Text Empty) self.old from byte }
+            (P.value_of performer.old) (Text Empty) self.old 0 byte }
         requires not_printed { is_in (from_to 0x20 0x7f) byte ≡ false }
-        requires last { from + 1 ≡ length input.bytes.now }
+        requires one_byte { length input.bytes.now ≡ 1 }
         ensures advances { Advances AnyEvents
             (chunk_call false P.step P.is_terminated B.limit input.entry.bytes.now)
-            (P.value_of performer.old) (P.value_of performer.new) from result self.old self.new }
+            (P.value_of performer.old) (P.value_of performer.new) 0 result self.old self.new }
         ensures reads_within { ReadsWithin (per_byte 5) (caller_looks 1)
-            input.entry.bytes.now from result self.old self.new reader.old reader.new }
+            input.entry.bytes.now 0 result self.old self.new reader.old reader.new }
     {
         if byte == ESCAPE {
-            return self.read_escape_in_text::<P, G, false>(reader, performer, input, from);
+            return self.read_escape_in_text::<P, G, false>(reader, performer, input, 0);
         }
         if is_lead(byte) {
             self.state = State::Text(Unfinished::One(byte));
         } else {
             reader.report_lone_byte(performer, byte);
         }
-        from + 1
+        1
     }
 
     /// Reads the one byte of a call after those that began a character.
@@ -164,7 +155,7 @@ impl<B: Buffer> Machine<B> {
             input.entry.bytes.now 0 result self.old self.new reader.old reader.new }
     {
         performer.print_char(reader, char::REPLACEMENT_CHARACTER);
-        self.read_last_of_text(reader, performer, input, 0)
+        self.read_last_of_text(reader, performer, input)
     }
 
     /// Reads a byte of the head of a control sequence: of its parameters, like most, or another.
@@ -175,26 +166,25 @@ impl<B: Buffer> Machine<B> {
         performer: &mut P,
         input: Input<'_>,
         reached: HeadProgress,
-        from: usize,
     ) -> usize
         requires may_read { MayReadAt
             (chunk_call false P.step P.is_terminated B.limit input.bytes.now)
-            (P.value_of performer.old) (State.ControlSequence reached) self.old from }
+            (P.value_of performer.old) (State.ControlSequence reached) self.old 0 }
         ensures advances { Advances EventsOutsideRuns
             (chunk_call false P.step P.is_terminated B.limit input.entry.bytes.now)
-            (P.value_of performer.old) (P.value_of performer.new) from result self.old self.new }
+            (P.value_of performer.old) (P.value_of performer.new) 0 result self.old self.new }
         ensures reads_within { ReadsWithin (per_byte 5) (caller_looks 0)
-            input.entry.bytes.now from result self.old self.new reader.old reader.new }
+            input.entry.bytes.now 0 result self.old self.new reader.old reader.new }
     {
         if reached.may_have_parameters() {
-            let byte = reader.byte_at(input, from);
+            let byte = reader.byte_at(input, 0);
             if is_parameter_byte(byte) {
                 self.collected.collect_parameter_byte(byte);
                 self.state = State::ControlSequence(HeadProgress::Parameters);
-                return from + 1;
+                return 1;
             }
         }
-        self.read_rest_of_head::<P, G, false>(reader, performer, input, reached, from)
+        self.read_rest_of_head::<P, G, false>(reader, performer, input, reached, 0)
     }
 
     /// Reads a byte of the data of a device control string, or the byte that ends it.
@@ -204,22 +194,21 @@ impl<B: Buffer> Machine<B> {
         reader: &mut Reader,
         performer: &mut P,
         input: Input<'_>,
-        from: usize,
     ) -> usize
         requires { MayReadAt (chunk_call false P.step P.is_terminated B.limit input.bytes.now)
-            (P.value_of performer.old) DeviceData self.old from }
+            (P.value_of performer.old) DeviceData self.old 0 }
         ensures advances { Advances AnyEvents
             (chunk_call false P.step P.is_terminated B.limit input.entry.bytes.now)
-            (P.value_of performer.old) (P.value_of performer.new) from result self.old self.new }
+            (P.value_of performer.old) (P.value_of performer.new) 0 result self.old self.new }
         ensures reads_within { ReadsWithin (per_byte 5) (caller_looks 0)
-            input.entry.bytes.now from result self.old self.new reader.old reader.new }
+            input.entry.bytes.now 0 result self.old self.new reader.old reader.new }
     {
-        let byte = reader.byte_at(input, from);
+        let byte = reader.byte_at(input, 0);
         if is_device_data(byte) {
             performer.put_byte(reader, byte);
-            return from + 1;
+            return 1;
         }
-        self.read_other_in_data::<P, G, false>(reader, performer, input, from, byte)
+        self.read_other_in_data::<P, G, false>(reader, performer, input, 0, byte)
     }
 
     /// Reads a byte outside text and control sequences, or none if memory is refused for it.
@@ -229,43 +218,42 @@ impl<B: Buffer> Machine<B> {
         reader: &mut Reader,
         performer: &mut P,
         input: Input<'_>,
-        from: usize,
     ) -> Result<usize, Refused>
         requires may_read { MayReadAt
             (chunk_call false P.step P.is_terminated B.limit input.bytes.now)
-            (P.value_of performer.old) self.old.state self.old from }
+            (P.value_of performer.old) self.old.state self.old 0 }
         requires outside_text { (begun : Unfinished) → self.old.state ≢ Text begun }
         ensures advances { Advances AnyEvents
             (chunk_call false P.step P.is_terminated B.limit input.entry.bytes.now)
-            (P.value_of performer.old) (P.value_of performer.new) from (read_count result) self.old
+            (P.value_of performer.old) (P.value_of performer.new) 0 (read_count result) self.old
             self.new }
         ensures reads_within { IfOk result
             (λ read. ReadsWithin (per_byte 5) (caller_looks 0)
-            input.entry.bytes.now from read self.old self.new reader.old reader.new) }
+            input.entry.bytes.now 0 read self.old self.new reader.old reader.new) }
         ensures refuses { IfErr result
             (λ refused.
             IsRefusedAt (chunk_call false P.step P.is_terminated B.limit input.entry.bytes.now)
-            (P.value_of performer.new) from refused.read self.old self.new reader.old reader.new) }
+            (P.value_of performer.new) 0 refused.read self.old self.new reader.old reader.new) }
     {
         Ok(match self.state {
             // Never: `drive_one` reads text. A panic would stay in the program.
-            State::Text(_) => from,
-            State::Escape => self.read_after_escape::<P, G, false>(reader, performer, input, from),
+            State::Text(_) => 0,
+            State::Escape => self.read_after_escape::<P, G, false>(reader, performer, input, 0),
             State::EscapeIntermediate => {
-                self.read_intermediates::<P, G, false>(reader, performer, input, from)
+                self.read_intermediates::<P, G, false>(reader, performer, input, 0)
             }
             State::ControlSequence(reached) => {
-                self.read_rest_of_head::<P, G, false>(reader, performer, input, reached, from)
+                self.read_rest_of_head::<P, G, false>(reader, performer, input, reached, 0)
             }
             State::DeviceControl(reached) => {
-                self.read_device_control::<P, G, false>(reader, performer, input, reached, from)
+                self.read_device_control::<P, G, false>(reader, performer, input, reached, 0)
             }
-            State::DeviceData => self.read_data_byte(reader, performer, input, from),
+            State::DeviceData => self.read_data_byte(reader, performer, input),
             State::SystemCommand => {
-                self.read_system_command::<P, G, false>(reader, performer, input, from)?
+                self.read_system_command::<P, G, false>(reader, performer, input, 0)?
             }
             State::IgnoredString => {
-                self.read_ignored_string::<P, G, false>(reader, performer, input, from)
+                self.read_ignored_string::<P, G, false>(reader, performer, input, 0)
             }
         })
     }

@@ -6,7 +6,7 @@ ghost use Rattle.vte_core.specs.Parser.{IsCloneOfParser};
 ghost use Rattle.vte_core.specs.Open.{SaysOpen, SaysWhetherOpen};
 ghost use Rattle.vte_core.specs.Outcome.{SaysLoss};
 ghost use Rattle.vte_core.specs.Stream.{outcome};
-ghost use Rattle.vte_core.specs.private.Prelude.{chunk_call, ComesToRun, Costs, NoCharacterStops, per_byte, read_before_range, read_count, read_through_range, ReadsUntilRefused, ReadsUpTo, ReportsOutsideRuns, total_looks};
+ghost use Rattle.vte_core.specs.private.Prelude.{chunk_call, ComesToRun, Costs, NoCharacterStops, per_byte, read_before_range, read_through_range, ReadsCall, ReadsUntilRefused, ReportsOutsideRuns, total_looks};
 
 use crate::parser::{Machine, Open, Refused, State};
 use crate::reader::{ByCharacter, Chunk, CountedPerform, Granularity, Looks, RunRange};
@@ -184,19 +184,10 @@ impl<A: Allocator> LongParser<A> {
     ) -> Result<usize, Refused>
         requires no_stop { G.IN_RUNS ≡ true → MAY_STOP ≡ true
             → NoCharacterStops P.layout P.step P.is_terminated }
-        ensures reads { IfOk result
-            (λ read. ReadsUpTo
+        ensures { ReadsCall
             (chunk_call MAY_STOP P.step P.is_terminated None chunk.entry.bytes.now)
-            (P.value_of performer.old) (P.value_of performer.new) read self.old.machine
-            self.new.machine) }
-        ensures refuses { IfErr result
-            (λ refused. ReadsUntilRefused
-            (chunk_call MAY_STOP P.step P.is_terminated None chunk.entry.bytes.now)
-            (P.value_of performer.old) (P.value_of performer.new) refused.read self.old.machine
-            self.new.machine) }
-        ensures costs { Costs (per_byte 5) chunk.entry.bytes.now result (read_count result)
-            self.old.machine self.new.machine
-            (total_looks self.old.looks) (total_looks self.new.looks) }
+            (P.value_of performer.old) (P.value_of performer.new) result self.old.machine
+            self.new.machine (total_looks self.old.looks) (total_looks self.new.looks) }
     {
         let (mut reader, input) = chunk.into_reader();
         let result = self

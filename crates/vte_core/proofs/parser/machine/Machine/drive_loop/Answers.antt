@@ -16,22 +16,34 @@ pub loop-position-preserved : goal.loop-position-preserved
 loop-position-preserved g c = search (rules, arith)
 
 -- A stop before a byte.
-pub returns-then-terminated-clause-reads : goal.returns-then-terminated-clause-reads
-returns-then-terminated-clause-reads g c = search (rules, arith, call_ends-at_stop, may_stop-some)
+pub returns-then-terminated : goal.returns-then-terminated
+returns-then-terminated g c = record {
+  reads = search (rules, arith, call_ends-at_stop, may_stop-some);
+  refuses = tt;
+  costs = search (rules, arith);
+}
 
 -- All bytes are read.
-pub returns-clause-reads : goal.returns-clause-reads
-returns-clause-reads g c = call_ends-with_all (omega arith) c.loop-position.invariant.is_at_position
+pub returns : goal.returns
+returns g c = record {
+  reads = call_ends-with_all (omega arith) c.loop-position.invariant.is_at_position;
+  refuses = tt;
+  costs = search (rules, arith);
+}
 
 -- Memory was refused: what was read before adds up, and the refused byte is at that position.
-pub returns-in_err-position-clause-refuses : goal.returns-in_err-position-clause-refuses
-returns-in_err-position-clause-refuses g c =
+pub returns-in_err-position : goal.returns-in_err-position
+returns-in_err-position g c =
     let error = err_from_is_err_and c.from_residual.result c.from_residual.ensures.1 in
     let failed = c.in_err-position.ensures in
     rw (error.1 ∙ ap Err error.2) (record {
-      before_end = omega (arith, c.loop-position-test.true, c.len.ensures, failed.refuses.stays);
-      is_at_position = λ stream has_read.
-          failed.advances.is_at_position _ stream (c.loop-position.invariant.is_at_position stream has_read);
-      may_go_on = failed.refuses.may_go_on;
-      refused = failed.refuses.refused;
+      reads = tt;
+      refuses = record {
+        before_end = omega (arith, c.loop-position-test.true, c.len.ensures, failed.refuses.stays);
+        is_at_position = λ stream has_read.
+            failed.advances.is_at_position _ stream (c.loop-position.invariant.is_at_position stream has_read);
+        may_go_on = failed.refuses.may_go_on;
+        refused = failed.refuses.refused;
+      };
+      costs = search (rules, arith);
     })

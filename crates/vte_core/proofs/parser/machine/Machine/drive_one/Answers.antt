@@ -1,42 +1,26 @@
 -- From the start of the call the byte leads to its end, unless memory is refused for it.
 use Rattle.vte_core.specs.declared.parser.refused.Refused.{Refused}
 use Rattle.vte_core.specs.declared.reader.Reader.{Reader}
-use Rattle.vte_core.specs.private.Prelude.{caller_looks, Costs, IsRefusedAt, per_byte, read_count, ReadsUntilRefused, ReadsUpTo, ReadsWithin}
+use Rattle.vte_core.specs.private.Prelude.{caller_looks, IsRefusedAt, per_byte, read_count, ReadsCall, ReadsWithin}
 use Rattle.vte_core.proofs.Common.{Advances, arith, ChunkCall, Err, IfErr, IfOk, IsSettled, length, looks_of, Machine, Ok, Result, ℕ, ◌≡◌}
 use Rattle.vte_core.proofs.lemmas.positions.CallEnds.{call_ends-with_all, starts-at}
 use Rattle.vte_core.proofs.lemmas.positions.SettledStates.{settled-nothing, settled-outside, settled-same_state}
 use Rattle.vte_core.proofs.parser.machine.Machine.drive_one.Goals as goal
 
 -- If no character is open, a stretch of one byte is the call.
-reads-one : {V B outside : Type 0} {call : ChunkCall V} {old new : V} {n : ℕ} {before next : Machine B}
-    {old_reader new_reader : Reader} → length call.bytes ≡ 1 → IsSettled before.state
-    → Advances outside call old new 0 n before next
-    → ReadsWithin (per_byte 5) (caller_looks 0) call.bytes 0 n before next old_reader new_reader
-    → ReadsUpTo call old new n before next
-reads-one one_byte settled advances reads_within =
-    call_ends-with_all (omega
-    (arith, one_byte, reads_within.spends.within, reads_within.reads_some (omega (arith, one_byte))))
-    (λ stream has_read. advances.is_at_position _ stream (starts-at settled has_read))
-
--- What a call ensures of this result.
-record Drives {V B : Type 0} (call : ChunkCall V) (old new : V) (before next : Machine B)
-    (old_reader new_reader : Reader) (result : Result ℕ Refused) : Type 0 where
-  reads : IfOk result (λ read. ReadsUpTo call old new read before next)
-  refuses : IfErr result (λ refused. ReadsUntilRefused call old new refused.read before next)
-  costs : Costs (per_byte 5) call.bytes result (read_count result) before next (looks_of old_reader)
-      (looks_of new_reader)
-
-drives-one : {V B outside : Type 0} {call : ChunkCall V} {old new : V} {before next : Machine B}
+reads_call-one : {V B outside : Type 0} {call : ChunkCall V} {old new : V} {before next : Machine B}
     (old_reader new_reader : Reader) (result : Result ℕ Refused) → length call.bytes ≡ 1 → IsSettled before.state
     → Advances outside call old new 0 (read_count result) before next
     → IfOk result
     (λ read. ReadsWithin (per_byte 5) (caller_looks 0) call.bytes 0 read before next old_reader new_reader)
     → IfErr result (λ refused. IsRefusedAt call new 0 refused.read before next old_reader new_reader)
-    → Drives call old new before next old_reader new_reader result
-drives-one old_reader new_reader (Ok read) one_byte settled advances reads_within refuses =
+    → ReadsCall call old new result before next (looks_of old_reader) (looks_of new_reader)
+reads_call-one old_reader new_reader (Ok read) one_byte settled advances reads_within refuses =
     let spends = reads_within.spends in
     record {
-      reads = reads-one one_byte settled advances reads_within;
+      reads = call_ends-with_all
+          (omega (arith, one_byte, spends.within, reads_within.reads_some (omega (arith, one_byte))))
+          (λ stream has_read. advances.is_at_position _ stream (starts-at settled has_read));
       refuses = tt;
       costs = record {
         looks_at_most = omega (arith, one_byte, spends.looks_at_most, spends.within);
@@ -45,7 +29,7 @@ drives-one old_reader new_reader (Ok read) one_byte settled advances reads_withi
         keeps_memory = spends.keeps_memory;
       };
     }
-drives-one old_reader new_reader (Err refused) one_byte settled advances reads_within refuses = record {
+reads_call-one old_reader new_reader (Err refused) one_byte settled advances reads_within refuses = record {
   reads = tt;
   refuses = record {
     before_end = omega (arith, one_byte, refuses.stays);
@@ -62,23 +46,24 @@ drives-one old_reader new_reader (Err refused) one_byte settled advances reads_w
 }
 
 -- A text in which no character is open.
-pub returns-then-is_empty-clause-reads : goal.returns-then-is_empty-clause-reads
-returns-then-is_empty-clause-reads g c =
+pub returns-then-is_empty : goal.returns-then-is_empty
+returns-then-is_empty g c =
     let read = c.read_last_of_text.ensures in
-    reads-one c.requires.one_byte
+    reads_call-one c.args.reader.now c.read_last_of_text.new.reader (Ok c.read_last_of_text.result)
+    c.requires.one_byte
     (settled-same_state c.in-Text.is (settled-nothing c.in-Text.begun (c.is_empty.ensures.0 c.if-is_empty.true)))
-    read.advances read.reads_within
+    read.advances read.reads_within tt
 
 -- The head of a control sequence.
-pub returns-in-ControlSequence-clause-reads : goal.returns-in-ControlSequence-clause-reads
-returns-in-ControlSequence-clause-reads g c =
+pub returns-in-ControlSequence : goal.returns-in-ControlSequence
+returns-in-ControlSequence g c =
     let read = c.read_parameter_byte.ensures in
-    reads-one c.requires.one_byte (settled-same_state c.in-ControlSequence.is tt) read.advances read.reads_within
+    reads_call-one c.args.reader.now c.read_parameter_byte.new.reader (Ok c.read_parameter_byte.result)
+    c.requires.one_byte (settled-same_state c.in-ControlSequence.is tt) read.advances read.reads_within tt
 
 -- Any other state.
 pub returns : goal.returns
 returns g c =
     let read = c.read_outside_text.ensures in
-    let drives = drives-one c.args.reader.now c.read_outside_text.new.reader c.read_outside_text.result
-    c.requires.one_byte (settled-outside _ c.in_default.not-Text) read.advances read.reads_within read.refuses in
-    record { reads = drives.reads; refuses = drives.refuses; costs = drives.costs }
+    reads_call-one c.args.reader.now c.read_outside_text.new.reader c.read_outside_text.result
+    c.requires.one_byte (settled-outside _ c.in_default.not-Text) read.advances read.reads_within read.refuses

@@ -17,7 +17,7 @@ returns-clause-advances g c =
           rw (branch.self-is, branch.performer-is)
           (advances-without_promise (advances-first {given = ⊥} c.requires.may_read low high
           (completes-all (goes_on-nowhere c.args.self.now (unfinished-some _ _)) refl
-          (omega (arith, c.requires.last)))))
+          (omega (arith, c.requires.one_byte)))))
       | else-is_lead branch ↦
           let reported = branch.report_lone_byte.ensures in
           rw (branch.self-is, branch.performer-is)

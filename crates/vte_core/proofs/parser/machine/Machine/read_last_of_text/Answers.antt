@@ -1,5 +1,5 @@
 -- A printed byte is a character. What any other one does, its own function says.
-use Rattle.vte_core.proofs.Common.{refl, sym, ◌∙◌}
+use Rattle.vte_core.proofs.Common.{sym, ◌∙◌}
 use Rattle.vte_core.proofs.lemmas.positions.BetweenCharacters.{advances-printed}
 use Rattle.vte_core.proofs.parser.machine.Machine.read_last_of_text.Goals as goal
 
@@ -13,4 +13,4 @@ returns-then-is_printed_ascii-clause-advances g c =
       before_end = may_read.before_end;
       looked_at = c.byte_at-byte.ensures.value;
     })
-    (sym c.is_printed_ascii.ensures ∙ c.if-is_printed_ascii.true) refl c.print_char.ensures.value
+    (sym c.is_printed_ascii.ensures ∙ c.if-is_printed_ascii.true) c.from.ensures c.print_char.ensures.value

@@ -1,5 +1,5 @@
 -- Where a run ends: `no_run-X`, no run begins where X does. By the rows of UTF-8.
-use Rattle.vte_core.proofs.Common.{and_parts, ap, arith, Bool, cases_Bool, cases_lt, drop, drop_all, drop_more, ends_run, false, false≢true, from_to, HasNoRunAt, inl, inr, is_control_character, is_in, is_layout, is_well_formed, length, List, nat_tests, Range, refl, rules, scalar_of, second_range, slice_index, subst, suc, sym, take, true, utf8_rows, zero, ℕ, [], ◌+◌, ◌-◌, ◌<◌, ◌∙◌, ◌∷◌, ◌≡◌, ◌≤◌}
+use Rattle.vte_core.proofs.Common.{and_parts, ap, arith, Bool, cases_Bool, cases_lt, drop, drop_all, drop_more, ends_run, false, false≢true, from_to, HasNoRunAt, inl, inr, is_control_character, is_in, is_layout, is_well_formed, length, List, nat_tests, Range, refl, rules, scalar_of, second_range, slice_index, subst, suc, sym, take, true, utf8_rows, zero, ℕ, [], ◌+◌, ◌<◌, ◌∙◌, ◌∷◌, ◌≡◌, ◌≤◌}
 use Rattle.vte_core.proofs.lemmas.bytes.Scalars.{continuation-bounds, in_range-bounds}
 use Rattle.vte_core.proofs.lemmas.bytes.Utf8.{continuation, fits, rows-lone, rows-none, second_plain, tests-ascii, tests-four, tests-none, tests-three, tests-two}
 

@@ -1,6 +1,6 @@
 -- The position of a parser: where a call starts (`starts-X`), where it stops or ends (`call_ends-X`), and where no
 -- character is open (`settles`).
-use Rattle.vte_core.proofs.Common.{added, after, arith, ChunkCall, ComesTo, HasReadWithLimit, IsAtPosition, IsInsidePosition, IsSettled, length, List, Machine, ReadsUpTo, resumed_stream, rules, StopsExactly, subst, true, ℕ, ◌++◌, ◌+◌, ◌-◌, ◌<◌, ◌≡◌, ◌≤◌}
+use Rattle.vte_core.proofs.Common.{added, after, arith, ChunkCall, ComesTo, HasReadWithLimit, IsAtPosition, IsInsidePosition, IsSettled, length, List, Machine, ReadsUpTo, resumed_stream, rules, StopsExactly, subst, true, ℕ, ◌++◌, ◌<◌, ◌≡◌, ◌≤◌}
 use Rattle.vte_core.proofs.lemmas.fields.PlaceOfState.{is_at-place}
 use Rattle.vte_core.proofs.lemmas.shapes.BrokenCharacters.{resumed_stream-all}
 use Rattle.vte_core.proofs.lemmas.positions.SettledStates.{settled-place}

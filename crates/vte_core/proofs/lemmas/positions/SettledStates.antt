@@ -1,5 +1,5 @@
 -- States in which no character is open, and their places. Whether a call may stop.
-use Rattle.vte_core.proofs.Common.{arith, bytes_of, Empty, eqb, false, InText, IsAtPlace, IsPlaceOfState, IsSettled, IsSettledPlace, Machine, nat_tests, not, Option, Place, refl, rules, State, subst, sym, Text, true, Unfinished, ℕ, [], ◌-◌, ◌<◌, ◌≡◌, ◌≤◌}
+use Rattle.vte_core.proofs.Common.{arith, bytes_of, Empty, eqb, false, InText, IsAtPlace, IsPlaceOfState, IsSettled, IsSettledPlace, Machine, nat_tests, not, Option, Place, refl, rules, State, subst, sym, Text, true, Unfinished, ℕ, [], ◌<◌, ◌≡◌, ◌≤◌}
 use Rattle.vte_core.proofs.lemmas.fields.PlaceOfState.{is_at-in}
 
 -- ---- the place of a state in which no character is open

@@ -10,7 +10,7 @@
 --
 -- Other files have an `advances-X` for each X that a function reads, such as `advances-text` and `advances-head`.
 use Rattle.vte_core.specs.private.Prelude.{IsOutsideRunsInState}
-use Rattle.vte_core.proofs.Common.{AddsOutsideRuns, Advances, after, All-nil, AnyEvents, arith, ChunkCall, Empty, escape, IsAfter, IsAtPlace, IsAtPosition, IsInsidePosition, IsOutsideRuns, IsSettled, IsSettledPlace, length, List, Machine, MayGoOn, Place, refl, resumed_stream, rules, slice_index, subst, sym, TakesBytes, Text, ℕ, [], ◌+◌, ◌-◌, ◌<◌, ◌∷◌, ◌≡◌}
+use Rattle.vte_core.proofs.Common.{AddsOutsideRuns, Advances, All-nil, AnyEvents, arith, ChunkCall, Empty, escape, IsAfter, IsAtPlace, IsAtPosition, IsInsidePosition, IsOutsideRuns, IsSettled, IsSettledPlace, length, List, Machine, MayGoOn, Place, refl, resumed_stream, rules, slice_index, subst, sym, TakesBytes, Text, ℕ, [], ◌+◌, ◌<◌, ◌∷◌, ◌≡◌}
 use Rattle.vte_core.proofs.lemmas.positions.SettledStates.{place-settled_text}
 use Rattle.vte_core.proofs.lemmas.positions.Progress.{progress-byte}
 use Rattle.vte_core.proofs.lemmas.positions.CallEnds.{settles}

@@ -174,9 +174,11 @@ static uint64_t now(void) {
 int main(int argc, char **argv) {
     size_t kind = 0, length = fread(stream, 1, STREAM, stdin);
     if (argc != 4) fail("expected KIND, CHUNK and PASSES");
+    if (length == STREAM) fail("the stream is too long");
     while (kind < sizeof kinds / sizeof *kinds && strcmp(kinds[kind].name, argv[1]) != 0) kind++;
     if (kind == sizeof kinds / sizeof *kinds) fail("no such kind");
     size_t chunk = strtoull(argv[2], NULL, 10);
+    if (chunk == 0) fail("CHUNK is a number from 1 on");
     void *reader = kinds[kind].new();
     uint64_t best = UINT64_MAX;
     for (long passes = strtol(argv[3], NULL, 10); passes > 0; passes--) {

@@ -6,7 +6,7 @@ from itertools import islice
 import pytest
 from lib.files import TOP
 from lib.generating.calls import TRAIT, calls_of
-from lib.generating.vectors import bytes_of, lines_of, read_all_vectors
+from lib.generating.vectors import bytes_of, expand_lines, read_all_vectors
 from tests.missing import miss, need
 
 from calling import FUNCTIONS
@@ -126,7 +126,7 @@ def make_scripts():
             by_bytes = [stream[at:at + 1] for at in range(len(stream))]
             for cut in (chunks, [stream], by_bytes)[:3 if len(stream) < MAX_CUT else 2]:
                 acts = [f"advance {chunk.hex()}" for chunk in cut]
-                step = acts, lines_of(vector["calls"]), (None, None, None)
+                step = acts, expand_lines(vector["calls"]), (None, None, None)
                 yield f"{vector['name']}, in {len(cut)}", [step], "timeouts" in vector
         elif vector["kind"] == "updates" and vector["timeout"] in ("counting", "expiring"):
             yield vector["name"], [*map(step_of, vector["steps"])], False
@@ -136,11 +136,11 @@ def step_of(step):
     """The acts of a vector's step, their calls, and if it is known what they leave: how many bytes
     are held, whether an update is pending, how often one began. One that expires is stopped."""
     if step.get("act") == "expire":
-        return ["stop_sync"], lines_of(step["calls"]), (0, 0, None)
+        return ["stop_sync"], expand_lines(step["calls"]), (0, 0, None)
     sets = step["timeouts"].count("set") if "timeouts" in step else None
     is_pending = min(1, step["count"]) if "count" in step else None
     act = f"advance {bytes_of(step['advance']).hex()}" if "advance" in step else "stop_sync"
-    return [act], lines_of(step["calls"]), (step.get("held"), is_pending, sets)
+    return [act], expand_lines(step["calls"]), (step.get("held"), is_pending, sets)
 
 
 SCRIPTS = list(make_scripts())

@@ -2,7 +2,7 @@
 from lib.building import builder
 from lib.generating.hostile_streams import OF_TEXT, make_hostile_stream
 from lib.generating.streams import read_recorded
-from lib.generating.vectors import bytes_of, lines_of, read_vectors
+from lib.generating.vectors import bytes_of, expand_lines, read_vectors
 from lib.judging import definition, house
 
 from library import output_of, run_at_once
@@ -75,7 +75,7 @@ def test_vectors_give_their_events_and_text(library):
     def check_vector(case):
         vector, stream = case
         is_text = vector["kind"] == "text"
-        wanted = bytes_of(vector["text"]) if is_text else join_lines(lines_of(vector["events"]))
+        wanted = bytes_of(vector["text"]) if is_text else join_lines(expand_lines(vector["events"]))
         ways = STRIP_WAYS if is_text else WAYS
         compare(library, f"vector: {vector['name']}", stream, wanted, [ways[0], ways[2]])
 

@@ -28,8 +28,8 @@ READERS = [(vte.Parser, "feed"), (lambda: vte.Parser(limit=1024), "feed"), (vte.
            (lambda: vte.Stripper("surrogateescape"), "strip")]
 
 
-def parsers():
-    """New parsers without a limit and with one."""
+def make_parsers():
+    """Makes parsers without a limit and with one."""
     return [vte.Parser(), vte.Parser(limit=1024)]
 
 
@@ -42,8 +42,8 @@ def cut(stream, size):
     return [stream[at:at + size] for at in range(0, len(stream), size)]
 
 
-def joined(events):
-    """Events whose texts and data are joined: these end where a call of `feed` does."""
+def join_runs(events):
+    """Joins texts and data, which end where a call of `feed` does."""
     made = []
     for event in events:
         is_run = isinstance(event, (Text, vte.Data, vte.calls.Input))
@@ -53,7 +53,7 @@ def joined(events):
     return made
 
 
-def by_vtlog(stream, *words):
+def run_vtlog(stream, *words):
     return subprocess.check_output([VTLOG, *words], input=stream)
 
 
@@ -72,8 +72,8 @@ WORDS = [b"\x1b", b"\x1b[1;31m", b"\x1b]0;a title", b"\x1bP1$q", b"\x1b_", b"\x1
 CHANCE = random.Random(1)
 
 
-def vectors(file, kind=None):
-    """The test vectors of a file, of all kinds or one."""
+def load_vectors(file, kind=None):
+    """Loads the test vectors of a file, of all kinds or one."""
     listed = json.loads((FOLDER / file).read_text())["vectors"] if FOLDER.is_dir() else []
     return [vector for vector in listed if kind in (None, vector["kind"])]
 
@@ -96,4 +96,5 @@ STREAMS = {
     "controls": b"a\x1b\x1b\x18\x1b\x1a\x1b[\x18\x1b\x7f\x1b\x80[1\x1b\x1b[m\x9b\x1b1\x85\x1b",
     "without ESC": "plain \u00fc\ufffd\t".encode() * 200 + b"\xff\xe2\x82\x18\xc3", "empty": b""}
 if FOLDER.is_dir():
-    STREAMS["vectors"] = b"".join(map(stream_of, vectors("events.json") + vectors("calls.json")))
+    STREAMS["vectors"] = b"".join(
+        map(stream_of, load_vectors("events.json") + load_vectors("calls.json")))

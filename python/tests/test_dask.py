@@ -7,7 +7,7 @@ import sys
 import time
 
 import pytest
-from common import EXAMPLES, STREAMS, VTLOG, by_vtlog
+from common import EXAMPLES, STREAMS, VTLOG, run_vtlog
 
 import vte
 
@@ -90,7 +90,7 @@ def assert_joined(folder, stream):
     """The pieces are the text, and nothing else is there, not even what is hidden."""
     pieces = pieces_of(folder)
     assert [int(piece.name[:8]) for piece in pieces] == [*range(len(pieces))]
-    text = by_vtlog(stream, "text") if VTLOG else vte.strip(stream)
+    text = run_vtlog(stream, "text") if VTLOG else vte.strip(stream)
     assert b"".join(piece.read_bytes() for piece in pieces) == text
 
 

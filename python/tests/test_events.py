@@ -6,7 +6,7 @@ import pickle
 import typing
 
 import pytest
-from common import EVENTS, READERS, STREAM, cut, feed, joined, parsers, text_of
+from common import EVENTS, READERS, STREAM, cut, feed, join_runs, make_parsers, text_of
 
 import vte
 from vte import Csi, Data, Esc, Execute, Hook, Osc, Put, Text, calls
@@ -79,7 +79,7 @@ def test_long_strings_in_chunks(make, size, kinds):
                Data(b"x")]
     found = feed(make(), cut(stream, size), kinds or {Text, Osc, Csi, Hook, Data})
     assert len(found) < 2 * len(stream) // size + 20
-    assert joined(found) == joined(it for it in wanted if kinds is None or type(it) in kinds)
+    assert join_runs(found) == join_runs(it for it in wanted if kinds is None or type(it) in kinds)
 
 
 def test_each_string_has_its_own_data(make):
@@ -127,7 +127,7 @@ def mapped(data):
     (memoryview(b"a-b-c")[::2], [Text("abc")]), (array.array("H", b"abcd"), [Text("abcd")]),
     (b"", []), (bytearray(), [])])
 def test_any_object_with_a_buffer(data, wanted):
-    for parser in parsers():
+    for parser in make_parsers():
         made = parser.feed(data)
         assert made == wanted and {*made} == {*wanted}
     texts = [vte.strip(data), vte.Stripper().strip(data), *vte.strip_lines([data])]
@@ -165,7 +165,7 @@ def test_copies(copied):
         parser, stripper = copied(parser), copied(stripper)
         assert (type(parser), parser.limit, vars(parser)) == (OwnParser, 1024, {"name": ["a"]})
         assert (type(stripper), stripper.more, vars(stripper)) == (Slots, 5, {"name": "b"})
-        assert joined(events + parser.feed(STREAM[at:])) == EVENTS
+        assert join_runs(events + parser.feed(STREAM[at:])) == EVENTS
         assert text + stripper.strip(STREAM[at:]) == "aü\r\U0001f600".encode() + b"\xff"
     with pytest.raises(TypeError, match="only parsers with a limit can be copied"):
         copied(vte.Parser())

@@ -16,7 +16,7 @@ from functools import partial
 from types import SimpleNamespace
 
 import pytest
-from common import cut, joined
+from common import cut, join_runs
 
 import vte
 from vte import Csi, Data, Execute, Osc
@@ -78,8 +78,8 @@ class Refusing:
         return refused if isinstance(refused, MemoryError) else MemoryError()
 
 
-def again(memory, function, *words):
-    """What is repeated until it isn't refused."""
+def retry(memory, function, *words):
+    """Repeats a call until it isn't refused."""
     while isinstance(answer := memory.call(function, *words), MemoryError):
         pass
     return answer
@@ -100,7 +100,7 @@ def feed(memory, stream, make, *kinds):
     reader = make()
     made, _ = read_all(memory, lambda data: reader.feed(data, *kinds), stream)
     # a byte after that means what it should
-    return joined(made + reader.feed(b"\x18\x1b[1mx"))
+    return join_runs(made + reader.feed(b"\x18\x1b[1mx"))
 
 
 def feed_until(memory, stream, stops, *kinds):
@@ -109,7 +109,7 @@ def feed_until(memory, stream, stops, *kinds):
         made, read = read_all(memory, lambda data: parser.feed_until(data, stops, *kinds),
                               stream[at:at + 150_000])
         at += read
-        found.append((joined(made), at))
+        found.append((join_runs(made), at))
     return found
 
 
@@ -120,7 +120,7 @@ def stop_sync(memory, stream):
         raise TimeoutError
     while isinstance(answer := memory.call(processor.stop_sync), MemoryError):
         made += answer.events if isinstance(answer, vte.Refused) else []
-    return joined(made + answer + processor.feed(b"end"))
+    return join_runs(made + answer + processor.feed(b"end"))
 
 
 def open_file(memory, stream, *kinds):
@@ -129,13 +129,13 @@ def open_file(memory, stream, *kinds):
     events = vte.open(SimpleNamespace(read=lambda _: next(chunks, b"")), 70_000, *kinds)
     while (event := memory.call(next, events, end)) is not end:
         made += [] if isinstance(event, MemoryError) else [event]
-    return joined(made)
+    return join_runs(made)
 
 
 def strip_chunks(memory, stream, errors):
     stripper, stream = vte.Stripper(errors), (stream + b"\xe2\xff\xf0\x9f") * 6
     chunks = map(bytearray, cut(stream, len(stream) // 3 + 1))
-    texts = [again(memory, stripper.strip, chunk) for chunk in chunks]
+    texts = [retry(memory, stripper.strip, chunk) for chunk in chunks]
     return b"".join(texts) + stripper.strip(b"", final=True)
 
 
@@ -148,7 +148,7 @@ def say_what_is_lost(memory, _):
 
 
 def strip(memory, stream, of, *errors):
-    return again(memory, vte.strip, of(stream), *errors)
+    return retry(memory, vte.strip, of(stream), *errors)
 
 
 def timeout(memory, _):
@@ -156,7 +156,7 @@ def timeout(memory, _):
     processor.feed(b"\x1b[?2026h")
     # Python keeps the memory of some numbers
     _kept = [processor.sync_timeout for _ in range(300)]
-    return again(memory, lambda: processor.sync_timeout) > 0
+    return retry(memory, lambda: processor.sync_timeout) > 0
 
 
 # functions, and what they get after the memory and a stream
@@ -176,8 +176,8 @@ OTHERS = {
     "strip of surrogates": (strip, lambda stream: "a\ud800" + stream.decode(errors="replace")),
     "strip that keeps bytes": (strip, bytes, "surrogateescape"),
     "a pickle": (lambda memory, stream: pickle.loads(
-        again(memory, pickle.dumps, vte.Parser(1024))).feed(stream),),
-    "a copy": (lambda memory, stream: again(memory, copy.copy, vte.Stripper()).strip(stream),),
+        retry(memory, pickle.dumps, vte.Parser(1024))).feed(stream),),
+    "a copy": (lambda memory, stream: retry(memory, copy.copy, vte.Stripper()).strip(stream),),
     "a timeout": (timeout,)}
 
 
@@ -192,8 +192,8 @@ def test_what_is_refused_memory_goes_on(way):
     assert (done.returncode, done.stderr) == (0, ""), done.stdout
 
 
-def in_child(act, room):
-    """How often memory was refused, and what came, by numbers."""
+def run_in_child(act, room):
+    """Runs an act in a child. Returns how often memory was refused, and what came, by numbers."""
     reading, writing = os.pipe()
     if os.fork() == 0:
         memory = Limited(room)
@@ -204,12 +204,12 @@ def in_child(act, room):
         os._exit(0)
     os.wait()
     os.close(writing)
-    return json.loads(os.read(reading, 99) or "null") or in_child(act, room)
+    return json.loads(os.read(reading, 99) or "null") or run_in_child(act, room)
 
 
 def limit(act):
     """Memory is refused at a quarter of some limits, at least."""
-    (_, *wanted), found = in_child(act, 1 << 40), [in_child(act, room) for room in ROOMS]
+    (_, *wanted), found = run_in_child(act, 1 << 40), [run_in_child(act, room) for room in ROOMS]
     assert [made for _, *made in found] == [wanted] * len(ROOMS)
     assert sum(refused > 0 for refused, *_ in found) > len(ROOMS) // 4
 

@@ -15,7 +15,7 @@ from pathlib import Path
 from resource import RUSAGE_SELF, getrusage
 
 import pytest
-from common import READERS, parsers
+from common import READERS, make_parsers
 
 import vte
 from vte import Csi, Osc, Text, calls
@@ -35,7 +35,7 @@ def test_public_names():
     assert of <= {"vte", "vte._parts", "vte._reader", "vte._vte"}
     assert doctest.testmod(vte).failed == 0
     assert importlib.metadata.version("naqshuve-vte") == vte.__version__
-    assert [made.limit for made in (*parsers(), vte.Parser(1024))] == [None, 1024, 1024]
+    assert [made.limit for made in (*make_parsers(), vte.Parser(1024))] == [None, 1024, 1024]
     for name, value in NAMES.items():
         # a named tuple without a text of its own has its fields there
         has_fields = isinstance(value, type) and value.__doc__.startswith(f"{value.__name__}(")
@@ -142,7 +142,7 @@ LEAKED = b"".join(b"\x1b[%dm\x1b]0;%d\x07text \xff\n\x1bP%dqdata\x1b\\" % (it, i
 
 
 def use_everything():
-    for parser in parsers():
+    for parser in make_parsers():
         parser.feed(LEAKED), parser.feed(LEAKED, {vte.Data}), parser.feed_until(LEAKED, {Osc})
     pickle.loads(pickle.dumps(parser))
     vte.Processor().feed(LEAKED + b"\x1b[?2026h")

@@ -10,7 +10,7 @@ import subprocess
 import sys
 
 import pytest
-from common import EXAMPLES, STREAMS, VTLOG, by_vtlog, joined
+from common import EXAMPLES, STREAMS, VTLOG, join_runs, run_vtlog
 
 import vte
 
@@ -38,12 +38,12 @@ def test_parts_give_the_events_and_the_text_of_the_stream(name, size):
         for limit in None, 1024:
             events = [vte.Parser(limit).feed(chunk, kinds) for chunk in chunks]
             # a text may end where a part does: the sequence that follows may have no event
-            found = joined(sum(pickle.loads(pickle.dumps(events)), []))
-            assert found == joined(vte.Parser(limit).feed(stream, kinds))
+            found = join_runs(sum(pickle.loads(pickle.dumps(events)), []))
+            assert found == join_runs(vte.Parser(limit).feed(stream, kinds))
     text = b"".join(map(vte.strip, chunks))
     assert text == vte.strip(stream)
     # CAN says that the stream ends, as `strip` takes it
-    assert not VTLOG or text == by_vtlog(stream + b"\x18", "text")
+    assert not VTLOG or text == run_vtlog(stream + b"\x18", "text")
 
 
 def test_a_cut_before_the_escape_is_wrong():

@@ -2,8 +2,8 @@
 import re
 
 import pytest
-from common import WORDS, by_vtlog, feed, joined, needs_vtlog, parsers, text_of
-from test_vectors import event_lines
+from common import WORDS, feed, join_runs, make_parsers, needs_vtlog, run_vtlog, text_of
+from test_vectors import format_events
 
 import vte
 from vte import Csi, Data, Esc, Execute, Hook, Osc, Put, Text, Unhook
@@ -28,22 +28,22 @@ often = settings(deadline=None, max_examples=150)
 @often
 @given(strategies.lists(strategies.tuples(chunks, some_kinds), max_size=5))
 def test_kinds(stream):
-    for parser, other in zip(parsers(), parsers()):
+    for parser, other in zip(make_parsers(), make_parsers()):
         for chunk, kinds in stream:
             found, everything = parser.feed(chunk, kinds), other.feed(chunk)
             if kinds and Data in kinds:
                 # the data of each string are one event
-                everything = joined(Data(bytes(event)) if isinstance(event, Put) else event
-                                    for event in everything)
+                everything = join_runs(Data(bytes(event)) if isinstance(event, Put) else event
+                                       for event in everything)
             assert found == [it for it in everything if kinds is None or type(it) in kinds]
 
 
 @often
 @given(streams, strategies.sets(strategies.sampled_from(ENDS), min_size=1), some_kinds)
 def test_chunks_and_stops(stream, stops, kinds):
-    for parser, stopped, some, other in zip(parsers(), parsers(), parsers(), parsers()):
+    for parser, stopped, some, other in zip(*(make_parsers() for _ in range(4))):
         wanted, events = other.feed(b"".join(stream)), []
-        assert joined(feed(parser, stream)) == wanted
+        assert join_runs(feed(parser, stream)) == wanted
         for chunk in stream:
             while chunk:
                 more, read = stopped.feed_until(chunk, stops)
@@ -53,7 +53,7 @@ def test_chunks_and_stops(stream, stops, kinds):
                 assert (found, same) == ([event for event in more if kinds is None
                                           or type(event) in kinds - {Data}], read)
                 events, chunk = events + more, chunk[read:]
-        assert joined(events) == wanted
+        assert join_runs(events) == wanted
     if not any(isinstance(event, Osc) and event.truncated for event in wanted):
         assert wanted == vte.Parser().feed(b"".join(stream))
 
@@ -82,13 +82,13 @@ def test_texts_and_calls(stream):
     assert "".join(vte.strip_lines([whole.decode(errors="surrogateescape")], "surrogateescape")
                    ) == kept.decode(errors="surrogateescape")
     if b"2026" not in whole:
-        assert joined(feed(vte.Processor(), stream)) == vte.Processor().feed(whole)
+        assert join_runs(feed(vte.Processor(), stream)) == vte.Processor().feed(whole)
 
 
 @needs_vtlog
 @often
 @given(streams)
 def test_as_vtlog(stream):
-    whole, found = b"".join(stream), event_lines(feed(vte.Parser(limit=1024), stream))
-    assert found == by_vtlog(whole).decode().splitlines()
-    assert vte.Stripper().strip(whole) == by_vtlog(whole, "text")
+    whole, found = b"".join(stream), format_events(feed(vte.Parser(limit=1024), stream))
+    assert found == run_vtlog(whole).decode().splitlines()
+    assert vte.Stripper().strip(whole) == run_vtlog(whole, "text")

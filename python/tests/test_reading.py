@@ -9,7 +9,7 @@ import sys
 from unittest import mock
 
 import pytest
-from common import EVENTS, EXAMPLES, STREAM, cut, joined, parsers
+from common import EVENTS, EXAMPLES, STREAM, cut, join_runs, make_parsers
 
 import vte
 from vte import Csi, Esc, Execute, Hook, Osc, Put, Text
@@ -36,7 +36,7 @@ def source(request, path):
 @pytest.mark.parametrize("size", [1, 3, 65536])
 def test_files(source, size):
     with vte.open(source, size) as events:
-        assert joined(events) == EVENTS
+        assert join_runs(events) == EVENTS
 
 
 @pytest.mark.parametrize("kinds", [
@@ -46,10 +46,10 @@ def test_files(source, size):
     lambda kinds: kinds, iter, lambda kinds: [*kinds][0] if len(kinds) == 1 else kinds])
 def test_kinds(source, kinds, given):
     wanted = [event for event in EVENTS if type(event) in set(kinds)]
-    for parser in parsers():
+    for parser in make_parsers():
         assert parser.feed(STREAM, given(kinds)) + parser.feed(STREAM, given(kinds)) == wanted * 2
     with vte.open(source, 5, given(kinds)) as events:
-        assert joined(events) == wanted
+        assert join_runs(events) == wanted
 
 
 def test_who_closes_a_file(path):
@@ -100,7 +100,7 @@ def test_an_end_in_the_middle(path):
     for end, size in itertools.product(range(len(STREAM) + 1), [1, 7, 65536]):
         path.write_bytes(STREAM[:end])
         with vte.open(path, size) as events:
-            assert joined(events) == joined(vte.Parser().feed(STREAM[:end]))
+            assert join_runs(events) == join_runs(vte.Parser().feed(STREAM[:end]))
     assert list(vte.open(io.BytesIO(b"caf\xe9"))) == [Text("caf")]
 
 
@@ -118,7 +118,7 @@ def test_errors_of_files():
     os.close(slave)
     # only one error is the end of a terminal
     events = vte.open(master)
-    assert joined(events) == [Text("a"), Csi(((1,),), b"", False, "m"), Text("b")]
+    assert join_runs(events) == [Text("a"), Csi(((1,),), b"", False, "m"), Text("b")]
     os.close(master)
     with pytest.raises(OSError, match="Bad file descriptor"):
         next(events)
@@ -150,7 +150,7 @@ def test_reading_goes_on_after_an_error(monkeypatch, size):
             made.append(next(events, end))
         except (OSError, MemoryError) as error:
             errors.add(type(error))
-    assert joined(made[:-1]) == EVENTS and errors >= {OSError, MemoryError}
+    assert join_runs(made[:-1]) == EVENTS and errors >= {OSError, MemoryError}
 
 
 def test_standard_input():

@@ -4,7 +4,7 @@ import itertools
 
 import pytest
 from call_words import lines_of, words_of_line
-from common import FOLDER, cut, feed, parsers, stream_of, vectors
+from common import FOLDER, cut, feed, load_vectors, make_parsers, stream_of
 from events import line
 
 import vte
@@ -14,20 +14,21 @@ OPEN = [None, "character", "esc", "csi", "dcs", "osc", "ignored"]
 
 
 def each(file, kind):
-    return pytest.mark.parametrize("vector", vectors(file, kind), ids=lambda vector: vector["id"])
+    return pytest.mark.parametrize(
+        "vector", load_vectors(file, kind), ids=lambda vector: vector["id"])
 
 
-def cuttings(vector):
-    """The chunks, the whole, and single bytes."""
+def list_cuts(vector):
+    """Lists ways to cut a vector's stream: its chunks, the whole, and single bytes."""
     stream = stream_of(vector)
     return [*map(bytes.fromhex, vector["pieces"])], [stream], cut(stream, 1)
 
 
-def event_lines(events):
+def format_events(events):
     return [part for event in events for part in line(event).split("\n") if part]
 
 
-def call_lines(made):
+def format_calls(made):
     return [part for call in made for part in lines_of(call)]
 
 
@@ -40,9 +41,9 @@ def test_events(vector):
     if vector["limit"] not in (None, 1024):
         pytest.skip("no parser has this limit")
     limits = {None, vector["limit"]} if len(stream_of(vector)) <= 1024 else {vector["limit"]}
-    for chunks, limit in itertools.product(cuttings(vector), limits):
+    for chunks, limit in itertools.product(list_cuts(vector), limits):
         parser = vte.Parser(limit)
-        assert event_lines(feed(parser, chunks)) == vector["events"]
+        assert format_events(feed(parser, chunks)) == vector["events"]
         # the next byte means what it should
         assert parser.feed(b"\x18x")[-2:] == [vte.Execute(0x18), vte.Text("x")]
         assert parser.feed(b"x") == [vte.Text("x")]
@@ -52,9 +53,9 @@ def test_events(vector):
 def test_open(monkeypatch, vector):
     monkeypatch.syspath_prepend(FOLDER.parent / "tools")
     from lib.judging.open_ends import open_at_end
-    stream, by_bytes = stream_of(vector)[:300], parsers()
+    stream, by_bytes = stream_of(vector)[:300], make_parsers()
     for end in range(len(stream) + 1):
-        others = parsers()
+        others = make_parsers()
         # what is no command is skipped
         [parser.feed(stream[:end], vte.Osc) for parser in others]
         [parser.feed(stream[end - 1:end]) for parser in by_bytes if end]
@@ -63,7 +64,7 @@ def test_open(monkeypatch, vector):
 
 @each("calls.json", "text")
 def test_text(vector):
-    for chunks, errors in itertools.product(cuttings(vector), ["replace", "surrogateescape"]):
+    for chunks, errors in itertools.product(list_cuts(vector), ["replace", "surrogateescape"]):
         stripper = vte.Stripper(errors)
         texts = [*map(stripper.strip, chunks)]
         # the text of a vector ends before an unfinished character
@@ -80,11 +81,11 @@ def test_calls(vector):
     wanted, stream = wanted_words(vector["calls"]), stream_of(vector)
     if len(stream) > 1024:
         pytest.skip("a processor has no limit")
-    for chunks in cuttings(vector):
+    for chunks in list_cuts(vector):
         processor = vte.Processor()
-        found = call_lines(feed(processor, chunks))
+        found = format_calls(feed(processor, chunks))
         # what is held comes when the update is stopped
-        found += call_lines(processor.stop_sync()) if processor.sync_timeout is not None else []
+        found += format_calls(processor.stop_sync()) if processor.sync_timeout is not None else []
         assert processor.feed(b"\x18x")[-1:] == [calls.Input("x")]
         assert found == wanted or found[:len(wanted)] == wanted and b"2026" in stream
 
@@ -99,5 +100,5 @@ def test_updates(vector):
             pytest.skip("no clock tells a processor that an update has expired")
         made = (processor.feed(bytes.fromhex(step["advance"])) if "advance" in step
                 else processor.stop_sync())
-        assert call_lines(made) == wanted_words(step["calls"])
+        assert format_calls(made) == wanted_words(step["calls"])
         assert processor.sync_bytes_count == step.get("held", processor.sync_bytes_count)

@@ -82,7 +82,7 @@ def test_each_option_of_run_changes_one_thing(monkeypatch, words, changes):
 
     monkeypatch.setattr(measuring, "Programs", make_programs)
     monkeypatch.setattr(measuring, "compare_checksums", lambda *_: None)
-    monkeypatch.setattr(measuring, "make_passes", lambda *_: lambda: 1)
+    monkeypatch.setattr(measuring, "make_timer", lambda *_: lambda: 1)
     monkeypatch.setattr(figures, "show_row", rows.append)
     monkeypatch.setattr(figures, "tabulate", lambda _: [])
     monkeypatch.setattr(os, "sched_setaffinity", lambda _, cores: found["cores"].append(cores))

@@ -1,5 +1,6 @@
 """Tests that tools/check_lines refuses what it says."""
 import subprocess
+from pathlib import Path
 
 import pytest
 
@@ -48,3 +49,31 @@ def test_how_long_files_and_functions_may_be(path, begin, line, end, most, wante
     assert find_faults(path, begin + most * line + end) == []
     longer = begin + (most + 1) * line + end
     assert find_faults(path, longer) == [f"{path}: {wanted}"] * bool(wanted)
+
+
+# two imports, and whether they are sorted
+@pytest.mark.parametrize("above, below, is_sorted", [
+    ("use Rattle.std.b.{x}", "use Rattle.a.b.{x}", True),
+    ("use Rattle.a.b.{x}", "use Rattle.std.b.{x}", False),
+    ("use Rattle.a.b.{x}", "use Rattle.a.C.{x}", True),
+    ("use Rattle.a.C.{x}", "use Rattle.a.b.{x}", False),
+    ("use Rattle.a.b.{x}", "use Rattle.a_b.{x}", True),
+    ("use Rattle.a.{x}", "use Rattle.a as b", True),
+    ("use Rattle.a.{x}", "use Rattle.a.{y}", False), ("use Rattle.a", "use Rattle.a", False),
+    ("pub use Rattle.a.{y}", "unfoldable pub use Rattle.a.{x}", True),
+    ("unfoldable pub use Rattle.a.{x}", "pub use Rattle.a.{y}", False),
+    ("use Rattle.b.{x}", "\nuse Rattle.a.{x}", True)])
+def test_which_imports_are_sorted(above, below, is_sorted):
+    fault = [":2: an import that belongs above the one before, or into it"] * (not is_sorted)
+    ghosts = [line.replace("use", "ghost use") + ";" for line in (above, below)]
+    for path, lines in ("a.antt", [above, below]), ("b.rt", ghosts):
+        assert find_faults(path, "\n".join(lines)) == [path + it for it in fault]
+        Path(path).unlink()
+
+
+@pytest.mark.parametrize("names, is_sorted", [
+    ("Bool, false, List, ℕ, [], ◌≡◌", True), ("a_b, aB, B", True), ("B, a", False),
+    ("[], ℕ", False), ("ℕ, a", False), ("◌≡◌, []", False)])
+def test_which_names_are_sorted(names, is_sorted):
+    wanted = ["a.antt:1: an import whose names aren't sorted"] * (not is_sorted)
+    assert find_faults("a.antt", f"use Rattle.a.{{{names}}}\n") == wanted

@@ -19,7 +19,7 @@ fn lines_of(
     let mut lines = EventLines::new(rt.alloc(), Stop::Never);
     assert!(rt;
         feed_new(size, &mut lines, Text::Characters, &[prefix, back]),
-        "no parser has the store size {size}"
+        "no parser has the buffer size {size}"
     );
     Ok(lines)
 }

@@ -22,7 +22,7 @@ fn assert_lines(
     let mut lines = EventLines::new(rt.alloc(), Stop::Never);
     assert!(rt;
         feed_new(size, &mut lines, text, chunks),
-        "no parser has the store size of {name}"
+        "no parser has the buffer size of {name}"
     );
     assert_eq!(rt;
         lines.text(),

@@ -13,86 +13,65 @@ use vte_core::{LongParser, Parser};
 /// The number of streams per test.
 const STREAMS: u32 = 1000;
 
-/// The lines of the events of a stream in chunks.
-fn events_of(alloc: Global, chunks: &[&[u8]]) -> EventLines {
+/// The lines of the events of a stream in chunks. Text comes in runs or by character.
+fn events_of(alloc: Global, in_runs: bool, chunks: &[&[u8]]) -> EventLines {
     let mut lines = EventLines::new(alloc, Stop::Never);
     let mut parser = Parser::<1024>::new();
     for chunk in chunks {
-        parser.advance(&mut lines, chunk);
+        if in_runs {
+            parser.advance_text(&mut lines, chunk);
+        } else {
+            parser.advance(&mut lines, chunk);
+        }
     }
     lines
 }
 
-/// The lines of the events of a stream in chunks, with text in runs.
-fn events_in_runs_of(alloc: Global, chunks: &[&[u8]]) -> EventLines {
-    let mut lines = EventLines::new(alloc, Stop::Never);
-    let mut parser = Parser::<1024>::new();
-    for chunk in chunks {
-        parser.advance_text(&mut lines, chunk);
-    }
-    lines
-}
-
-/// The lines of the events of a stream in chunks, by a parser without a limit on commands.
+/// The same lines, by a parser without a limit on commands.
 fn unlimited_events_of(
     rt: &(impl Abort + AllocGlobal),
+    in_runs: bool,
     chunks: &[&[u8]],
 ) -> Result<EventLines, Fail> {
     let mut lines = EventLines::new(rt.alloc(), Stop::Never);
     let mut parser = LongParser::new(rt.alloc());
     for chunk in chunks {
-        assert_eq!(rt; parser.advance(&mut lines, chunk), Ok(()));
+        let outcome = if in_runs {
+            parser.advance_text(&mut lines, chunk)
+        } else {
+            parser.advance(&mut lines, chunk)
+        };
+        assert_eq!(rt; outcome, Ok(()));
     }
     Ok(lines)
 }
 
-/// The lines of the events of a stream in chunks, by a parser without a limit, in runs.
-fn unlimited_events_in_runs_of(
-    rt: &(impl Abort + AllocGlobal),
-    chunks: &[&[u8]],
-) -> Result<EventLines, Fail> {
-    let mut lines = EventLines::new(rt.alloc(), Stop::Never);
-    let mut parser = LongParser::new(rt.alloc());
-    for chunk in chunks {
-        assert_eq!(rt; parser.advance_text(&mut lines, chunk), Ok(()));
+/// A stream has the same events in chunks, in runs or by character, as it has whole by character.
+fn assert_same_events(rt: &(impl Abort + AllocGlobal), in_runs: bool) -> Result<(), Fail> {
+    let mut streams = Streams::new();
+    for _ in 0..STREAMS {
+        let stream = streams.stream(rt.alloc())?;
+        let whole = [stream.as_slice()];
+        let chunks = streams.cut(rt.alloc(), stream.as_slice())?;
+        let want = events_of(rt.alloc(), false, &whole);
+        let lines = events_of(rt.alloc(), in_runs, chunks.as_slice());
+        assert_eq!(rt; lines.text(), want.text(), "{chunks:?}");
+        assert!(rt; want.text().is_some(), "out of memory");
+        let want = unlimited_events_of(rt, false, &whole)?;
+        let lines = unlimited_events_of(rt, in_runs, chunks.as_slice())?;
+        assert_eq!(rt; lines.text(), want.text(), "{chunks:?}");
     }
-    Ok(lines)
+    Ok(())
 }
 
 #[test]
 fn events(rt: HostRuntime) -> Result<(), Fail> {
-    let mut streams = Streams::new();
-    for _ in 0..STREAMS {
-        let stream = streams.stream(rt.alloc())?;
-        let whole = [stream.as_slice()];
-        let chunks = streams.cut(rt.alloc(), stream.as_slice())?;
-        let want = events_of(rt.alloc(), &whole);
-        let lines = events_of(rt.alloc(), chunks.as_slice());
-        assert_eq!(rt; lines.text(), want.text(), "{chunks:?}");
-        assert!(rt; want.text().is_some(), "out of memory");
-        let want = unlimited_events_of(&rt, &whole)?;
-        let lines = unlimited_events_of(&rt, chunks.as_slice())?;
-        assert_eq!(rt; lines.text(), want.text(), "{chunks:?}");
-    }
-    Ok(())
+    assert_same_events(&rt, false)
 }
 
 #[test]
 fn events_in_runs(rt: HostRuntime) -> Result<(), Fail> {
-    let mut streams = Streams::new();
-    for _ in 0..STREAMS {
-        let stream = streams.stream(rt.alloc())?;
-        let whole = [stream.as_slice()];
-        let chunks = streams.cut(rt.alloc(), stream.as_slice())?;
-        let want = events_of(rt.alloc(), &whole);
-        let lines = events_in_runs_of(rt.alloc(), chunks.as_slice());
-        assert_eq!(rt; lines.text(), want.text(), "{chunks:?}");
-        assert!(rt; want.text().is_some(), "out of memory");
-        let want = unlimited_events_of(&rt, &whole)?;
-        let lines = unlimited_events_in_runs_of(&rt, chunks.as_slice())?;
-        assert_eq!(rt; lines.text(), want.text(), "{chunks:?}");
-    }
-    Ok(())
+    assert_same_events(&rt, true)
 }
 
 /// The output of `run`.
@@ -124,7 +103,7 @@ fn lines_and_text(rt: HostRuntime) -> Result<(), Fail> {
         let want = lines_of(&rt, &mut Device::new(stream.as_slice()))?;
         assert_same(&rt, lines.as_slice(), want.as_slice(), chunks);
         // The same lines, by code that shares nothing with `run`.
-        let events = events_of(rt.alloc(), chunks);
+        let events = events_of(rt.alloc(), false, chunks);
         let events = events.text().unwrap_or("out of memory");
         assert_same(&rt, events.as_bytes(), want.as_slice(), chunks);
         let text = text_of(&rt, &mut ChunkReader::new(chunks))?;

@@ -1,6 +1,8 @@
 """The figures of a benchmark: ratios, and the tables of docs/PERFORMANCE.md in Markdown."""
 import statistics
 
+from lib.benchmarking.measuring import THEIRS_IN_C
+
 # our side and that of the crate, in the builds that are compared
 BUILDS = {"cargo's release profile": ("rust_release", "release"),
           "cargo's best build": ("rust", "best"), "Rattle's build": ("ours", "best")}
@@ -41,8 +43,8 @@ def compare_sides(row):
     """Compares each pair of sides of a row, by what it is called."""
     sides = row["nanoseconds"]
     if row["kind"] == "calls":
-        return {name: compare_pair(row, name, "libvterm") for name in sides
-                if name != "libvterm" and "libvterm" in sides}
+        return {name: compare_pair(row, name, THEIRS_IN_C) for name in sides
+                if name != THEIRS_IN_C and THEIRS_IN_C in sides}
     pairs = {"over `advance`": ("rust", "`advance`")} if row["kind"] == "strip" else {
         name: pair for name, pair in BUILDS.items() if pair[0] in sides}
     return {name: compare_pair(row, *pair) for name, pair in pairs.items()}

@@ -118,20 +118,21 @@ def run(words, path):
 
 
 def run_in_rounds(rounds, sides):
-    """Times each side, round by round: a list, with the seconds of each of its programs.
+    """Times each side, round by round: a list, with the seconds of each of its programs, of which
+    each has a timer.
 
     A round runs the first program of each side, one right after the other, then the second of
     each, and so on, in an order of its own."""
     times = {name: [[] for _ in range(rounds)] for name in sides}
     for count in range(rounds):
         order = random.sample([*sides], len(sides))
-        for programs in zip(*(sides[name] for name in order)):
-            for name, seconds in zip(order, programs):
-                times[name][count].append(seconds())
+        for timers in zip(*(sides[name] for name in order)):
+            for name, timer in zip(order, timers):
+                times[name][count].append(timer())
     return times
 
 
-def make_passes(words, path, chunk):
+def make_timer(words, path, chunk):
     """Makes a function that runs a program over a stream, and returns the seconds of its fastest
     pass."""
     def time_passes(passes):
@@ -162,9 +163,9 @@ def measure_streams(kind, programs, options):
         if kind != "calls":
             compare_checksums(name, commands, programs.write_stream(name, CHECKED))
         path = programs.write_stream(name, options.bytes)
-        passes = {side: [make_passes(words, path, chunk) for words in of_side]
+        timers = {side: [make_timer(words, path, chunk) for words in of_side]
                   for side, of_side in commands.items()}
-        times = run_in_rounds(options.rounds, passes)
+        times = run_in_rounds(options.rounds, timers)
         found = {side: [[time / options.bytes * 1e9 for time in seconds] for seconds in of_side]
                  for side, of_side in times.items()}
         yield {"kind": kind, "stream": name, "chunk": chunk, "nanoseconds": found}

@@ -84,8 +84,8 @@ PARAMETERS = prefer(choose(b"", separate(range(1, 5), NUMBER), separate(range(1,
                     join(NUMBER, b";"), join(NUMBER, b":"))
 MARKER = choose(*[b""] * 4, b"?", b"?", b">", b"<", b"=", b"??", b"<>")
 INTERMEDIATES = repeat([0, 0, 0, 0, 1, 1, 2, 3, 4], byte_of(range(0x20, 0x30)))
-HEAD = join(MARKER, PARAMETERS, INTERMEDIATES)
-HEAD = prefer(HEAD, join(HEAD, choose(b"?", b"1", b";", b"<2", b"< ")),
+SHAPED_HEAD = join(MARKER, PARAMETERS, INTERMEDIATES)
+HEAD = prefer(SHAPED_HEAD, join(SHAPED_HEAD, choose(b"?", b"1", b";", b"<2", b"< ")),
               join(INTERMEDIATES, PARAMETERS))
 FINAL = byte_of(b"@ABCDEFGHIJKLMPSTWXZ`abcdefghijklmnpqrstux{|}~")
 END = choose(*[b"\x07"] * 3, *[b"\x1b\\"] * 3, b"\x9c", b"\x18", b"\x1a", b"\x1b", b"", b"\x1b[",

@@ -38,8 +38,8 @@ def bytes_of(value):
     return b"".join(bytes.fromhex(text) * times for text, times in parts_of(value))
 
 
-def lines_of(values):
-    """Returns the lines of an answer, repetitions written out."""
+def expand_lines(values):
+    """Returns the lines of an answer, with repetitions written out."""
     lines = []
     for value in values:
         if isinstance(value, dict) and "repeat" in value:

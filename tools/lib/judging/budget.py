@@ -58,11 +58,11 @@ class Tries:
 
     def ask(self, question, *about):
         """Returns the answer to a question about something, or None if no more may be asked."""
-        return None if self.is_over() else self.time.ask(question, *about)
+        return self.time.ask(question, *about) if self.take_try() else None
 
-    def is_over(self):
-        """Takes a try, and returns whether none was left, or no time."""
-        return self.time.is_over or next(self.left, None) is None
+    def take_try(self):
+        """Takes a try, and returns whether one was left, and time."""
+        return not self.time.is_over and next(self.left, None) is not None
 
 
 class Patience:

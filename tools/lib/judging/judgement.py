@@ -220,7 +220,7 @@ class Judge:
         if self.result.count(name):
             self.patience.again += 1
         else:
-            self.add(name, difference, case, is_smallest=not tries.is_over())
+            self.add(name, difference, case, is_smallest=tries.take_try())
 
     def report_examined(self):
         """Reports the difference that there was no time to examine, if nothing was found or there

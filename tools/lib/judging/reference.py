@@ -10,8 +10,8 @@ from lib.files import TOP
 from lib.judging.definition import lines_of
 from lib.judging.house import DEFAULT
 
-# the longest time for one stream, on a machine that is busy
-SECONDS = 120
+# the seconds that one stream may take, on a machine that is busy
+TIMEOUT = 120
 CARGO_CRATE = TOP / "rust/vtlog"
 
 
@@ -32,9 +32,9 @@ class Reference:
     def answer(self, stream):
         """Returns the lines of a stream."""
         try:
-            done = subprocess.run([self.vtlog], input=stream, capture_output=True, timeout=SECONDS)
+            done = subprocess.run([self.vtlog], input=stream, capture_output=True, timeout=TIMEOUT)
         except subprocess.TimeoutExpired:
-            raise NoReference(f"{self.vtlog} gave no answer in {SECONDS} s") from None
+            raise NoReference(f"{self.vtlog} gave no answer in {TIMEOUT} s") from None
         except OSError as error:
             raise NoReference(f"{self.vtlog} can't be run: {error.strerror}") from None
         if done.returncode != 0:
@@ -69,10 +69,12 @@ def find_vtlog(named=None):
 
 
 def build_by_cargo():
-    words = [TOP / "tools/lib/building/cargo_product", "build", "--quiet", "--release", "--locked",
-             "--manifest-path", CARGO_CRATE / "Cargo.toml"]
+    """Returns the path of what cargo builds, or None if there is no cargo, or if it fails, whose
+    message is shown."""
     if not shutil.which("cargo"):
         return None
+    words = [TOP / "tools/lib/building/cargo_product", "build", "--quiet", "--release", "--locked",
+             "--manifest-path", CARGO_CRATE / "Cargo.toml"]
     done = subprocess.run(words, stdin=subprocess.DEVNULL, capture_output=True)
     if done.returncode == 0:
         return done.stdout.decode().rstrip("\n")

@@ -18,7 +18,7 @@ PLAIN = [("\x1a", "a\x0a\x07\x18"), ("\x1b", ""), ("\x1f", "a\x0a"), ("\x7e", "a
 def shrink(streams, ask, at_once=1):
     """Returns what is known of the smallest streams in a row, each in chunks, that were found to
     differ. `ask` returns something of those that do; so many are tried at once."""
-    answers, threads = {}, concurrent.futures.ThreadPoolExecutor(at_once)
+    answers = {}
 
     def answer(text):
         if text not in answers:
@@ -36,11 +36,12 @@ def shrink(streams, ask, at_once=1):
         return None
 
     case = NEXT.join(CUT.join(chunk.decode("latin-1") for chunk in chunks) for chunks in streams)
-    case, before = find_first([case.replace(CUT, ""), case]) or case, None
-    while case != before:
-        before, case = case, find_smallest(case, find_first)
-        for position in places_of(case):
-            case = find_first(find_plainer(case, position)) or case
+    with concurrent.futures.ThreadPoolExecutor(at_once) as threads:
+        case, before = find_first([case.replace(CUT, ""), case]) or case, None
+        while case != before:
+            before, case = case, find_smallest(case, find_first)
+            for position in places_of(case):
+                case = find_first(find_plainer(case, position)) or case
     return answer(case)
 
 

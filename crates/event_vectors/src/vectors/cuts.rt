@@ -5,13 +5,13 @@ use super::LinesVector;
 
 pub(crate) static VECTORS: [LinesVector; 3] = [
     LinesVector {
-        name: "semicolons take no room in a store of 1",
+        name: "semicolons take no room in a buffer of 1",
         size: 1,
         pieces: &[b"\x1b];;a;b\x07"],
         lines: &["osc true 3 - - 61"],
     },
     LinesVector {
-        name: "semicolons in a store of 0",
+        name: "semicolons in a buffer of 0",
         size: 0,
         pieces: &[b"\x1b];;a;b\x07"],
         lines: &["osc true 1 -"],

@@ -5,7 +5,7 @@ use super::{LongVector, RepeatedBytes, RepeatedText};
 
 pub(crate) static VECTORS: [LongVector; 7] = [
     LongVector {
-        name: "OSC past a store of 1024",
+        name: "OSC past a buffer of 1024",
         size: 1024,
         bytes: RepeatedBytes {
             front: b"\x1b]52;s",

@@ -43,7 +43,7 @@ pub(crate) static VECTORS: [LinesVector; 31] = [
         lines: &["execute 18", "print 0061"],
     },
     LinesVector {
-        name: "OSC past a store of 32",
+        name: "OSC past a buffer of 32",
         size: 32,
         pieces: &[
             b"\x1b]52;aaaaaaaaaaaaaaaaaaaaaaaaaaaaaaaaaaaaaaaaaaaaaaaaaaaaaaaaaaaaaaaaaaaaaaaaaaaaaaaaaaaaaaaaaaaaaaaaaaaaaaaaaaaaaaaaaaaaaaaaaaaaaaaaaaaa\x07",
@@ -51,7 +51,7 @@ pub(crate) static VECTORS: [LinesVector; 31] = [
         lines: &["osc true 2 3532 616161616161616161616161616161616161616161616161616161616161"],
     },
     LinesVector {
-        name: "OSC with a store of 0",
+        name: "OSC with a buffer of 0",
         size: 0,
         pieces: &[
             b"\x1b]52;aaaaaaaaaaaaaaaaaaaaaaaaaaaaaaaaaaaaaaaaaaaaaaaaaaaaaaaaaaaaaaaaaaaaaaaaaaaaaaaaaaaaaaaaaaaaaaaaaaaaaaaaaaaaaaaaaaaaaaaaaaaaaaaaaaaa\x07",
@@ -130,13 +130,13 @@ pub(crate) static VECTORS: [LinesVector; 31] = [
         lines: &["osc false 2 32 e69cab", "esc - false 5c"],
     },
     LinesVector {
-        name: "OSC that fills a store of 5, three calls",
+        name: "OSC that fills a buffer of 5, three calls",
         size: 5,
         pieces: &[b"\x1b]2;", b"s\xe6\x9c\xab", b"\x1b\\"],
         lines: &["osc false 2 32 73e69cab", "esc - false 5c"],
     },
     LinesVector {
-        name: "CSI with a store of 30",
+        name: "CSI with a buffer of 30",
         size: 30,
         pieces: &[b"\x1b[3;1\x1b[?1049h"],
         lines: &["csi [1049] 3f false 68"],
@@ -204,7 +204,7 @@ pub(crate) static VECTORS: [LinesVector; 31] = [
         lines: &[],
     },
     LinesVector {
-        name: "semicolon after a full store",
+        name: "semicolon after a full buffer",
         size: 2,
         pieces: &[b"\x1b]ab;c\x07"],
         lines: &["osc true 1 6162"],

@@ -109,7 +109,8 @@ def test_a_program_that_does_not_answer_at_all(judge):
     said = judge(1, "echo", "hello")
     assert "NEW   protocol:" in said and "ended early: the program doesn't answer" in said
     assert "1 streams, 1 differ; 1 classes, 1 of them new" in said
-    judge(1, "--chunks", "--seconds", 0.5, "sleep", "9")
+    said = judge(1, "--chunks", "--seconds", 0.5, "sleep", "9")
+    assert "ended early: the time was over" in said and "0 streams, 0 differ" in said
 
 
 def test_nothing_survives_the_judge(vtlog):

@@ -9,7 +9,7 @@ import sys
 import my_parser
 import pytest
 from heads import head_of
-from lib.generating.vectors import bytes_of, lines_of
+from lib.generating.vectors import bytes_of, expand_lines
 from lib.judging import definition
 from lib.judging.house import House
 from support import EVENTS, FILES, NAMES, VECTORS, run
@@ -67,7 +67,7 @@ def test_files_match_the_schema(file):
 def test_definition_gives_the_vectors(vector):
     stream = b"".join(map(bytes_of, vector["pieces"]))
     lines = definition.lines_of(stream, House(limit=vector["limit"]))
-    assert "\n".join(lines) == "\n".join(lines_of(vector["events"]))
+    assert "\n".join(lines) == "\n".join(expand_lines(vector["events"]))
 
 
 # in each language what builds the runner and what runs it, and how the example ignores chunks that
@@ -144,7 +144,7 @@ def test_a_runner_counts_what_is_wrong(language, tmp_path):
         some = [vector for vector in EVENTS if vector["limit"] == 1024
                 and not words_of(vector) & {*left_out.split()}]
         wrong = sum("\n".join(my_parser.parse_pieces(map(bytes_of, vector["pieces"])))
-                    != "\n".join(lines_of(vector["events"])) for vector in some)
+                    != "\n".join(expand_lines(vector["events"])) for vector in some)
         assert 1 < len(some) < len(EVENTS)
         assert status == 1 and re.search(rf"(?m)^{wrong} of {len(some)} wrong$", output), output
     none = run("sh", "-c", f"{RUNNERS[language][1]} must should differs <events.json", cwd=tmp_path)

@@ -85,7 +85,7 @@ fn is_question(text: &[u8]) -> bool
 }
 
 /// Sets a colour, or asks for it.
-fn set_color<H: Handler>(handler: &mut H, prefix: &str, index: usize, terminator: &str, text: &[u8])
+fn set_color<H: Handler>(handler: &mut H, prefix: &str, index: usize, text: &[u8], terminator: &str)
     ensures { H.value_of handler.new
         ≡ after H.step (H.value_of handler.old)
         (color_calls prefix.now index terminator.now text.now) }
@@ -112,8 +112,8 @@ fn set_palette_entry<H: Handler>(handler: &mut H, index: &[u8], color: &[u8], te
             handler,
             prefix.as_str(),
             usize::from(index),
-            terminator,
             color,
+            terminator,
         );
     }
 }
@@ -169,14 +169,14 @@ fn set_link_to<H: Handler>(handler: &mut H, parameters: &[u8], uri: &str)
 
 /// Sets the colour of the foreground, of the background or of the cursor, or asks for it.
 #[tactic(auto, unfolding(crate::proofs::Common::digits, vte_types::specs::NamedColor::number_of_color))]
-fn set_dynamic_color<H: Handler>(handler: &mut H, code: usize, terminator: &str, text: &[u8])
+fn set_dynamic_color<H: Handler>(handler: &mut H, code: usize, text: &[u8], terminator: &str)
     ensures { H.value_of handler.new ≡ after H.step (H.value_of handler.old)
         (dynamic_color_calls code terminator.now text.now (entry_of dynamic_colors code)) }
 {
     match code {
-        10 => set_color(handler, "10", Foreground as usize, terminator, text),
-        11 => set_color(handler, "11", Background as usize, terminator, text),
-        12 => set_color(handler, "12", Cursor as usize, terminator, text),
+        10 => set_color(handler, "10", Foreground as usize, text, terminator),
+        11 => set_color(handler, "11", Background as usize, text, terminator),
+        12 => set_color(handler, "12", Cursor as usize, text, terminator),
         _ => {}
     }
 }
@@ -191,7 +191,7 @@ fn set_dynamic_colors<H: Handler>(handler: &mut H, first: usize, texts: &[&[u8]]
 {
     let mut code = first;
     for text in texts {
-        set_dynamic_color(handler, code, terminator, text);
+        set_dynamic_color(handler, code, text, terminator);
         code += 1;
     }
 }

@@ -63,8 +63,8 @@ fn set_color<H: Handler + ?Sized>(
     handler: &mut H,
     prefix: &str,
     index: usize,
-    terminator: &str,
     text: &[u8],
+    terminator: &str,
 ) {
     if is_question(text) {
         handler.dynamic_color_sequence(prefix, index, terminator);
@@ -88,8 +88,8 @@ fn set_palette_entry<H: Handler + ?Sized>(
             handler,
             prefix.as_str(),
             usize::from(index),
-            terminator,
             color,
+            terminator,
         );
     }
 }
@@ -132,13 +132,13 @@ fn set_link_to<H: Handler + ?Sized>(handler: &mut H, parameters: &[u8], uri: &st
 fn set_dynamic_color<H: Handler + ?Sized>(
     handler: &mut H,
     code: usize,
-    terminator: &str,
     text: &[u8],
+    terminator: &str,
 ) {
     match code {
-        10 => set_color(handler, "10", Foreground as usize, terminator, text),
-        11 => set_color(handler, "11", Background as usize, terminator, text),
-        12 => set_color(handler, "12", Cursor as usize, terminator, text),
+        10 => set_color(handler, "10", Foreground as usize, text, terminator),
+        11 => set_color(handler, "11", Background as usize, text, terminator),
+        12 => set_color(handler, "12", Cursor as usize, text, terminator),
         _ => {}
     }
 }
@@ -152,7 +152,7 @@ fn set_dynamic_colors<H: Handler + ?Sized>(
 ) {
     let mut code = first;
     for text in texts {
-        set_dynamic_color(handler, code, terminator, text);
+        set_dynamic_color(handler, code, text, terminator);
         code += 1;
     }
 }

@@ -251,9 +251,9 @@ fn text_that_grows(rt: HostRuntime) -> Result<(), Fail> {
     let streams: [(&[u8], usize, &[u8], usize); 5] = [
         (b"a", 8192, b"a", 8192),
         (b"\xff", 8192, b"\xef\xbf\xbd", 8192),
-        // each FF breaks the character that E4 began, and is malformed itself
+        // Each FF breaks the character that E4 began, and is malformed itself.
         (b"\xe4\xff", 4096, b"\xef\xbf\xbd", 8192),
-        // the last E4 is unfinished
+        // The last E4 is unfinished.
         (b"\xff\xe4", 4096, b"\xef\xbf\xbd", 8191),
         (b"\xf0\x9f\x98\x80", 2048, b"\xf0\x9f\x98\x80", 2048),
     ];

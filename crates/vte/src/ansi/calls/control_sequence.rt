@@ -23,7 +23,7 @@ use vte_types::{
 
 /// Makes the calls of a control sequence, other than `ESC [ ? .. h`, which may begin an update.
 // cargo: #[inline]
-// a guard would read the numbers
+// A guard would read the numbers.
 #[allow(clippy::collapsible_match)]
 pub(crate) fn perform_control_sequence<H: InputAs<G>, G>(
     handler: &mut H,

@@ -34,7 +34,7 @@ impl<A: Allocator + Clone> Clone for SyncState<A> {
 
     fn clone(&self) -> Result<Self, AllocError> {
         let mut bytes = self.bytes.clone()?;
-        // a clone has as much memory
+        // A clone has as much memory.
         bytes.reserve(self.bytes.capacity() - bytes.len())?;
         let released = self.released;
         Ok(SyncState { bytes, released })

@@ -1,4 +1,4 @@
--- The second and third byte of a character of three: each fits or breaks it, or the bytes of the call end.
+-- Each of the second and third byte of a character of three fits or breaks it, unless the bytes of the call end before.
 use Rattle.vte_core.proofs.Common.{arith, rules, sym, ℕ, ◌+◌, ◌∙◌, ◌≡◌}
 use Rattle.vte_core.proofs.lemmas.bytes.Scalars.{second-broken, spells-three, third-broken}
 use Rattle.vte_core.proofs.lemmas.positions.Characters.{completes-all, completes-malformed, completes-well_formed, goes_on-nowhere, goes_on-second, unfinished-some}
@@ -8,7 +8,7 @@ use Rattle.vte_core.proofs.parser.machine.Machine.complete_three.Goals as goal
 counted : (from : ℕ) → from + 2 ≡ from + 1 + 1
 counted from = omega arith
 
--- The second byte does not fit the first one: broken.
+-- The second byte doesn't fit the first one, so it breaks the character.
 pub returns-then-not-may_begin_three-clause-completes : goal.returns-then-not-may_begin_three-clause-completes
 returns-then-not-may_begin_three-clause-completes g c =
     let requires = c.requires.may_read in
@@ -18,11 +18,11 @@ returns-then-not-may_begin_three-clause-completes g c =
     requires.before_end
     requires.looked_at
 
--- The call ends after two bytes: still open.
+-- If the call ends after two bytes, the character stays open.
 pub returns-then-second_position-len-clause-completes : goal.returns-then-second_position-len-clause-completes
 returns-then-second_position-len-clause-completes g c = search (rules, arith, completes-all, goes_on-second)
 
--- The third byte does not continue: broken after two.
+-- The third byte doesn't continue the character, so it breaks it after two bytes.
 pub returns-then-not-is_continuation-clause-completes : goal.returns-then-not-is_continuation-clause-completes
 returns-then-not-is_continuation-clause-completes g c =
     let requires = c.requires.may_read in

@@ -16,7 +16,7 @@ use crate::proved::vte_types::{
 
 /// Makes the calls of a control sequence, other than `ESC [ ? .. h`, which may begin an update.
 #[inline]
-// a guard would read the numbers
+// A guard would read the numbers.
 #[allow(clippy::collapsible_match)]
 pub(crate) fn perform_control_sequence<H: InputAs<G> + ?Sized, G>(
     handler: &mut H,

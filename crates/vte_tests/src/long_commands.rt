@@ -58,7 +58,8 @@ fn read<A: Allocator>(
     processor.advance(handler, bytes)
 }
 
-/// A command that begins so, whose last pieces have this many bytes with the `;` between them.
+/// Returns a command that begins so, whose last pieces have this many bytes with the `;` between
+/// them.
 fn command<A: Allocator>(alloc: A, begin: &[u8], count: usize) -> Result<Vec<u8, A>, AllocError> {
     let mut stream = Vec::new(alloc);
     stream.extend_from_slice(begin)?;

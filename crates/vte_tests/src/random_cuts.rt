@@ -13,7 +13,7 @@ use vte_core::{LongParser, Parser};
 /// The number of streams per test.
 const STREAMS: u32 = 1000;
 
-/// The lines of the events of a stream in chunks.
+/// Returns the lines of the events of a stream in chunks.
 fn events_of(alloc: Global, chunks: &[&[u8]]) -> EventLines {
     let mut lines = EventLines::new(alloc, Stop::Never);
     let mut parser = Parser::<1024>::new();
@@ -23,7 +23,7 @@ fn events_of(alloc: Global, chunks: &[&[u8]]) -> EventLines {
     lines
 }
 
-/// The lines of the events of a stream in chunks, with text in runs.
+/// Returns the lines of the events of a stream in chunks, with text in runs.
 fn events_in_runs_of(alloc: Global, chunks: &[&[u8]]) -> EventLines {
     let mut lines = EventLines::new(alloc, Stop::Never);
     let mut parser = Parser::<1024>::new();
@@ -33,7 +33,7 @@ fn events_in_runs_of(alloc: Global, chunks: &[&[u8]]) -> EventLines {
     lines
 }
 
-/// The lines of the events of a stream in chunks, by a parser without a limit on commands.
+/// Returns the lines of the events of a stream in chunks, by a parser without a limit on commands.
 fn unlimited_events_of(
     rt: &(impl Abort + AllocGlobal),
     chunks: &[&[u8]],
@@ -46,7 +46,7 @@ fn unlimited_events_of(
     Ok(lines)
 }
 
-/// The lines of the events of a stream in chunks, by a parser without a limit, in runs.
+/// Returns the lines of the events of a stream in chunks, by a parser without a limit, in runs.
 fn unlimited_events_in_runs_of(
     rt: &(impl Abort + AllocGlobal),
     chunks: &[&[u8]],
@@ -95,14 +95,14 @@ fn events_in_runs(rt: HostRuntime) -> Result<(), Fail> {
     Ok(())
 }
 
-/// The output of `run`.
+/// Returns the output of `run`.
 fn lines_of<R: Source>(rt: &(impl Abort + AllocGlobal), reader: &mut R) -> Result<Vec<u8>, Fail> {
     let mut lines = Vec::new(rt.alloc());
     assert_eq!(rt; run(reader, &mut Device::new(&mut lines)), Ok(()));
     Ok(lines)
 }
 
-/// The output of `run_text`.
+/// Returns the output of `run_text`.
 fn text_of<R: Source>(rt: &(impl Abort + AllocGlobal), reader: &mut R) -> Result<Vec<u8>, Fail> {
     let mut text = Vec::new(rt.alloc());
     assert_eq!(rt; run_text(reader, &mut Device::new(&mut text)), Ok(()));
@@ -134,8 +134,8 @@ fn lines_and_text(rt: HostRuntime) -> Result<(), Fail> {
     Ok(())
 }
 
-/// The calls of a stream in chunks, with stops after some of them. The stop after the last leaves
-/// nothing held.
+/// Returns the calls of a stream in chunks, with stops after some of them. The stop after the last
+/// leaves nothing held.
 fn calls_of(
     rt: &(impl Abort + AllocGlobal),
     answers: Answers,
@@ -175,7 +175,8 @@ fn stop<A: Allocator>(
     }
 }
 
-/// The lines of the calls, except for those that end an update, of which each stop adds one.
+/// Returns the lines of the calls, except for those that end an update, of which each stop adds
+/// one.
 fn without_ends(alloc: Global, calls: &CallLines) -> Result<String, AllocError> {
     let mut kept = String::new(alloc);
     for line in calls.text().unwrap_or("out of memory").lines() {
@@ -187,7 +188,8 @@ fn without_ends(alloc: Global, calls: &CallLines) -> Result<String, AllocError> 
     Ok(kept)
 }
 
-/// A stream makes the same calls in the same order, whether or not bytes are held and stops come.
+/// Checks that a stream makes the same calls in the same order, whether or not bytes are held and
+/// stops come.
 fn assert_same_calls(rt: &(impl Abort + AllocGlobal), in_runs: bool) -> Result<(), Fail> {
     let mut streams = Streams::new();
     for _ in 0..STREAMS {

@@ -13,7 +13,7 @@ fn parsed(stream: &[u8]) -> Screen {
     screen
 }
 
-/// The screen of a stream whose text comes in runs, in calls of `chunk` bytes.
+/// Returns the screen of a stream whose text comes in runs, in calls of `chunk` bytes.
 fn parsed_in_runs(stream: &[u8], chunk: usize) -> Screen {
     let mut screen = Screen::new();
     let mut parser = Parser::new();
@@ -23,7 +23,7 @@ fn parsed_in_runs(stream: &[u8], chunk: usize) -> Screen {
     screen
 }
 
-/// The screen of a stream by a processor, unless memory runs out.
+/// Returns the screen of a stream by a processor, unless memory runs out.
 fn processed(alloc: Global, stream: &[u8]) -> Option<Screen> {
     let mut handler = ByCall(Screen::new());
     match Processor::new(alloc, TestTimeout::new(Answers::Never)) {
@@ -33,7 +33,7 @@ fn processed(alloc: Global, stream: &[u8]) -> Option<Screen> {
     Some(handler.0)
 }
 
-/// The screen of a stream by a processor, with text in runs, in calls of `chunk` bytes.
+/// Returns the screen of a stream by a processor, with text in runs, in calls of `chunk` bytes.
 fn processed_in_runs(alloc: Global, stream: &[u8], chunk: usize) -> Option<Screen> {
     let mut handler = ByCall(Screen::new());
     match Processor::new(alloc, TestTimeout::new(Answers::Never)) {
@@ -45,7 +45,7 @@ fn processed_in_runs(alloc: Global, stream: &[u8], chunk: usize) -> Option<Scree
     Some(handler.0)
 }
 
-/// Whether two screens have the same cells and the same cursor.
+/// Returns whether two screens have the same cells and the same cursor.
 fn are_same(one: &Screen, other: &Screen) -> bool {
     for row in 0..ROWS {
         if one.row(row) != other.row(row) {
@@ -55,7 +55,7 @@ fn are_same(one: &Screen, other: &Screen) -> bool {
     one.cursor() == other.cursor()
 }
 
-/// Whether runs of text show what characters show, in calls of `chunk` bytes.
+/// Returns whether runs of text show what characters show, in calls of `chunk` bytes.
 fn runs_show_the_same(alloc: Global, stream: &[u8], chunk: usize) -> bool {
     match (
         processed(alloc, stream),
@@ -69,12 +69,12 @@ fn runs_show_the_same(alloc: Global, stream: &[u8], chunk: usize) -> bool {
     }
 }
 
-/// Whether runs of text show what characters show, in one call and byte by byte.
+/// Returns whether runs of text show what characters show, in one call and byte by byte.
 fn runs_agree(alloc: Global, stream: &[u8]) -> bool {
     runs_show_the_same(alloc, stream, stream.len()) && runs_show_the_same(alloc, stream, 1)
 }
 
-/// Whether a row has this text, and blanks after it.
+/// Returns whether a row has this text, and blanks after it.
 fn has_text(screen: &Screen, row: usize, text: &str) -> bool {
     let mut expected = text.chars();
     for cell in screen.row(row) {
@@ -85,7 +85,7 @@ fn has_text(screen: &Screen, row: usize, text: &str) -> bool {
     expected.next().is_none()
 }
 
-/// Whether both show a text in a row, and runs show the same.
+/// Returns whether both show a text in a row, and runs show the same.
 fn both_show(alloc: Global, stream: &[u8], row: usize, text: &str) -> bool {
     match processed(alloc, stream) {
         Some(screen) => {
@@ -183,7 +183,7 @@ fn wraps(rt: HostRuntime) {
     );
 }
 
-/// Whether both show these colors and attributes in the first cell, and runs show the same.
+/// Returns whether both show these colors and attributes in the first cell, and runs show the same.
 fn both_style(
     alloc: Global,
     stream: &[u8],
@@ -212,7 +212,7 @@ fn looks(row: &[Cell], foreground: Color, background: Color, attributes: u32) ->
     }
 }
 
-/// A color, by its index if it has a name and one.
+/// Returns a color, by its index if it has a name and one.
 fn of_palette(color: Color) -> Color {
     match color {
         Color::Named(name) => match name as u16 {

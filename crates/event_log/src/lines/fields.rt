@@ -127,7 +127,7 @@ impl Lines {
     }
 }
 
-/// The last decimal digit of a number.
+/// Returns the last decimal digit of a number.
 fn digit(number: usize) -> u8
     ensures { result ≡ 0x30 + number % 10 }
 {

@@ -8,7 +8,7 @@ use std::alloc::{AllocError, Allocator};
 #[derive(Drop)]
 pub(crate) struct GrowingText<A: Allocator> {
     text: String<A>,
-    // The size that was asked for, in bytes.
+    /// The size that was asked for, in bytes.
     size: usize,
     ghost fits: { size ≤ string_capacity text },
 }

@@ -14,7 +14,7 @@ use Rattle.vte_core.proofs.lemmas.streams.StreamSteps.{added-byte, bytes_are_bri
 
 -- The proof is by induction over positions, a unit at a time.
 
--- P is to hold of what is reported before each place. It holds of no events, and a unit keeps it.
+-- P is to hold of what is reported before each position. It holds of no events, and a unit keeps it.
 -- Before each unit Q holds, which is what the performer answers when it is asked: at first, and at
 -- each start.
 module _ {limit : Option ℕ} (P Q : List Event → Type 0) (stream bytes : List ℕ) (units : ReportsUnits limit)

@@ -51,7 +51,7 @@ returns-then-not-this-clause-advances g c =
 -- A byte that isn't data ends the data or is dropped.
 pub returns-then-not-is_device_data-clause-advances : goal.returns-then-not-is_device_data-clause-advances
 returns-then-not-is_device_data-clause-advances g c =
-    advances-then c.loop-position.invariant.advances (advances-without_promise c.read_other_in_data.ensures.advances)
+    advances-then c.loop-position.invariant.advances (advances-without_promise c.end_data_or_drop_byte.ensures.advances)
 
 pub returns-clause-advances : goal.returns-clause-advances
 returns-clause-advances g c = advances-to_same (omega arith) c.loop-position.invariant.advances

@@ -36,7 +36,7 @@ returns-then-not-may_begin_four-clause-advances g c =
     -- No further byte belongs to the character (`goes_on-nowhere`), and the next one breaks it.
     (completes-malformed (goes_on-nowhere c.args.self.now (unfinished-some _ _))
     -- The definition says so, and the code printed U+FFFD.
-    (λ more. second-broken c.args.first c.args.second more misfits) requires.may_read.in_state
+    (λ truncated. second-broken c.args.first c.args.second truncated misfits) requires.may_read.in_state
     c.print_char.ensures.value
     -- The next byte is within the call, and the one that was read.
     requires.before_end requires.looked_at)
@@ -60,7 +60,7 @@ returns-then-not-is_continuation-clause-advances g c =
     advances-four requires.may_read requires.lead
     (completes-malformed (goes_on-second c.args.self.now
     (lead_of_three _ requires.lead.low) second requires.before_end requires.looked_at)
-    (λ more. third-broken c.args.first c.args.second c.byte_at-third.result more misfits)
+    (λ truncated. third-broken c.args.first c.args.second c.byte_at-third.result truncated misfits)
     requires.may_read.in_state c.print_char-then-not-is_continuation.ensures.value
     (omega (arith, requires.before_end, c.if-next-len.false)) c.byte_at-third.ensures.value)
 
@@ -76,7 +76,8 @@ returns-then-not-is_continuation-2-clause-advances g c =
     advances-four requires.may_read requires.lead
     (completes-malformed (goes_on-third c.args.self.now requires.lead.low second third before_end requires.looked_at
     c.byte_at-third.ensures.value)
-    (λ more. fourth-broken c.args.first c.args.second c.byte_at-third.result c.byte_at-fourth.result more misfits)
+    (λ truncated.
+    fourth-broken c.args.first c.args.second c.byte_at-third.result c.byte_at-fourth.result truncated misfits)
     requires.may_read.in_state c.print_char-then-not-is_continuation-2.ensures.value before_end
     c.byte_at-fourth.ensures.value)
 
@@ -128,5 +129,5 @@ returns-clause-advances g c =
     advances-four requires.may_read requires.lead
     (completes-well_formed (goes_on-third c.args.self.now requires.lead.low second third before_end requires.looked_at
     c.byte_at-third.ensures.value)
-    (λ more. (spells.is_whole, c.character_of_four.ensures)) requires.may_read.in_state
+    (λ truncated. (spells.is_whole, c.character_of_four.ensures)) requires.may_read.in_state
     c.report_character.ensures.value before_end c.byte_at-fourth.ensures.value (next_counted _))

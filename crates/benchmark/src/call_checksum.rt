@@ -32,8 +32,8 @@ impl CallChecksum {
     }
 }
 
-/// A number for a name of four bytes or more: its first and last four bytes, and its length. It is
-/// straight-line code, which the compiler computes.
+/// Returns a number for a name of four bytes or more: its first and last four bytes, and its
+/// length. It is straight-line code, which the compiler computes.
 #[inline]
 fn number_of(name: &str) -> u64 {
     let bytes = name.as_bytes();
@@ -165,7 +165,7 @@ impl CallVisitor for CallChecksum {
     }
 }
 
-/// The index of an attribute's variant in its declaration.
+/// Returns the index of an attribute's variant in its declaration.
 fn index_of(attribute: &Attr) -> u64 {
     match attribute {
         Attr::Reset => 0,

@@ -4,7 +4,7 @@
 use std::fmt;
 use vte::{Params, Perform};
 
-// the kinds of events, in bits above anything that is folded with them
+// The kinds of events, in bits above anything that is folded with them.
 const PRINT: u64 = 1 << 32;
 
 const EXECUTE: u64 = 2 << 32;

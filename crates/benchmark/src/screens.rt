@@ -73,7 +73,7 @@ impl<const IN_RUNS: bool> Benchmark for TerminalBenchmark<IN_RUNS> {
     }
 }
 
-/// The checksum of a screen: its cursor, and each cell.
+/// Returns the checksum of a screen: its cursor, and each cell.
 fn shown(screen: &Screen) -> Checksum {
     let mut checksum = Checksum::new();
     let (row, column) = screen.cursor();

@@ -7,7 +7,7 @@ use Rattle.vte_core.specs.Parameters.{shown}
 
 -- A lowercase hex digit.
 unfoldable pub hex_digit : ℕ → ℕ
-hex_digit d = if nat_lt d 10 then 48 + d else 87 + d
+hex_digit d = if nat_lt d 10 then 0x30 + d else 0x57 + d
 
 -- A byte as two hex digits.
 unfoldable pub hex_byte : ℕ → List ℕ
@@ -39,7 +39,7 @@ abbrev pub blank : List ℕ
 blank = codes " "
 
 abbrev pub line_feed : List ℕ
-line_feed = 10 ∷ []
+line_feed = 0x0a ∷ []
 
 -- A blank, and bytes as hex digits, or `-` for none.
 unfoldable pub hex_field : List ℕ → List ℕ

@@ -19,10 +19,13 @@ const CAPACITY: usize = 8192;
 /// Once a line was dropped, [`lost`](Self::lost) is true until [`clear`](Self::clear).
 #[derive(Drop)]
 pub struct Lines {
+    /// The lines, and after them what has been pushed of the next one.
     bytes: ArrayVec<u8, CAPACITY>,
-    // the start of the line that is being written, and whether all of it has fitted so far
+    /// The start of the line that is being written.
     start: usize,
+    /// Whether all of it has fitted so far.
     fits: bool,
+    /// Whether a line was dropped since the last `clear`.
     lost: bool,
 }
 

@@ -54,7 +54,8 @@ fn until_terminated(rt: HostRuntime) -> Result<(), Fail> {
 /// Streams of at most this many bytes are stopped after each of their events.
 const STOPPED: usize = 64;
 
-/// Whichever event asks for the stop, the parser stops, and the unread bytes give the rest.
+/// Checks that, whichever event asks for the stop, the parser stops, and the unread bytes give the
+/// rest.
 fn assert_stops(rt: &(impl Abort + AllocGlobal), vector: &LinesVector) -> Result<(), Fail> {
     let bytes = vector.bytes(rt.alloc())?;
     if bytes.len() > STOPPED {

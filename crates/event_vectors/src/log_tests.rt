@@ -59,7 +59,7 @@ fn run_for(what: What, reader: &mut Chunks<'_>, writer: &mut Written) -> Result<
     }
 }
 
-/// A run over the chunks gives this result and writes this.
+/// Checks that a run over the chunks gives this result and writes this.
 fn assert_run(
     rt: &(impl Abort + AllocGlobal),
     name: &str,
@@ -74,7 +74,7 @@ fn assert_run(
     Ok(())
 }
 
-/// A run writes this if it reads the bytes at once, and if it reads them one by one.
+/// Checks that a run writes this if it reads the bytes at once, and if it reads them one by one.
 fn assert_written(
     rt: &(impl Abort + AllocGlobal),
     name: &str,
@@ -140,7 +140,7 @@ const STREAM: [&[u8]; 3] = [b"a", b"\x1b(B", b"\n"];
 
 const LINES: [&str; 3] = ["print 0061", "esc 28 false 42", "execute 0a"];
 
-/// Whichever call of the writer fails, everything before that call is written.
+/// Checks that, whichever call of the writer fails, everything before that call is written.
 fn assert_failing_calls(
     rt: &(impl Abort + AllocGlobal),
     what: What,
@@ -251,9 +251,9 @@ fn text_that_grows(rt: HostRuntime) -> Result<(), Fail> {
     let streams: [(&[u8], usize, &[u8], usize); 5] = [
         (b"a", 8192, b"a", 8192),
         (b"\xff", 8192, b"\xef\xbf\xbd", 8192),
-        // each FF breaks the character that E4 began, and is malformed itself
+        // Each FF breaks the character that E4 began, and is malformed itself.
         (b"\xe4\xff", 4096, b"\xef\xbf\xbd", 8192),
-        // the last E4 is unfinished
+        // The last E4 is unfinished.
         (b"\xff\xe4", 4096, b"\xef\xbf\xbd", 8191),
         (b"\xf0\x9f\x98\x80", 2048, b"\xf0\x9f\x98\x80", 2048),
     ];
@@ -298,7 +298,7 @@ fn recorder_of_a_long_parser(rt: HostRuntime) -> Result<(), Fail> {
     Ok(())
 }
 
-/// `times` copies of a unit.
+/// Returns `times` copies of a unit.
 fn repeated(alloc: Global, unit: &[u8], times: usize) -> Result<Vec<u8>, AllocError> {
     let mut bytes = Vec::new(alloc);
     for _ in 0..times {

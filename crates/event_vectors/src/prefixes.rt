@@ -9,7 +9,7 @@ use test_lines::{EventLines, Stop};
 /// Streams of at most this many bytes are broken off at every place.
 const BROKEN_OFF: usize = 64;
 
-/// The lines of a stream in two chunks.
+/// Returns the lines of a stream in two chunks.
 fn lines_of(
     rt: &(impl Abort + AllocGlobal),
     size: usize,
@@ -24,7 +24,7 @@ fn lines_of(
     Ok(lines)
 }
 
-/// `prefix` and `back` give what `prefix` and `start` give, followed by `line`.
+/// Checks that `prefix` and `back` give what `prefix` and `start` give, followed by `line`.
 fn assert_resyncs(
     rt: &(impl Abort + AllocGlobal),
     size: usize,

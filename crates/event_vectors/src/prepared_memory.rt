@@ -6,8 +6,8 @@ use event_log::{Device, run};
 use std::process::Abort;
 use std::test::Fail;
 
-/// With every allocation refused, a run writes the lines of a vector into memory that was allocated
-/// before.
+/// Checks that, with every allocation refused, a run writes the lines of a vector into memory that
+/// was allocated before.
 fn assert_written(rt: &(impl Abort + AllocGlobal), vector: &LinesVector) -> Result<(), Fail> {
     // The parser of a run has a buffer of 1,024 bytes.
     if vector.size != 1024 {

@@ -10,7 +10,7 @@ use test_lines::{EventLines, Stop};
 /// Streams of at most this many bytes are cut at every place.
 const CUT_EVERYWHERE: usize = 2048;
 
-/// However `bytes` are cut, the lines are `want`.
+/// Checks that, however `bytes` are cut, the lines are `want`.
 fn assert_lines(
     rt: &(impl Abort + AllocGlobal),
     name: &str,
@@ -33,7 +33,7 @@ fn assert_lines(
     Ok(())
 }
 
-/// A parser that is saved and restored between the chunks also gives `want`.
+/// Checks that a parser that is saved and restored between the chunks also gives `want`.
 fn assert_saved_lines(
     rt: &(impl Abort + AllocGlobal),
     name: &str,
@@ -135,7 +135,7 @@ fn vectors_in_runs(rt: HostRuntime) -> Result<(), Fail> {
 /// Streams of at most this many bytes are cut in every way.
 const CUT_IN_EVERY_WAY: u32 = 12;
 
-/// The chunks of a stream that is cut after byte `index` if bit `index` of `cuts` is set.
+/// Returns the chunks of a stream that is cut after byte `index` if bit `index` of `cuts` is set.
 fn cut<'a>(alloc: Global, bytes: &'a [u8], cuts: u32) -> Result<Vec<&'a [u8]>, AllocError> {
     let mut chunks = Vec::new(alloc);
     let mut rest = bytes;

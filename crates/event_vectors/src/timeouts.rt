@@ -38,7 +38,7 @@ impl Timeout for Expiring {
 
     ghost clear = { λ _. tt };
 
-    // it may have expired
+    // It may have expired.
     ghost allows = { λ _ _. Unit {0} };
 
     fn set_timeout(&mut self, _duration: Duration) {

@@ -86,8 +86,8 @@ static SHORT_VECTORS: [UnlimitedVector; 2] = [
     },
 ];
 
-/// The parser reads all bytes. Tests call this and not `advance`, whose contract would be opened by
-/// the proof of each.
+/// Checks that the parser reads all bytes. Tests call this and not `advance`, whose contract would
+/// be opened by the proof of each.
 fn assert_read<A: Allocator>(
     rt: &impl Abort,
     name: &str,
@@ -98,7 +98,7 @@ fn assert_read<A: Allocator>(
     assert_eq!(rt; parser.advance(lines, bytes), Ok(()), "{name}");
 }
 
-/// The parser reads all chunks, and they give this text.
+/// Checks that the parser reads all chunks, and that they give this text.
 fn assert_reads<A: Allocator>(
     rt: &(impl Abort + AllocGlobal),
     alloc: A,

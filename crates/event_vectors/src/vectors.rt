@@ -10,8 +10,8 @@ mod strings;
 
 use std::alloc::{AllocError, Global};
 
-/// The tables of short streams. No other function names them: each that does costs a proof over the
-/// whole table.
+/// Returns the tables of short streams. No other function names them: each that does costs a proof
+/// over the whole table.
 pub(crate) fn tables() -> [&'static [LinesVector]; 5] {
     [
         &basics::VECTORS,

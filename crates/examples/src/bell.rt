@@ -53,7 +53,7 @@ impl Perform for Bell {
     }
 }
 
-/// Whether a stream rings the bell. What follows the first bell isn't read.
+/// Returns whether a stream rings the bell. What follows the first bell isn't read.
 pub fn rings(stream: &[u8]) -> bool
     ensures { result ≡ after rung_after false (events default_limit stream.now) }
 {

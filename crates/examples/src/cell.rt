@@ -39,7 +39,7 @@ impl Style {
         for number in params.iter().flatten() {
             let _ = numbers.try_push((*number).min(255) as u8);
             match numbers.as_slice() {
-                // the color goes on
+                // The color goes on.
                 [38 | 48] | [38 | 48, 2 | 5] | [_, 2, _] | [_, 2, _, _] => continue,
                 setting => self.select(setting),
             }

@@ -55,7 +55,8 @@ impl Perform for TextLength {
     }
 }
 
-/// How long the text of a stream's last operating system command is, however long that may be.
+/// Returns how long the text of a stream's last operating system command is, however long that may
+/// be.
 ///
 /// # Errors
 ///

@@ -26,7 +26,7 @@ impl TakeCall for Screen {
             Call::MoveDown(rows) => self.move_to(row.saturating_add(rows), column),
             Call::MoveForward(columns) => self.move_to(row, column.saturating_add(columns)),
             Call::MoveBackward(columns) => self.move_to(row, column.saturating_sub(columns)),
-            // the modes are in the order of their numbers
+            // The modes are in the order of their numbers.
             Call::ClearLine(mode) => self.erase(mode as u16, row, row + 1),
             Call::ClearScreen(mode) => self.erase(mode as u16, 0, ROWS),
             Call::TerminalAttribute(Attr::Foreground(color)) => self.style.foreground = color,

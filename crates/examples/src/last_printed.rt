@@ -79,7 +79,7 @@ impl Watcher {
         self.parser.advance(&mut self.last, bytes);
     }
 
-    /// The character that the stream printed last.
+    /// Returns the character that the stream printed last.
     pub fn last(&self) -> Option<char>
         ensures { (stream : List ℕ) → Watches self.now stream →
             result ≡ after last_after None (events default_limit stream) }

@@ -30,7 +30,7 @@ impl Sink for Text {
     }
 }
 
-/// The lines of a stream's events; none if there is no memory for them.
+/// Returns the lines of a stream's events; none if there is no memory for them.
 pub fn lines(alloc: Global, stream: &[u8]) -> Option<Vec<u8>>
     ensures { IfSome result (λ lines. lines.items ≡ lines_of (events default_limit stream.now)) }
 {

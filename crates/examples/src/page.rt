@@ -116,7 +116,7 @@ impl Timeout for NeverPending {
     }
 }
 
-/// Whether the terminal of a stream is to ring.
+/// Returns whether the terminal of a stream is to ring.
 ///
 /// # Errors
 ///
@@ -138,7 +138,7 @@ pub fn rings(alloc: Global, stream: &[u8]) -> Result<bool, AllocError>
     Ok(page.0.rung)
 }
 
-/// The page of a stream, with an update that isn't ended when the stream is.
+/// Returns the page of a stream, with an update that isn't ended when the stream is.
 ///
 /// # Errors
 ///

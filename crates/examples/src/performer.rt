@@ -34,7 +34,7 @@ impl Perform for Screen {
         }
         let mut numbers = params.iter().flatten().copied();
         let (first, second) = (numbers.next().unwrap_or(0), numbers.next().unwrap_or(0));
-        // 0 and a missing number stand for 1
+        // 0 and a missing number stand for 1.
         let (count, other) = (usize::from(first.max(1)), usize::from(second.max(1)));
         let (row, column) = self.cursor();
         match action {

@@ -52,7 +52,7 @@ impl Perform for Printed {
     }
 }
 
-/// Whether a stream, which comes in chunks, prints a character.
+/// Returns whether a stream, which comes in chunks, prints a character.
 pub fn prints(chunks: &[&[u8]]) -> bool
     ensures { result
         ≡ after seen_after false (events default_limit (flat_map (λ chunk. chunk.now) chunks.now)) }

@@ -38,7 +38,7 @@ impl Screen {
         }
     }
 
-    /// The cells of a row, or none if there is no such row.
+    /// Returns the cells of a row, or none if there is no such row.
     pub fn row(&self, row: usize) -> &[Cell] {
         if row < ROWS {
             &self.lines[self.line_of(row)]
@@ -55,7 +55,7 @@ impl Screen {
         if line < ROWS { line } else { line - ROWS }
     }
 
-    /// The row and the column of the cursor.
+    /// Returns the row and the column of the cursor.
     pub fn cursor(&self) -> (usize, usize)
         ensures row { result.0 < ROWS }
         ensures column { result.1 < COLUMNS }

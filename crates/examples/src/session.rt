@@ -57,7 +57,7 @@ impl Session {
         self.processor.stop_sync(&mut self.page);
     }
 
-    /// Whether the terminal was to ring.
+    /// Returns whether the terminal was to ring.
     pub fn has_rung(&self) -> bool
         ensures { (steps : List Step) → HasMade self.now steps
             → RangBy (given_bytes steps)

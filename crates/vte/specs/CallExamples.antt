@@ -61,7 +61,7 @@ executed_examples =
     ∷ makes_one (codes "\u{e}") (call.SetActiveCharset G1)
     ∷ makes_one (codes "\u{f}") (call.SetActiveCharset G0)
     ∷ makes_one (codes "\u{1a}") call.Substitute
-    -- controls without a row
+    -- Controls without a row.
     ∷ makes (codes "\0\u{6}\u{10}\u{18}\u{19}\u{1f}") []
     ∷ makes (0xc2 ∷ 0x85 ∷ []) []
     ∷ []
@@ -88,7 +88,7 @@ escape_examples =
     (call.ConfigureCharset G2 Ascii ∷ call.ConfigureCharset G2 SpecialCharacterAndLineDrawing ∷ [])
     ∷ makes (codes "\u{1b}+B\u{1b}+0")
     (call.ConfigureCharset G3 Ascii ∷ call.ConfigureCharset G3 SpecialCharacterAndLineDrawing ∷ [])
-    -- another set, two intermediates, an intermediate before a final byte whose row has none
+    -- Another set, two intermediates, an intermediate before a final byte whose row has none.
     ∷ makes (codes "\u{1b}(A") []
     ∷ makes (codes "\u{1b}()B") []
     ∷ makes (codes "\u{1b}#7\u{1b}(D") []
@@ -134,10 +134,10 @@ counted_examples =
     ∷ makes (codes "\u{1b}[<u\u{1b}[<0u\u{1b}[<7u\u{1b}[<65536u")
     (call.PopKeyboardModes 1 ∷ call.PopKeyboardModes 1 ∷ call.PopKeyboardModes 7
     ∷ call.PopKeyboardModes 65535 ∷ [])
-    -- nothing printed yet, then a character three times
+    -- Nothing printed yet, then a character three times.
     ∷ makes (codes "\u{1b}[3ba\u{1b}[b\u{1b}[0b\u{1b}[2b")
     (call.Input 0x61 ∷ call.Input 0x61 ∷ call.Input 0x61 ∷ call.Input 0x61 ∷ call.Input 0x61 ∷ [])
-    -- an intermediate without a row, and more than two intermediates
+    -- An intermediate without a row, and more than two intermediates.
     ∷ makes (codes "\u{1b}[?A\u{1b}[!A\u{1b}[1 A") []
     ∷ makes (codes "\u{1b}[?$#p") []
     ∷ []
@@ -260,27 +260,27 @@ rendition_examples =
     ∷ attr.Foreground (color.Named named.BrightWhite)
     ∷ attr.Background (color.Named named.BrightBlack)
     ∷ attr.Background (color.Named named.BrightWhite) ∷ [])
-    -- numbers without a row, and groups of several numbers
+    -- Numbers without a row, and groups of several numbers.
     ∷ renders (codes "\u{1b}[10;20;26;50;98;108;1:5m") []
-    -- colours in the groups that follow
+    -- Colours in the groups that follow.
     ∷ renders (codes "\u{1b}[38;2;128;66;255;1m")
     (attr.Foreground (spec 128 66 255) ∷ attr.Bold ∷ [])
     ∷ renders (codes "\u{1b}[48;5;255;58;5;0m")
     (attr.Background (Indexed 255) ∷ attr.UnderlineColor (Some (Indexed 0)) ∷ [])
-    -- an invalid part, kind and index are skipped, and the next group is read
+    -- An invalid part, kind and index are skipped, and the next group is read.
     ∷ renders (codes "\u{1b}[38;2;256;1;2m") (attr.Bold ∷ attr.Dim ∷ [])
     ∷ renders (codes "\u{1b}[38;2;1;256;1m") (attr.Bold ∷ [])
     ∷ renders (codes "\u{1b}[38;2;1;2;256;1m") (attr.Bold ∷ [])
     ∷ renders (codes "\u{1b}[38;7;1m") (attr.Bold ∷ [])
     ∷ renders (codes "\u{1b}[38;5;256;1m") (attr.Bold ∷ [])
-    -- too few numbers
+    -- Too few numbers.
     ∷ renders (codes "\u{1b}[38m\u{1b}[38;2;1;2m\u{1b}[38;5m") []
-    -- colours in one group, with a colour space and without
+    -- Colours in one group, with a colour space and without.
     ∷ renders (codes "\u{1b}[38:2:1:2:3;48:2:0:1:2:3;58:5:9m")
     (attr.Foreground (spec 1 2 3) ∷ attr.Background (spec 1 2 3)
     ∷ attr.UnderlineColor (Some (Indexed 9)) ∷ [])
     ∷ renders (codes "\u{1b}[38:5:7:8:9:1m") (attr.Foreground (Indexed 8) ∷ [])
-    -- an invalid colour in one group skips no other group
+    -- An invalid colour in one group skips no other group.
     ∷ renders (codes "\u{1b}[38:2:256:1:2;1m") (attr.Bold ∷ [])
     ∷ renders (codes "\u{1b}[38:7:1;1m") (attr.Bold ∷ [])
     ∷ renders (codes "\u{1b}[38:5:256;1m") (attr.Bold ∷ [])
@@ -301,7 +301,7 @@ title_examples =
     makes_one (codes "\u{1b}]0;a\u{7}") (call.SetTitle (Some (codes "a")))
     ∷ makes_one (codes "\u{1b}]2;a;;b\u{1b}\\") (call.SetTitle (Some (codes "a;;b")))
     ∷ makes_one (codes "\u{1b}]2; a b  \u{7}") (call.SetTitle (Some (codes "a b")))
-    -- U+0085, U+00A0 and U+3000 are white space, U+200B isn't
+    -- U+0085, U+00A0 and U+3000 are white space, U+200B isn't.
     ∷ makes_one
     (codes "\u{1b}]2;" ++ 0xc2 ∷ 0x85 ∷ 0xc2 ∷ 0xa0 ∷ codes "a" ++ 0xe3 ∷ 0x80 ∷ 0x80 ∷ bell)
     (call.SetTitle (Some (codes "a")))
@@ -323,7 +323,7 @@ link_examples =
     ∷ makes_one (codes "\u{1b}]8;a=b:id=x:id=y;u\u{7}") (links (Some (codes "x")) (codes "u"))
     ∷ makes_one (codes "\u{1b}]8;id=;u\u{7}") (links (Some []) (codes "u"))
     ∷ makes_one (codes "\u{1b}]8;aid=x;u\u{7}") (links None (codes "u"))
-    -- an id that isn't UTF-8 is dropped, and a piece of the URI that isn't is left empty
+    -- An id that isn't UTF-8 is dropped, and a piece of the URI that isn't is left empty.
     ∷ makes_one (codes "\u{1b}]8;id=" ++ 0xff ∷ codes ":id=y;u\u{7}") (links None (codes "u"))
     ∷ makes_one (codes "\u{1b}]8;;a;" ++ 0xff ∷ codes ";b\u{7}") (links None (codes "a;;b"))
     ∷ makes (codes "\u{1b}]8;;\u{7}\u{1b}]8;id=x;\u{7}\u{1b}]8;;" ++ 0xff ∷ bell)
@@ -342,11 +342,11 @@ palette_examples =
     ∷ makes (codes "\u{1b}]4;1;#000;255;rgb:f/f/f\u{1b}\\")
     (call.SetColor 1 (record { r = 0; g = 0; b = 0 })
     ∷ call.SetColor 255 (record { r = 255; g = 255; b = 255 }) ∷ [])
-    -- an invalid number, an invalid colour, an incomplete pair
+    -- An invalid number, an invalid colour, an incomplete pair.
     ∷ makes
     (codes
     "\u{1b}]4;256;?\u{7}\u{1b}]4;x;?\u{7}\u{1b}]4;;?\u{7}\u{1b}]4;0;red\u{7}\u{1b}]4;0\u{7}\u{1b}]4;1;#000;2\u{7}\u{1b}]4\u{7}") []
-    -- without an index all 256 colours are reset
+    -- Without an index all 256 colours are reset.
     ∷ makes (codes "\u{1b}]104\u{7}") (map (λ index. call.ResetColor index) (range_with_len 0 256))
     ∷ makes (codes "\u{1b}]104;\u{7}") (map (λ index. call.ResetColor index) (range_with_len 0 256))
     ∷ makes (codes "\u{1b}]104;;5\u{7}")
@@ -373,7 +373,7 @@ command_examples =
     ∷ makes (codes "\u{1b}]52;c\u{7}") []
     ∷ makes (codes "\u{1b}]110\u{7}\u{1b}]111\u{7}\u{1b}]112;x\u{7}")
     (call.ResetColor 256 ∷ call.ResetColor 257 ∷ call.ResetColor 258 ∷ [])
-    -- CAN ends a command, and so does ESC
+    -- CAN ends a command, and so does ESC.
     ∷ makes_one (codes "\u{1b}]10;?\u{18}")
     (call.DynamicColorSequence (codes "10") 256 string_terminator)
     ∷ makes (codes "\u{1b}]11;?\u{1b}c")

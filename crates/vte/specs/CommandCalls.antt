@@ -47,7 +47,7 @@ color_calls prefix index terminator text =
     if bytes_eq text (codes "?") then call.DynamicColorSequence prefix index terminator ∷ []
     else call_some (λ color. call.SetColor index color) (xparse_color_of text)
 
--- 4: colours of the palette, each an index and a text
+-- 4: colours of the palette, each an index and a text.
 abbrev pub palette_entry_calls : List ℕ → Option ℕ → List ℕ → List Call
 palette_entry_calls terminator None text = []
 palette_entry_calls terminator (Some index) text =
@@ -94,12 +94,12 @@ dynamic_calls code terminator (text ∷ texts) =
     dynamic_color_calls code terminator text (entry_of dynamic_colors code)
     ++ dynamic_calls (code + 1) terminator texts
 
--- 22: the pointer's icon, by its keyword
+-- 22: the pointer's icon, by its keyword.
 abbrev pub pointer_calls : List (List ℕ) → List Call
 pointer_calls (name ∷ []) = call_some (λ icon. call.SetMouseCursorIcon icon) (icon_of name)
 pointer_calls _ = []
 
--- 50: the cursor's shape, by the first byte after `CursorShape=`
+-- 50: the cursor's shape, by the first byte after `CursorShape=`.
 abbrev pub shapes : List (Row CursorShape)
 shapes = (0x30, shape.Block) ∷ (0x31, shape.Beam) ∷ (0x32, shape.Underline) ∷ []
 
@@ -126,7 +126,7 @@ clipboard_calls terminator (name ∷ stored ∷ more) =
     (if bytes_eq stored (codes "?") then call.ClipboardLoad (clipboard_of name) terminator
     else call.ClipboardStore (clipboard_of name) stored) ∷ []
 
--- 104: colours of the palette are reset, all of them without an index
+-- 104: colours of the palette are reset, all of them without an index.
 unfoldable pub all_reset : List Call
 all_reset = map (λ index. call.ResetColor index) (range_with_len 0 256)
 

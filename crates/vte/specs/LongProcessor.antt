@@ -28,7 +28,7 @@ pub record ProcessorLacksMemory {T W : Type 0} (processor : ProcessorFacts T W) 
   pub lacks_memory : (stream : List ℕ) → processor.has_read stream
       → ¬ processor.has_memory stream (length processor.held + more)
 
--- `reserve`, of memory for the held bytes and `more` others
+-- `reserve`, of memory for the held bytes and `more` others.
 pub record Reserves {T W : Type 0} (processor next : ProcessorFacts T W) (more : ℕ) (result : Bool)
     : Type 0 where
   -- The processor is where it was.

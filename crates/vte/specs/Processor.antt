@@ -14,9 +14,9 @@ use Rattle.vte.specs.declared.ansi.laws.replays.Step.TheVariants.{Advance, StopS
 -- ---- what a processor's parser, handler and timeout mean
 
 pub record Meaning (V W : Type 0) : Type 1 where
-  -- how many data bytes of an operating system command the parser keeps, if there is a limit
+  -- How many data bytes of an operating system command the parser keeps, if there is a limit.
   pub limit : Option ℕ
-  -- what a call makes of the handler's value
+  -- What a call makes of the handler's value.
   pub step : V → Call → V
   pub timeout : TimeoutMeaning W
 

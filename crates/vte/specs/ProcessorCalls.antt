@@ -20,7 +20,7 @@ use Rattle.vte.specs.declared.ansi.laws.replays.Step.TheVariants.{Advance, StopS
 -- handler received.
 pub record HasDelivered {V W : Type 0} (meaning : Meaning V W) (state : State V W) (bytes : List ℕ)
     (next : State V W) : Type 0 where
-  -- the bytes parsed on the way, and the positions of stops on the way
+  -- The bytes parsed on the way, and the positions of stops on the way.
   pub more : List ℕ
   pub positions : List ℕ
   pub parsed_is : next.parsed ≡ state.parsed ++ more
@@ -49,7 +49,7 @@ pub record IsAt {T V W : Type 0} (processor : ProcessorFacts T W) (value : V)
 -- it, as `IsAt` does.
 pub record HasAdvanced {V W : Type 0} (meaning : Meaning V W) (state : State V W) (bytes : List ℕ)
     (IsNowAt : State V W → Type 0) : Type 0 where
-  -- the state to which it led
+  -- The state to which it led.
   pub next : State V W
   -- It led there by turns.
   pub advances : TakesAllTurns meaning state bytes next
@@ -64,7 +64,7 @@ pub record HasAdvanced {V W : Type 0} (meaning : Meaning V W) (state : State V W
 pub record HasReplayed {V W : Type 0} (meaning : Meaning V W) (state : State V W)
     (steps : List Step)
     (IsNowAt : State V W → Type 0) : Type 0 where
-  -- the state to which they led
+  -- The state to which they led.
   pub next : State V W
   -- They led there step by step.
   pub takes : TakesSteps meaning state steps next
@@ -109,7 +109,7 @@ pub record ParsesAll {T V W : Type 0} (meaning : Meaning V W) (processor next : 
 
 -- ---- what each function promises
 
--- `new`: a processor that has read nothing, or the timeout if memory runs out
+-- `new`: a processor that has read nothing, or the timeout if memory runs out.
 pub record Creates {P T W : Type 0} (limit : Option ℕ) (meaning : TimeoutMeaning W)
     (timeout_of : T → W) (facts_of : P → ProcessorFacts T W) (given : T)
     (result : Result P T) : Type 0 where
@@ -137,7 +137,7 @@ pub record CountsHeld (held : List ℕ) (result : ℕ) : Type 0 where
   pub fits : result ≤ max_held
   pub no_end : after_last_end held ≡ None
 
--- `command_lost_data`: of the command that is open after the parsed bytes
+-- `command_lost_data`: of the command that is open after the parsed bytes.
 abbrev pub SaysParsedLoss : {T W : Type 0} → (limit : Option ℕ) → ProcessorFacts T W
     → (answer : Bool) → Type 0
 SaysParsedLoss {W} limit processor answer = (parsed held : List ℕ) (timeout : W)
@@ -156,7 +156,7 @@ module _ {T V W : Type 0} (meaning : Meaning V W) (processor next : ProcessorFac
     pub keeps_memory : (state : State V W) → IsAt processor old state
         → KeepsMemory processor.has_memory next.has_memory
 
-  -- `advance` and `advance_text`, which read all bytes
+  -- `advance` and `advance_text`, which read all bytes.
   pub record AdvancesInTurns (bytes : List ℕ) : Type 0 where
     pub advances : (state : State V W) → IsAt processor old state
         → HasAdvanced meaning state bytes (IsAt next new)

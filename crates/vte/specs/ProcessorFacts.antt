@@ -19,7 +19,7 @@ pub record ProcessorFacts (T W : Type 0) : Type 1 where
   pub has_parsed_and_holds : (parsed held : List ℕ) → (timeout : W) → Type 0
   pub held : List ℕ
   pub timeout : T
-  -- whether data were lost of the operating system command that is open, or else ended last
+  -- Whether data were lost of the operating system command that is open, or else ended last.
   pub lost : Bool
   -- Its parser has read the stream.
   pub has_read : (stream : List ℕ) → Type 0

@@ -14,7 +14,7 @@ module _ {V W : Type 0} (meaning : Meaning V W) where
   -- an update, and left the others.
   pub record ParsingTurnIsRefused (state : State V W) (bytes : List ℕ) (next : State V W)
       (left : List ℕ) : Type 0 where
-    -- the bytes parsed
+    -- The bytes parsed.
     pub prefix : List ℕ
     pub bytes_are : prefix ++ left ≡ bytes
     pub some_left : 0 < length left
@@ -51,7 +51,7 @@ module _ {V W : Type 0} (meaning : Meaning V W) where
   -- `HasAdvanced`.
   pub record HasAdvancedPart (state : State V W) (bytes : List ℕ) (read : ℕ)
       (IsNowAt : State V W → Type 0) : Type 0 where
-    -- the state to which it led
+    -- The state to which it led.
     pub next : State V W
     -- It led there by turns, of which the last may have been refused memory.
     pub takes : TakesTurnsUntilRefused state bytes next (drop read bytes)

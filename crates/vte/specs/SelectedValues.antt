@@ -25,7 +25,7 @@ use Rattle.vte_types.specs.Words.{Row}
 abbrev pub clear_tabs_table : List (Row TabulationClearMode)
 clear_tabs_table = (0, tab.Current) ∷ (3, tab.All) ∷ []
 
--- ED; 3 is xterm's
+-- ED; 3 is xterm's.
 abbrev pub clear_screen_table : List (Row ClearMode)
 clear_screen_table = (0, screen.Below) ∷ (1, screen.Above) ∷ (2, screen.All) ∷
     (3, screen.Saved) ∷ []
@@ -48,7 +48,7 @@ scp_update_table =
     (0, update.ImplementationDependant) ∷ (1, update.DataToPresentation)
     ∷ (2, update.PresentationToData) ∷ []
 
--- DECSCUSR; `None` is the terminal's default style
+-- DECSCUSR; `None` is the terminal's default style.
 abbrev pub steady_style : CursorShape → Option CursorStyle
 steady_style shape = Some (record { shape = shape; blinking = false })
 
@@ -66,11 +66,11 @@ cursor_style_table =
     (6, steady_style Beam) ∷
     []
 
--- DECSTBM: without a bottom margin the region extends to the last line
+-- DECSTBM: without a bottom margin the region extends to the last line.
 abbrev pub bottom_of : ℕ → Option ℕ
 bottom_of number = if number == 0 then None else Some number
 
--- kitty: the low five bits are the modes, and a second number says how they are applied
+-- kitty: the low five bits are the modes, and a second number says how they are applied.
 abbrev pub keyboard_modes : ℕ → KeyboardModes
 keyboard_modes number = modes_of_bits (number % 32)
 

@@ -78,14 +78,14 @@ underline = codes "\u{1b}[4m"
 
 abbrev pub update_examples : List UpdateExample
 update_examples =
-    -- after the end of an update, everything from the next begin on stays held
+    -- After the end of an update, everything from the next begin on stays held.
     record {
       steps = advance (begin_update ++ bold) ∷ advance (end_update ++ begin_update ++ underline)
           ∷ [];
       received = update_begun_call ∷ TerminalAttribute Bold ∷ update_ended_call ∷ [];
       held = begin_update ++ underline;
     }
-    -- the same, and the end of that update, which makes a call, as the stop does
+    -- The same, and the end of that update, which makes a call, as the stop does.
     ∷ record {
       steps = advance (begin_update ++ bold) ∷ advance (end_update ++ begin_update ++ underline)
           ∷ advance end_update ∷ [];
@@ -94,7 +94,7 @@ update_examples =
           ∷ update_ended_call ∷ [];
       held = [];
     }
-    -- both sequences are cut across calls
+    -- Both sequences are cut across calls.
     ∷ record {
       steps = map advance
           (codes "\u{1b}[?20" ∷ codes "26h" ∷ codes "random \u{1b}[31m stuff"
@@ -104,8 +104,8 @@ update_examples =
           ++ update_begun_call ∷ update_ended_call ∷ update_ended_call ∷ [];
       held = [];
     }
-    -- a begin beside another mode isn't recognised in the hold; it makes its calls when it is
-    -- parsed
+    -- A begin beside another mode isn't recognised in the hold; it makes its calls when it is
+    -- parsed.
     ∷ record {
       steps = advance begin_update ∷ advance (codes "a\u{1b}[?25;2026hb") ∷ advance end_update
           ∷ [];
@@ -113,9 +113,9 @@ update_examples =
           ∷ update_begun_call ∷ Input 0x62 ∷ update_ended_call ∷ update_ended_call ∷ [];
       held = [];
     }
-    -- a stop with nothing held
+    -- A stop with nothing held.
     ∷ record { steps = StopSync ∷ []; received = update_ended_call ∷ []; held = [] }
-    -- an update that a sequence of two modes begins, and a stop
+    -- An update that a sequence of two modes begins, and a stop.
     ∷ record {
       steps = advance (codes "\u{1b}[?25;2026hx") ∷ [];
       received = SetPrivateMode (Named ShowCursor) ∷ update_begun_call ∷ [];
@@ -127,7 +127,7 @@ update_examples =
           ∷ update_ended_call ∷ [];
       held = [];
     }
-    -- the last of two ends decides
+    -- The last of two ends decides.
     ∷ record {
       steps = advance
           (begin_update ++ codes "a" ++ end_update ++ begin_update ++ codes "b" ++ end_update
@@ -155,13 +155,13 @@ pub record ShortExamples : Type 0 where
   pub without_begin : from_begin_update (codes "\u{1b}[?2026l") ≡ []
   pub ends_in_last_two : begins_ending_in_last 2 (codes "\u{1b}[?2026hb") ≡ 1
   pub ends_before_last : begins_ending_in_last 1 (codes "\u{1b}[?2026hb") ≡ 0
-  -- after bytes that were parsed, up to the one that begins an update
+  -- After bytes that were parsed, up to the one that begins an update.
   pub prefix : prefix_to_begin default_limit (codes "\u{1b}[?25;20") (codes "26hb") ≡ codes "26h"
   pub prefix_without_begin : prefix_to_begin default_limit [] (codes "ab") ≡ codes "ab"
-  -- the hold takes its last byte, and none after it
+  -- The hold takes its last byte, and none after it.
   pub fits : turn_kind_of true (max_held - 1) 1 ≡ HoldTurn
   pub full : turn_kind_of true max_held 1 ≡ FullTurn
-  -- a stop between `x` and `y`, and two stops inside a character of two bytes
+  -- A stop between `x` and `y`, and two stops inside a character of two bytes.
   pub with_stop : calls_with_stops default_limit (begin_update ++ codes "xy") 0 (9 ∷ [])
       ≡ update_begun_call ∷ Input 0x78 ∷ update_ended_call ∷ Input 0x79 ∷ []
   pub with_two_stops : calls_with_stops default_limit (0xc3 ∷ 0xa9 ∷ []) 0 (1 ∷ 1 ∷ [])

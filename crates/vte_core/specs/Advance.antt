@@ -17,7 +17,7 @@ pub record ReadsBytes {V : Type 0} (step : V → Event → V) (old new : V) (byt
   pub looks_at_most : next.looks ≤ parser.looks + 5 * length bytes + 8
   pub looks_at_least : parser.looks + length bytes ≤ next.looks
 
--- `advance_until_terminated` and `advance_text_until_terminated`, which read n of the bytes
+-- `advance_until_terminated` and `advance_text_until_terminated`, which read n of the bytes.
 pub record ReadsUntilTerminated {V : Type 0} (step : V → Event → V) (is_terminated : V → Bool)
     (n : ℕ) (old new : V) (bytes : List ℕ) (parser next : ParserFacts) : Type 0 where
   pub within : n ≤ length bytes

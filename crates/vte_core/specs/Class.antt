@@ -2,11 +2,11 @@
 use Rattle.std.specs.Prelude.{Bool, false, if◌then◌else◌, List, nat_lt, true, ℕ, [], ⊤, ◌==◌, ◌∷◌, ◌≡◌}
 
 pub data Class : Type 0 where
-  -- 00..17, 19, 1C..1F: plain controls, which are C0 except CAN, SUB and ESC
+  -- 00..17, 19, 1C..1F: plain controls, which are C0 except CAN, SUB and ESC.
   PlainControl : Class
-  -- 18, 1A: CAN and SUB, which cancel the current sequence
+  -- 18, 1A: CAN and SUB, which cancel the current sequence.
   Cancel : Class
-  -- 1B: ESC, which ends the current sequence and starts another
+  -- 1B: ESC, which ends the current sequence and starts another.
   Escape : Class
   -- 20..2F
   Intermediate : Class
@@ -47,12 +47,12 @@ abbrev pub is_plain_control : Class → Bool
 is_plain_control PlainControl = true
 is_plain_control _ = false
 
--- CAN and SUB
+-- CAN and SUB.
 abbrev pub is_cancel : Class → Bool
 is_cancel Cancel = true
 is_cancel _ = false
 
--- CAN, SUB and ESC
+-- CAN, SUB and ESC.
 abbrev pub ends_sequence : Class → Bool
 ends_sequence Cancel = true
 ends_sequence Escape = true
@@ -89,29 +89,29 @@ abbrev pub is_final : Class → Bool
 is_final Final = true
 is_final _ = false
 
--- Cancel, Final and those of a head (18, 1A, 20..7E): the byte that selects the kind of a sequence
+-- Cancel, Final and those of a head (18, 1A, 20..7E): the byte that selects the kind of a sequence.
 abbrev pub is_key : Class → Bool
 is_key Cancel = true
 is_key Final = true
 is_key k = is_head_byte k
 
--- 30..7E, CAN and SUB: the end of an escape sequence
+-- 30..7E, CAN and SUB: the end of an escape sequence.
 abbrev pub ends_escape : Class → Bool
 ends_escape Intermediate = false
 ends_escape k = is_key k
 
--- 30..7E: the final byte of an escape sequence
+-- 30..7E: the final byte of an escape sequence.
 abbrev pub dispatches_escape : Class → Bool
 dispatches_escape Cancel = false
 dispatches_escape k = ends_escape k
 
--- 40..7E, CAN and SUB: the end of the head of a control sequence or a device control string
+-- 40..7E, CAN and SUB: the end of the head of a control sequence or a device control string.
 abbrev pub ends_head : Class → Bool
 ends_head Cancel = true
 ends_head Final = true
 ends_head _ = false
 
--- Plain controls and 20..7E: the data of a device control string
+-- Plain controls and 20..7E: the data of a device control string.
 abbrev pub is_device_data : Class → Bool
 is_device_data PlainControl = true
 is_device_data Final = true

@@ -2,29 +2,29 @@
 use Rattle.std.specs.Prelude.{Bool, List, ℕ, [], ◌∷◌}
 
 pub data Event : Type 0 where
-  -- a character of text
+  -- A character of text.
   Print : ℕ → Event
-  -- a control character, C0 or C1
+  -- A control character, C0 or C1.
   Execute : ℕ → Event
-  -- the start of a device control string: parameters, intermediates, whether there were too many of
-  -- either, final byte
+  -- The start of a device control string: parameters, intermediates, whether there were too many of
+  -- either, final byte.
   Hook : List (List ℕ) → List ℕ → Bool → ℕ → Event
-  -- a data byte of the string
+  -- A data byte of the string.
   Put : ℕ → Event
-  -- the end of the string
+  -- The end of the string.
   Unhook : Event
-  -- an operating system command: its pieces, and whether BEL ended it
+  -- An operating system command: its pieces, and whether BEL ended it.
   OscDispatch : List (List ℕ) → Bool → Event
-  -- a control sequence, with the same fields as `Hook`
+  -- A control sequence, with the same fields as `Hook`.
   CsiDispatch : List (List ℕ) → List ℕ → Bool → ℕ → Event
-  -- an escape sequence: intermediates, whether there were too many, final byte
+  -- An escape sequence: intermediates, whether there were too many, final byte.
   EscDispatch : List ℕ → Bool → ℕ → Event
 
--- U+FFFD, which is printed for a malformed sequence
+-- U+FFFD, which is printed for a malformed sequence.
 abbrev pub replacement : ℕ
 replacement = 0xfffd
 
--- the value of a performer after a list of events
+-- The value of a performer after a list of events.
 abbrev pub after : {V : Type 0} → (V → Event → V) → V → List Event → V
 after step value [] = value
 after step value (event ∷ events) = after step (step value event) events

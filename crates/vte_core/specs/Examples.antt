@@ -31,17 +31,17 @@ text_examples =
     gives [] []
     ∷ gives (codes "\u{7f}" ++ 0x80 ∷ 0xa0 ∷ []) (Print 0x7f ∷ Execute 0x80 ∷ Print 0xfffd ∷ [])
     ∷ gives (codes "\u{18}\u{1a}") (Execute 0x18 ∷ Execute 0x1a ∷ [])
-    -- characters of two, one and four bytes
+    -- Characters of two, one and four bytes.
     ∷ gives (0xc4 ∷ 0xb8 ∷ codes "a" ++ 0xf0 ∷ 0x9f ∷ 0x8e ∷ 0x89 ∷ [])
     (Print 0x138 ∷ Print 0x61 ∷ Print 0x1f389 ∷ [])
-    -- U+0085 is a control character
+    -- U+0085 is a control character.
     ∷ gives (0xc2 ∷ 0x85 ∷ []) (Execute 0x85 ∷ [])
-    -- an unfinished character stays open, and is replaced once anything else follows
+    -- An unfinished character stays open, and is replaced once anything else follows.
     ∷ gives (0xe4 ∷ 0xbf ∷ []) []
     ∷ gives (codes "a" ++ 0xef ∷ 0xbc ∷ codes "b") (Print 0x61 ∷ Print 0xfffd ∷ Print 0x62 ∷ [])
     ∷ gives (0xe4 ∷ 0x18 ∷ []) (Print 0xfffd ∷ Execute 0x18 ∷ [])
     ∷ gives (0xe4 ∷ 0xbf ∷ 0x99 ∷ 0xb5 ∷ []) (Print 0x4fd9 ∷ Print 0xfffd ∷ [])
-    -- half of a surrogate pair, a number above U+10FFFF, an overlong form
+    -- Half of a surrogate pair, a number above U+10FFFF, an overlong form.
     ∷ gives (0xed ∷ 0xa0 ∷ 0x80 ∷ []) (Print 0xfffd ∷ Print 0xfffd ∷ Execute 0x80 ∷ [])
     ∷ gives (0xf4 ∷ 0x90 ∷ []) (Print 0xfffd ∷ Execute 0x90 ∷ [])
     ∷ gives (0xc0 ∷ 0xaf ∷ []) (Print 0xfffd ∷ Print 0xfffd ∷ [])
@@ -51,13 +51,13 @@ abbrev pub escape_examples : List Example
 escape_examples =
     gives (codes "a\u{1b}(B\n")
     (Print 0x61 ∷ EscDispatch (codes "(") false 0x42 ∷ Execute 0x0a ∷ [])
-    -- at most two intermediates
+    -- At most two intermediates.
     ∷ gives (codes "\u{1b}()*B") (EscDispatch (codes "()") true 0x42 ∷ [])
     ∷ gives (codes "\u{1b}(\nB") (Execute 0x0a ∷ EscDispatch (codes "(") false 0x42 ∷ [])
     ∷ gives (codes "\u{1b}\u{1b}c") (EscDispatch [] false 0x63 ∷ [])
     ∷ gives (codes "\u{1b}\u{7f}c") (EscDispatch [] false 0x63 ∷ [])
     ∷ gives (codes "\u{1b}\u{18}a") (Execute 0x18 ∷ Print 0x61 ∷ [])
-    -- ESC breaks an open character
+    -- ESC breaks an open character.
     ∷ gives (0xd8 ∷ codes "\u{1b}012")
     (Print 0xfffd ∷ EscDispatch [] false 0x30 ∷ Print 0x31 ∷ Print 0x32 ∷ [])
     ∷ gives (0xf0 ∷ 0x9f ∷ 0x8e ∷ codes "\u{1b}c") (Print 0xfffd ∷ EscDispatch [] false 0x63 ∷ [])
@@ -70,23 +70,23 @@ control_sequence_examples =
     ∷ gives (codes "\u{1b}[3;1\u{1b}[?1049h")
     (CsiDispatch ((1049 ∷ []) ∷ []) (codes "?") false 0x68 ∷ [])
     ∷ gives (codes "\u{1b}[;4m") (CsiDispatch ((0 ∷ []) ∷ (4 ∷ []) ∷ []) [] false 0x6d ∷ [])
-    -- a number is at most 65,535
+    -- A number is at most 65,535.
     ∷ gives (codes "\u{1b}[65535;65536m")
     (CsiDispatch ((65535 ∷ []) ∷ (65535 ∷ []) ∷ []) [] false 0x6d ∷ [])
     ∷ gives (codes "\u{1b}[9223372036854775808m")
     (CsiDispatch ((65535 ∷ []) ∷ []) [] false 0x6d ∷ [])
-    -- 32 numbers, then 33
+    -- 32 numbers, then 33.
     ∷ gives (codes "\u{1b}[" ++ repeat 31 (codes "1;") ++ codes "p")
     (CsiDispatch (repeat 31 ((1 ∷ []) ∷ []) ++ (0 ∷ []) ∷ []) [] false 0x70 ∷ [])
     ∷ gives (codes "\u{1b}[" ++ repeat 32 (codes "1;") ++ codes "p")
     (CsiDispatch (repeat 32 ((1 ∷ []) ∷ [])) [] true 0x70 ∷ [])
-    -- a private marker counts as an intermediate
+    -- A private marker counts as an intermediate.
     ∷ gives (codes "\u{1b}[?$#p") (CsiDispatch ((0 ∷ []) ∷ []) (codes "?$") true 0x70 ∷ [])
-    -- ill-shaped heads
+    -- Ill-shaped heads.
     ∷ gives (codes "\u{1b}[1?ma") (Print 0x61 ∷ [])
     ∷ gives (codes "\u{1b}[1$2pa") (Print 0x61 ∷ [])
     ∷ gives (codes "\u{1b}[1?\u{1a}m") (Execute 0x1a ∷ Print 0x6d ∷ [])
-    -- plain controls are executed where they are; 7F and 80..FF are dropped
+    -- Plain controls are executed where they are; 7F and 80..FF are dropped.
     ∷ gives (codes "\u{1b}[1\n\u{7f}" ++ 0x80 ∷ codes "2m")
     (Execute 0x0a ∷ CsiDispatch ((12 ∷ []) ∷ []) [] false 0x6d ∷ [])
     ∷ gives (codes "\u{1b}[1\u{18}m") (Execute 0x18 ∷ Print 0x6d ∷ [])
@@ -97,22 +97,22 @@ abbrev pub device_control_examples : List Example
 device_control_examples =
     gives (codes "\u{1b}P0;1|17/ab" ++ 0x9c ∷ [])
     (Hook ((0 ∷ []) ∷ (1 ∷ []) ∷ []) [] false 0x7c ∷ map Put (codes "17/ab") ++ Unhook ∷ [])
-    -- plain controls, 7F and 9C in the head are dropped
+    -- Plain controls, 7F and 9C in the head are dropped.
     ∷ gives (codes "\u{1b}P1" ++ 0x9c ∷ codes "\n\u{7f}2qa" ++ 0x9c ∷ [])
     (Hook ((12 ∷ []) ∷ []) [] false 0x71 ∷ Put 0x61 ∷ Unhook ∷ [])
-    -- plain controls are put, 7F and 80 are dropped
+    -- Plain controls are put, 7F and 80 are dropped.
     ∷ gives (codes "\u{1b}Pq\n\u{7}\0\u{1f}" ++ 0x9c ∷ [])
     (Hook ((0 ∷ []) ∷ []) [] false 0x71 ∷ Put 0x0a ∷ Put 0x07 ∷ Put 0x00 ∷ Put 0x1f ∷ Unhook ∷ [])
     ∷ gives (codes "\u{1b}Pqa\u{7f}" ++ 0x80 ∷ codes "b" ++ 0x9c ∷ [])
     (Hook ((0 ∷ []) ∷ []) [] false 0x71 ∷ Put 0x61 ∷ Put 0x62 ∷ Unhook ∷ [])
-    -- CAN and ESC end the data
+    -- CAN and ESC end the data.
     ∷ gives (codes "\u{1b}P1qa\u{18}")
     (Hook ((1 ∷ []) ∷ []) [] false 0x71 ∷ Put 0x61 ∷ Unhook ∷ Execute 0x18 ∷ [])
     ∷ gives (codes "\u{1b}P=1sZZZ\u{1b}+\\")
     (Hook ((1 ∷ []) ∷ []) (codes "=") false 0x73 ∷ map Put (codes "ZZZ") ++ Unhook
     ∷ EscDispatch (codes "+") false 0x5c ∷ [])
     ∷ gives (codes "\u{1b}Pqa") (Hook ((0 ∷ []) ∷ []) [] false 0x71 ∷ Put 0x61 ∷ [])
-    -- after an ill-shaped head everything is dropped up to CAN
+    -- After an ill-shaped head everything is dropped up to CAN.
     ∷ gives (codes "\u{1b}P1?qx" ++ 0x9c ∷ codes "\u{18}a") (Execute 0x18 ∷ Print 0x61 ∷ [])
     ∷ []
 
@@ -125,13 +125,13 @@ system_command_examples =
     (OscDispatch (codes "2" ∷ codes "a" ∷ []) false ∷ Execute 0x18 ∷ Print 0x62 ∷ [])
     ∷ gives (codes "\u{1b}]\u{7}") (OscDispatch ([] ∷ []) true ∷ [])
     ∷ gives (codes "\u{1b}]2;a") []
-    -- plain controls are dropped, 7F and 80..FF are kept
+    -- Plain controls are dropped, 7F and 80..FF are kept.
     ∷ gives (codes "\u{1b}]a\0b\u{7f}" ++ 0x9c ∷ codes "\u{7}")
     (OscDispatch ((codes "ab\u{7f}" ++ 0x9c ∷ []) ∷ []) true ∷ [])
-    -- at most 16 pieces
+    -- At most 16 pieces.
     ∷ gives (codes "\u{1b}]" ++ repeat 33 (codes ";") ++ codes "\u{1b}")
     (OscDispatch (repeat 16 ([] ∷ [])) false ∷ [])
-    -- data after them is dropped
+    -- Data after them is dropped.
     ∷ gives (codes "\u{1b}]" ++ repeat 16 (codes "a;") ++ codes ";b\u{7}")
     (OscDispatch (repeat 16 (codes "a" ∷ [])) true ∷ [])
     ∷ []
@@ -150,7 +150,7 @@ full_buffer_examples =
     (OscDispatch (letters 1023 ∷ codes "b" ∷ []) true ∷ [])
     ∷ gives (codes "\u{1b}]" ++ letters 1023 ++ codes ";bc\u{7}")
     (OscDispatch (letters 1023 ∷ codes "b" ∷ []) true ∷ [])
-    -- after the last byte no piece begins, but what is dropped of separators isn't data
+    -- After the last byte no piece begins, but what is dropped of separators isn't data.
     ∷ gives (codes "\u{1b}]" ++ letters 1024 ++ codes ";;\u{7}")
     (OscDispatch (letters 1024 ∷ []) true ∷ [])
     ∷ gives (codes "\u{1b}]" ++ letters 1024 ++ codes ";;b\u{7}")
@@ -204,7 +204,7 @@ open_command_examples =
     ∷ loses (codes "abc") (codes "ab" ∷ [])
     ∷ loses (codes "ab;c") (codes "ab" ∷ [])
     ∷ loses (codes "a;bc") (codes "a" ∷ codes "b" ∷ [])
-    -- 16 pieces, and data after them
+    -- 16 pieces, and data after them.
     ∷ keeps (repeat 15 (codes ";") ++ codes "a;;") (repeat 15 ([] ∷ []) ++ codes "a" ∷ [])
     ∷ loses (repeat 15 (codes ";") ++ codes "a;;b") (repeat 15 ([] ∷ []) ++ codes "a" ∷ [])
     ∷ []
@@ -219,9 +219,9 @@ empty_buffer_examples =
 
 abbrev pub ignored_string_examples : List Example
 ignored_string_examples =
-    -- neither BEL nor 9C ends the string
+    -- Neither BEL nor 9C ends the string.
     gives (codes "\u{1b}Xa\u{7}" ++ 0x9c ∷ codes "\u{1a}b") (Execute 0x1a ∷ Print 0x62 ∷ [])
-    -- ESC ends one, and begins the next
+    -- ESC ends one, and begins the next.
     ∷ gives (codes "\u{1b}^a\u{1b}_b\u{18}c") (Execute 0x18 ∷ Print 0x63 ∷ [])
     ∷ []
 
@@ -243,7 +243,7 @@ AreStops limit examples =
 
 abbrev pub stop_examples : List StopExample
 stop_examples =
-    -- `a` breaks the open character, for which U+FFFD is reported before it
+    -- `a` breaks the open character, for which U+FFFD is reported before it.
     record {
       stream = [];
       bytes = 0xe4 ∷ 0xbf ∷ codes "a";
@@ -251,7 +251,7 @@ stop_examples =
       reported = Print 0xfffd ∷ [];
       resumed = [];
     }
-    -- an earlier call began the character: it is completed, or broken at once
+    -- An earlier call began the character: it is completed, or broken at once.
     ∷ record {
       stream = 0xe4 ∷ [];
       bytes = 0xbf ∷ 0x99 ∷ codes "a";
@@ -266,7 +266,7 @@ stop_examples =
       reported = Print 0xfffd ∷ [];
       resumed = [];
     }
-    -- inside a sequence no character is open
+    -- Inside a sequence no character is open.
     ∷ record {
       stream = codes "a\u{1b}";
       bytes = codes "[1m";
@@ -292,12 +292,12 @@ abbrev pub text_end_examples : List OpenExample
 text_end_examples =
     ends_in Nothing []
     ∷ ends_in Nothing (codes "a\n")
-    -- after one, two and three bytes of a character
+    -- After one, two and three bytes of a character.
     ∷ ends_in Character (codes "a" ++ 0xc3 ∷ [])
     ∷ ends_in Character (0xe4 ∷ 0xbf ∷ [])
     ∷ ends_in Character (0xf0 ∷ 0x9f ∷ 0x8e ∷ [])
     ∷ ends_in Nothing (0xf0 ∷ 0x9f ∷ 0x8e ∷ 0x89 ∷ [])
-    -- a byte that breaks one, and begins another or none
+    -- A byte that breaks one, and begins another or none.
     ∷ ends_in Character (0xe4 ∷ 0xe4 ∷ [])
     ∷ ends_in Nothing (0xe4 ∷ codes "a")
     ∷ ends_in Nothing (0xe4 ∷ 0x18 ∷ [])
@@ -306,7 +306,7 @@ text_end_examples =
 
 abbrev pub sequence_end_examples : List OpenExample
 sequence_end_examples =
-    -- which kind it is isn't known before the key
+    -- Which kind it is isn't known before the key.
     ends_in EscapeSequence (0xe4 ∷ codes "\u{1b}")
     ∷ ends_in EscapeSequence (codes "\u{1b}\n\u{7f}" ++ 0xe4 ∷ [])
     ∷ ends_in Nothing (codes "\u{1b}\u{18}")
@@ -315,7 +315,7 @@ sequence_end_examples =
     ∷ ends_in Nothing (codes "\u{1b}(B")
     ∷ ends_in Nothing (codes "\u{1b}(\u{1a}")
     ∷ ends_in Character (codes "\u{1b}c" ++ 0xe4 ∷ [])
-    -- a head of any shape, up to its final byte
+    -- A head of any shape, up to its final byte.
     ∷ ends_in ControlSequence (codes "\u{1b}[")
     ∷ ends_in ControlSequence (codes "\u{1b}[1\n$")
     ∷ ends_in ControlSequence (codes "\u{1b}[1?")
@@ -327,7 +327,7 @@ sequence_end_examples =
 
 abbrev pub string_end_examples : List OpenExample
 string_end_examples =
-    -- 9C ends no head
+    -- 9C ends no head.
     ends_in DeviceControl (codes "\u{1b}P")
     ∷ ends_in DeviceControl (codes "\u{1b}P1?" ++ 0x9c ∷ [])
     ∷ ends_in Nothing (codes "\u{1b}P1\u{18}")
@@ -337,16 +337,16 @@ string_end_examples =
     ∷ ends_in Nothing (codes "\u{1b}P1qa\u{1a}")
     ∷ ends_in EscapeSequence (codes "\u{1b}P1qa\u{1b}")
     ∷ ends_in Nothing (codes "\u{1b}P1qa\u{1b}\\")
-    -- after the final byte of an ill-shaped head the string means nothing
+    -- After the final byte of an ill-shaped head the string means nothing.
     ∷ ends_in IgnoredString (codes "\u{1b}P1?q" ++ 0x9c ∷ [])
     ∷ ends_in Nothing (codes "\u{1b}P1?q\u{18}")
-    -- BEL ends a command, 9C doesn't
+    -- BEL ends a command, 9C doesn't.
     ∷ ends_in SystemCommand (codes "\u{1b}]")
     ∷ ends_in SystemCommand (codes "\u{1b}]0;a" ++ 0x9c ∷ 0xe4 ∷ [])
     ∷ ends_in Nothing (codes "\u{1b}]0;a\u{7}")
     ∷ ends_in Nothing (codes "\u{1b}]0;a\u{1a}")
     ∷ ends_in EscapeSequence (codes "\u{1b}]0;a\u{1b}")
-    -- neither ends an ignored string
+    -- Neither ends an ignored string.
     ∷ ends_in IgnoredString (codes "\u{1b}X")
     ∷ ends_in IgnoredString (codes "\u{1b}^a\u{7}")
     ∷ ends_in IgnoredString (codes "\u{1b}_a" ++ 0x9c ∷ 0xe4 ∷ [])
@@ -377,12 +377,12 @@ abbrev pub parts_examples : List PartsExample
 parts_examples =
     divides [] 1 []
     ∷ divides (codes "ab") 1 (gives (codes "ab") (Print 0x61 ∷ Print 0x62 ∷ []) ∷ [])
-    -- the ESC at the end of the first part breaks its open character
+    -- The ESC at the end of the first part breaks its open character.
     ∷ divides (codes "a" ++ 0xc3 ∷ codes "\u{1b}[1mb") 1
     (gives (codes "a" ++ 0xc3 ∷ codes "\u{1b}") (Print 0x61 ∷ Print 0xfffd ∷ [])
     ∷ gives (codes "\u{1b}[1mb") (CsiDispatch ((1 ∷ []) ∷ []) [] false 0x6d ∷ Print 0x62 ∷ [])
     ∷ [])
-    -- it dispatches a command, and unhooks a string
+    -- It dispatches a command, and unhooks a string.
     ∷ divides (codes "\u{1b}]0;t\u{1b}\\") 2
     (gives (codes "\u{1b}]0;t\u{1b}") (OscDispatch (codes "0" ∷ codes "t" ∷ []) false ∷ [])
     ∷ gives (codes "\u{1b}\\") (EscDispatch [] false 0x5c ∷ [])
@@ -391,11 +391,11 @@ parts_examples =
     (gives (codes "\u{1b}Pqd\u{1b}") (Hook ((0 ∷ []) ∷ []) [] false 0x71 ∷ Put 0x64 ∷ Unhook ∷ [])
     ∷ gives (codes "\u{1b}\\") (EscDispatch [] false 0x5c ∷ [])
     ∷ [])
-    -- a sequence that is cut short gives nothing
+    -- A sequence that is cut short gives nothing.
     ∷ divides (codes "\u{1b}[1\u{1b}c") 0
     (gives (codes "\u{1b}[1\u{1b}") [] ∷ gives (codes "\u{1b}c") (EscDispatch [] false 0x63 ∷ [])
     ∷ [])
-    -- the first ESC is too near to the start, and the last is the end
+    -- The first ESC is too near to the start, and the last is the end.
     ∷ divides (codes "a\u{1b}b\u{1b}") 2
     (gives (codes "a\u{1b}b\u{1b}") (Print 0x61 ∷ EscDispatch [] false 0x62 ∷ [])
     ∷ gives (codes "\u{1b}") []

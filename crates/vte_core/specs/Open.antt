@@ -20,7 +20,7 @@ kind_to_close IgnoredStringToClose = IgnoredString
 unfoldable pub open_at_end : List ℕ → Open
 open_at_end stream = kind_to_close (outcome None stream).to_close
 
--- `open` of a parser that has read these streams
+-- `open` of a parser that has read these streams.
 pub record SaysOpen (limit : Option ℕ) (HasRead : List ℕ → Type 0) (result : Open) : Type 0 where
   pub kind : (stream : List ℕ) → HasRead stream → result ≡ open_at_end stream
   -- If nothing is, it goes on as a new parser, and more bytes give what they give on their own.
@@ -29,7 +29,7 @@ pub record SaysOpen (limit : Option ℕ) (HasRead : List ℕ → Type 0) (result
   -- If something is, some bytes give something else than on their own: a `0`.
   pub opens : result ≢ Nothing → (stream : List ℕ) → HasRead stream → IsUnfinished limit stream
 
--- `is_open`, in the same way
+-- `is_open`, in the same way.
 pub record SaysWhetherOpen (limit : Option ℕ) (HasRead : List ℕ → Type 0)
     (result : Bool) : Type 0 where
   pub closed : result ≡ false → (stream : List ℕ) → HasRead stream

@@ -5,16 +5,16 @@ use Rattle.vte_core.specs.Event.{Event, OscDispatch, Print, replacement, Unhook}
 -- What an ESC that follows closes, with or without an event.
 pub data ToClose : Type 0 where
   NothingToClose : ToClose
-  -- these bytes of an unfinished character
+  -- These bytes of an unfinished character.
   CharacterToClose : List ℕ → ToClose
-  -- an escape sequence; or an ESC alone, after which any kind may follow
+  -- An escape sequence; or an ESC alone, after which any kind may follow.
   EscapeToClose : ToClose
   ControlSequenceToClose : ToClose
-  -- the head of a device control string, whatever its shape
+  -- The head of a device control string, whatever its shape.
   DeviceHeadToClose : ToClose
-  -- the data of a hooked device control string
+  -- The data of a hooked device control string.
   DeviceDataToClose : ToClose
-  -- an operating system command with these pieces, and whether data bytes of it are in none
+  -- An operating system command with these pieces, and whether data bytes of it are in none.
   CommandToClose : List (List ℕ) → Bool → ToClose
   IgnoredStringToClose : ToClose
 
@@ -36,9 +36,9 @@ open_bytes (CharacterToClose bytes) = bytes
 open_bytes _ = []
 
 pub record Outcome : Type 0 where
-  -- the events, whatever follows
+  -- The events, whatever follows.
   pub reported : List Event
-  -- what an ESC at the end would close
+  -- What an ESC at the end would close.
   pub to_close : ToClose
 
 -- An outcome without events, which leaves this to close.

@@ -8,12 +8,12 @@ pub data SequenceKind : Type 0 where
   DeviceControl : SequenceKind
   -- ]
   SystemCommand : SequenceKind
-  -- X, ^ and _: SOS, PM and APC
+  -- X, ^ and _: SOS, PM and APC.
   IgnoredString : SequenceKind
-  -- any other byte, which belongs to an escape sequence
+  -- Any other byte, which belongs to an escape sequence.
   EscapeSequence : SequenceKind
 
--- X, ^ and _
+-- X, ^ and _.
 abbrev pub begins_ignored_string : ℕ → Bool
 begins_ignored_string key = key == 0x58 || key == 0x5e || key == 0x5f
 

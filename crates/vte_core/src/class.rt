@@ -72,7 +72,7 @@ pub(crate) fn is_intermediate(byte: u8) -> bool
 pub(crate) fn digit_of(byte: u8) -> Option<u32>
     ensures { MatchOption result
         (is_separator byte ≡ false → is_parameter_byte (class_of byte) ≡ false)
-        (λ digit. (48 ≤ byte) × (byte < 58) × (digit ≡ byte - 48)
+        (λ digit. (0x30 ≤ byte) × (byte < 0x3a) × (digit ≡ byte - 0x30)
         × (is_parameter_byte (class_of byte) ≡ true)) }
 {
     let digit = u32::from(byte).wrapping_sub(u32::from(b'0'));

@@ -138,7 +138,7 @@ impl<const OSC_RAW_BUF_SIZE: usize> Parser<OSC_RAW_BUF_SIZE> {
     {
         Parser {
             machine: Machine::new(None),
-            looks: Looks::none(),
+            looks: Looks::new(),
         }
     }
 

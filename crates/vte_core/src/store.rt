@@ -159,7 +159,7 @@ impl<B: Buffer> CommandStore<B> {
             reader.old reader.new }
     {
         let (bytes, ends) = (self.bytes.bytes(), self.ends.as_slice());
-        // most commands have one piece or two
+        // Most commands have one piece or two.
         match ends {
             [] => return performer.osc_dispatch(reader, &[bytes], bell_terminated),
             [end] => {
@@ -256,7 +256,7 @@ impl<A: Allocator + Clone> Clone for CommandStore<Vec<u8, A>> {
 
     fn clone(&self) -> Result<Self, AllocError> {
         let mut bytes = self.bytes.clone()?;
-        // a clone has as much memory
+        // A clone has as much memory.
         bytes.reserve(self.bytes.capacity() - bytes.len())?;
         Ok(CommandStore {
             bytes,

@@ -7,7 +7,7 @@ from lib.erasing.rules import ALLOCATORS
 # of whose length rustc tells LLVM more than of a struct's. What has a contract is unsafe to call.
 READER = [
     ("&mut Reader", "Reader"), ("&mut reader", "reader"),
-    ("looks: Looks,", ""), ("looks: Looks::none(),", ""),
+    ("looks: Looks,", ""), ("looks: Looks::new(),", ""),
     ("impl Reader { $$$f }",
      lambda names: f"impl Reader {{ {names['f'].replace('&mut self', 'self')} }}"),
     ("Input<'_>", "&[u8]"), ("chunk: Chunk<'_>,", "input: &[u8],"), ("Chunk::new($x)", "$x"),

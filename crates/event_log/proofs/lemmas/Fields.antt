@@ -42,19 +42,19 @@ extends_then {old} {mid} {new} {first} {second} first_extends second_extends = r
 
 -- ---- decimal digits
 
-pub decimal-one_digit : (n : ℕ) → n < 10 → decimal n ≡ (48 + n % 10) ∷ []
+pub decimal-one_digit : (n : ℕ) → n < 10 → decimal n ≡ (0x30 + n % 10) ∷ []
 decimal-one_digit n low = grind (arith, decimal_digit)
 
-pub decimal-two_digits : (n : ℕ) → 10 ≤ n → n < 100 → decimal n ≡ (48 + n / 10 % 10) ∷ (48 + n % 10) ∷ []
+pub decimal-two_digits : (n : ℕ) → 10 ≤ n → n < 100 → decimal n ≡ (0x30 + n / 10 % 10) ∷ (0x30 + n % 10) ∷ []
 decimal-two_digits n high low = grind (arith, decimal_step, decimal-one_digit)
 
 -- A number's last three digits come after those of its thousands.
 pub decimal-three_more : (n : ℕ) → 1000 ≤ n → n < 2 ^ 64
-    → decimal n ≡ decimal (n / 1000) ++ (48 + n / 100 % 10) ∷ (48 + n / 10 % 10) ∷ (48 + n % 10) ∷ []
+    → decimal n ≡ decimal (n / 1000) ++ (0x30 + n / 100 % 10) ∷ (0x30 + n / 10 % 10) ∷ (0x30 + n % 10) ∷ []
 decimal-three_more n high fits = grind (arith, decimal_step, append_assoc)
 
 pub decimal-three_digits : (n : ℕ) → 100 ≤ n → n < 1000
-    → decimal n ≡ (48 + n / 100 % 10) ∷ (48 + n / 10 % 10) ∷ (48 + n % 10) ∷ []
+    → decimal n ≡ (0x30 + n / 100 % 10) ∷ (0x30 + n / 10 % 10) ∷ (0x30 + n % 10) ∷ []
 decimal-three_digits n high low = grind (arith, decimal_step, decimal-two_digits)
 
 -- The fields of pieces are pushed one after another.

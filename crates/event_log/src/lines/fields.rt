@@ -127,9 +127,9 @@ impl Lines {
     }
 }
 
-/// The last decimal digit of a number.
+/// Returns the last decimal digit of a number.
 fn digit(number: usize) -> u8
-    ensures { result ≡ 48 + number % 10 }
+    ensures { result ≡ 0x30 + number % 10 }
 {
     b'0' + (number % 10) as u8
 }

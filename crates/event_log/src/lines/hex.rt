@@ -59,7 +59,7 @@ impl Lines {
     }
 }
 
-/// The line of a character below U+0100.
+/// Returns the line of a character below U+0100.
 pub(super) fn line_of_print(byte: u8) -> [u8; 11]
     ensures { result ≡ line_of (Print byte) }
 {
@@ -69,7 +69,7 @@ pub(super) fn line_of_print(byte: u8) -> [u8; 11]
     ]
 }
 
-/// The line of an executed byte.
+/// Returns the line of an executed byte.
 #[tactic(auto, unfolding(crate::specs::Lines::line_of, crate::specs::Lines::hex_byte))]
 pub(crate) fn line_of_execute(byte: u8) -> [u8; 11]
     ensures { result ≡ line_of (Execute byte) }
@@ -80,7 +80,7 @@ pub(crate) fn line_of_execute(byte: u8) -> [u8; 11]
     ]
 }
 
-/// The line of a data byte.
+/// Returns the line of a data byte.
 #[tactic(auto, unfolding(crate::specs::Lines::line_of, crate::specs::Lines::hex_byte))]
 pub(crate) fn line_of_put(byte: u8) -> [u8; 7]
     ensures { result ≡ line_of (Put byte) }
@@ -89,7 +89,7 @@ pub(crate) fn line_of_put(byte: u8) -> [u8; 7]
     [b'p', b'u', b't', b' ', high, low, b'\n']
 }
 
-/// The two hex digits of a byte.
+/// Returns the two hex digits of a byte.
 pub(super) fn hex_pair(byte: u8) -> [u8; 2]
     ensures { result ≡ hex_byte byte }
 {
@@ -97,7 +97,7 @@ pub(super) fn hex_pair(byte: u8) -> [u8; 2]
     [HEX_PAIRS[index], HEX_PAIRS[index + 1]]
 }
 
-/// How many hex digits a number has, at least one and at most six.
+/// Returns how many hex digits a number has, at least one and at most six.
 #[tactic(auto, unfolding(crate::specs::Lines::hex_length))]
 pub(super) fn hex_length(number: u32) -> usize
     ensures value { result ≡ hex_length_of number }
@@ -113,7 +113,7 @@ pub(super) fn hex_length(number: u32) -> usize
     }
 }
 
-/// The last six hex digits of a number.
+/// Returns the last six hex digits of a number.
 #[tactic(auto, unfolding(crate::specs::Lines::six_hex_digits, crate::specs::Lines::hex_byte))]
 pub(super) fn six_hex_digits(number: u32) -> [u8; 6]
     ensures { result ≡ six_hex_digits_of number }

@@ -25,9 +25,9 @@ pub record IsHeldTail (held more text : List ℕ) (start : ℕ) : Type 0 where
   pub text_is : text ≡ drop start (held ++ more)
 
 -- The result of adding the last `new` of these bytes to the others.
-pub record FindsRelease (bytes : List ℕ) (new : ℕ) (added : Release) : Type 0 where
-  pub begins : added.begins ≡ begins_ending_in_last new (part_after_last_end bytes)
-  pub released : added.released ≡ length bytes - length (still_held bytes)
+pub record FindsRelease (bytes : List ℕ) (new : ℕ) (release : Release) : Type 0 where
+  pub begins : release.begins ≡ begins_ending_in_last new (part_after_last_end bytes)
+  pub released : release.released ≡ length bytes - length (still_held bytes)
 
 -- Bytes were added to those that were held.
 pub record AddsToHold {A : Type 0} (held more : List ℕ) (hold : SyncState A)

@@ -23,7 +23,7 @@ pub record Continues (already_read next bytes : List ℕ) (n : ℕ) (given : Lis
   pub added_parts : (more : List ℕ) →
       added default_limit already_read (bytes ++ more)
       ≡ given ++ added default_limit next (drop n bytes ++ more)
-  -- what a prefix of the bytes adds, beyond the first n
+  -- What a prefix of the bytes adds, beyond the first n.
   pub prefixes : (k : ℕ) → n + k ≤ length bytes →
       IsPrefix (added default_limit already_read (take (n + k) bytes))
       (given ++ added default_limit next (take k (drop n bytes)))

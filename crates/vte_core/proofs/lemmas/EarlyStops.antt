@@ -14,7 +14,7 @@ use Rattle.vte_core.proofs.lemmas.streams.StreamSteps.{added-byte, bytes_are_bri
 
 -- The proof is by induction over positions, a unit at a time.
 
--- P is to hold of what is reported before each place. It holds of no events, and a unit keeps it.
+-- P is to hold of what is reported before each position. It holds of no events, and a unit keeps it.
 -- Before each unit Q holds, which is what the performer answers when it is asked: at first, and at
 -- each start.
 module _ {limit : Option ℕ} (P Q : List Event → Type 0) (stream bytes : List ℕ) (units : ReportsUnits limit)
@@ -56,9 +56,9 @@ reports_little : (limit : Option ℕ) (stream : List ℕ) (b : ℕ) → (open_ch
 reports_little limit stream b some_open unbroken =
     let adds = added-byte limit stream b in
     let breaks_none : breaks (open_at adds.place) (b ∷ []) ≡ false =
-    ap (λ u. breaks u (b ∷ [])) (sym adds.begun) ∙ unbroken in
+    ap (λ u. breaks u (b ∷ [])) (sym adds.begins) ∙ unbroken in
     elim
-    (adds.step.silent_or_settles (text_at adds.place (λ none_open. some_open (adds.begun ∙ none_open))) breaks_none) [
+    (adds.step.silent_or_settles (text_at adds.place (λ none_open. some_open (adds.begins ∙ none_open))) breaks_none) [
       | inl nothing ↦ (rw (adds.reported ∙ nothing) tt, inr (adds.reported ∙ nothing))
       | inr last ↦ (rw adds.reported last.1, inl (adds.ends ∙ last.0))
     ]

@@ -17,21 +17,21 @@ use Rattle.vte_core.specs.SystemCommand.{ends_system_command, items_of, loses_da
 use Rattle.vte_core.specs.Text.{executed_events, text_outcome}
 
 pub data Place : Type 0 where
-  -- in a text, after these bytes of an unfinished character
+  -- In a text, after these bytes of an unfinished character.
   InText : List ℕ → Place
-  -- after ESC
+  -- After ESC.
   AtEscape : Place
-  -- after ESC and these intermediates
+  -- After ESC and these intermediates.
   InEscape : List ℕ → Place
-  -- after ESC [ and this head
+  -- After ESC [ and this head.
   InControlSequence : List ℕ → Place
-  -- after ESC P and this head
+  -- After ESC P and this head.
   InDeviceControl : List ℕ → Place
-  -- in the data of a hooked device control string
+  -- In the data of a hooked device control string.
   InDeviceData : Place
-  -- after ESC ] and these items
+  -- After ESC ] and these items.
   InSystemCommand : List ℕ → Place
-  -- in an ignored string
+  -- In an ignored string.
   InIgnoredString : Place
 
 -- No character is open.

@@ -174,7 +174,7 @@ impl<B: Buffer> Machine<B> {
     }
 
     /// Continues a character that may not end in this call.
-    // inlined in cargo's builds, it would take registers from the loops of text
+    // Inlined in cargo's builds, it would take registers from the loops of text.
     // cargo instead: #[inline(never)]
     #[inline(always)]
     fn continue_near_end<P: CountedPerform<G>, G: Granularity, const MAY_STOP: bool>(

@@ -1,7 +1,7 @@
 //! Control sequences.
 //!
 //! Their heads are read in two short ways and a general one: `read_short_head` takes a head of at
-//! most one number, and calls nothing before the dispatch; `read_control_sequence` takes numbers
+//! most one number, and calls nothing before the dispatch; `read_numbers_and_rest` takes numbers
 //! with `;` between them, and `read_rest_of_head` whatever else a head has.
 ghost use Rattle.std.specs.Prelude.{false, List, true, ℕ, ◌+◌, ◌<◌, ◌^◌, ◌≡◌};
 ghost use Rattle.vte_core.specs.private.Prelude.{Advances, caller_looks, chunk_call, class_of, CsiDispatch, Dispatches, EventsOutsideRuns, HandlesByteWithin, HasReadHead, InControlSequence, is_final, MayRead, per_byte, ReadsWithin, TakesByte};
@@ -80,14 +80,14 @@ impl<B: Buffer> Machine<B> {
         ensures reads_within { ReadsWithin (per_byte 4) (caller_looks 0)
             input.entry.bytes.now from result self.old self.new reader.old reader.new }
     {
-        self.read_control_sequence::<P, G, MAY_STOP>(reader, performer, input, reached, from)
+        self.read_numbers_and_rest::<P, G, MAY_STOP>(reader, performer, input, reached, from)
     }
 
     /// Continues a control sequence, whose head was read as far as `reached`. There is a short path
     /// for numbers with `;` between them and a final byte after them. Most bytes take it if each
     /// call has one byte and may stop.
     #[inline(always)]
-    pub(crate) fn read_control_sequence<P: CountedPerform<G>, G: Granularity, const MAY_STOP: bool>(
+    pub(crate) fn read_numbers_and_rest<P: CountedPerform<G>, G: Granularity, const MAY_STOP: bool>(
         &mut self,
         reader: &mut Reader,
         performer: &mut P,

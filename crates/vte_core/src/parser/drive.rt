@@ -127,7 +127,7 @@ impl<B: Buffer> Machine<B> {
                 self.read_intermediates::<P, G, MAY_STOP>(reader, performer, input, from)
             }
             State::ControlSequence(progress) => {
-                self.read_control_sequence::<P, G, MAY_STOP>(
+                self.read_numbers_and_rest::<P, G, MAY_STOP>(
                     reader, performer, input, progress, from,
                 )
             }

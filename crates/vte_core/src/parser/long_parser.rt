@@ -56,7 +56,7 @@ impl<A: Allocator + Clone> Clone for LongParser<A> {
                 collected: self.machine.collected.clone()?,
                 command: self.machine.command.clone()?,
             },
-            looks: Looks::none(),
+            looks: Looks::new(),
         })
     }
 }
@@ -70,7 +70,7 @@ impl<A: Allocator> LongParser<A> {
     {
         LongParser {
             machine: Machine::new(Vec::new(alloc)),
-            looks: Looks::none(),
+            looks: Looks::new(),
         }
     }
 

@@ -24,7 +24,7 @@ pub(crate) struct Looks {
 
 impl Looks {
     /// Creates the count of a parser that has read nothing.
-    pub(crate) fn none() -> Self
+    pub(crate) fn new() -> Self
         ensures { total_looks result ≡ 0 }
     {
         Looks {

@@ -59,7 +59,7 @@ impl Reader {
 
     /// Returns the end of the bytes of a text that are read next: the position after the next ESC,
     /// or the end of the search if it found none.
-    // inlined, it would make the loop over bytes longer
+    // Inlined, it would make the loop over bytes longer.
     // cargo: #[inline(never)]
     pub(crate) fn find_text_part_end<const MAY_STOP: bool>(
         &mut self,

@@ -48,7 +48,7 @@ impl<'a> Iterator for Parts<'a> {
             return None;
         }
         let cut = find_escape(self.rest, self.size);
-        // the ESC is in this part and in the next
+        // The ESC is in this part and in the next.
         let part = &self.rest[..self.rest.len().min(cut + 1)];
         self.rest = &self.rest[cut..];
         Some(part)

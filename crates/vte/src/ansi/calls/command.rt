@@ -135,7 +135,7 @@ fn set_palette<H: Handler>(handler: &mut H, texts: &[&[u8]], terminator: &str)
     }
 }
 
-/// Sets the link that these pieces make. A URI of one piece is lent, and not copied.
+/// Sets the link that these pieces make: 8. A URI of one piece is lent, and not copied.
 #[tactic(auto, using(crate::proofs::lemmas::calls::JoinedTexts::one_text))]
 fn set_link<H: Handler, B: TextBuffer>(handler: &mut H, text: &mut B, texts: &[&[u8]])
     requires { FitsTextCapacity (B.text_capacity text.old) (map (λ piece. piece.now) texts.now) }

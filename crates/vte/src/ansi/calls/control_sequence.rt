@@ -12,7 +12,8 @@ use crate::ansi::calls::input::InputAs;
 use crate::ansi::calls::numbers::{NumberIterator, first_number};
 use crate::ansi::calls::rendition::perform_attributes;
 use crate::ansi::calls::values::{
-    character_path, keyboard_behavior, keyboard_modes, scp_update_mode, scrolling_bottom,
+    read_character_path, read_keyboard_behavior, read_keyboard_modes, read_scp_update_mode,
+    read_scrolling_bottom,
 };
 use vte_core::Params;
 use vte_handler::Handler;
@@ -23,7 +24,7 @@ use vte_types::{
 
 /// Makes the calls of a control sequence, other than `ESC [ ? .. h`, which may begin an update.
 // cargo: #[inline]
-// a guard would read the numbers
+// A guard would read the numbers.
 #[allow(clippy::collapsible_match)]
 pub(crate) fn perform_control_sequence<H: InputAs<G>, G>(
     handler: &mut H,
@@ -54,8 +55,8 @@ pub(crate) fn perform_control_sequence<H: InputAs<G>, G>(
         ([b'?', b'$'], 'p') => handler.report_private_mode(PrivateMode::new(numbers.next_or(0))),
         ([b' '], 'q') => set_cursor_style(handler, numbers.next_or(0)),
         ([b' '], 'k') => {
-            let path = character_path(numbers.next_or(0));
-            let update = scp_update_mode(numbers.next_or(0));
+            let path = read_character_path(numbers.next_or(0));
+            let update = read_scp_update_mode(numbers.next_or(0));
             if let (Some(path), Some(update)) = (path, update) {
                 handler.set_scp(path, update);
             }
@@ -70,11 +71,11 @@ pub(crate) fn perform_control_sequence<H: InputAs<G>, G>(
                 handler.report_modify_other_keys();
             }
         }
-        ([b'>'], 'u') => handler.push_keyboard_mode(keyboard_modes(numbers.next_or(0))),
+        ([b'>'], 'u') => handler.push_keyboard_mode(read_keyboard_modes(numbers.next_or(0))),
         ([b'<'], 'u') => handler.pop_keyboard_modes(numbers.next_or(1)),
         ([b'='], 'u') => {
-            let modes = keyboard_modes(numbers.next_or(0));
-            handler.set_keyboard_mode(modes, keyboard_behavior(numbers.next_or(1)));
+            let modes = read_keyboard_modes(numbers.next_or(0));
+            handler.set_keyboard_mode(modes, read_keyboard_behavior(numbers.next_or(1)));
         }
         ([b'?'], 'u') => handler.report_keyboard_mode(),
         _ => {}
@@ -123,7 +124,7 @@ fn perform_without_intermediates<H: InputAs<G>, G>(
         'T' => handler.scroll_down(usize::from(numbers.next_or(1))),
         'r' => {
             let top = usize::from(numbers.next_or(1));
-            handler.set_scrolling_region(top, scrolling_bottom(numbers.next_or(0)));
+            handler.set_scrolling_region(top, read_scrolling_bottom(numbers.next_or(0)));
         }
         's' => handler.save_cursor_position(),
         'u' => handler.restore_cursor_position(),

@@ -8,7 +8,7 @@ use vte_handler::Handler;
 use vte_types::{CharsetIndex, StandardCharset};
 
 /// Makes the calls of an executed byte.
-// three numbers for one jump by a table: a range is compared first
+// Three numbers for one jump by a table: a range is compared first.
 #[allow(clippy::manual_range_patterns)]
 pub(crate) fn perform_execute<H: Handler>(handler: &mut H, byte: u8)
     ensures { H.value_of handler.new ≡ after H.step (H.value_of handler.old) (execute_calls byte) }

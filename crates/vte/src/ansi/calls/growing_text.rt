@@ -8,7 +8,7 @@ use std::alloc::{AllocError, Allocator};
 #[derive(Drop)]
 pub(crate) struct GrowingText<A: Allocator> {
     text: String<A>,
-    // the size that was asked for, in bytes
+    /// The size that was asked for, in bytes.
     size: usize,
     ghost fits: { size ≤ string_capacity text },
 }
@@ -18,7 +18,7 @@ impl<A: Allocator + Clone> Clone for GrowingText<A> {
 
     fn clone(&self) -> Result<Self, AllocError> {
         let mut text = self.text.clone()?;
-        // a clone has as much memory
+        // A clone has as much memory.
         text.reserve(self.text.capacity() - text.len())?;
         let size = self.size;
         Ok(GrowingText { text, size })

@@ -97,7 +97,7 @@ impl<P: EventParser + Drop, B: TextBuffer + Drop, T: Timeout + Drop, A: Allocato
     }
 
     /// Stops the update, whatever is held: there is memory to parse it.
-    // stops are rare, so they are kept out of the loop over bytes of a turn
+    // Stops are rare, so they are kept out of the loop over bytes of a turn.
     // cargo: #[inline(never)]
     pub(crate) fn stop<H: Handler, G: ParseAs<H, T, P>>(&mut self, handler: &mut H)
         ensures stopped { let view = engine_view P.limit P.view B.text_capacity T.value_of in

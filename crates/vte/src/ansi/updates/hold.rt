@@ -34,7 +34,7 @@ impl<A: Allocator + Clone> Clone for SyncState<A> {
 
     fn clone(&self) -> Result<Self, AllocError> {
         let mut bytes = self.bytes.clone()?;
-        // a clone has as much memory
+        // A clone has as much memory.
         bytes.reserve(self.bytes.capacity() - bytes.len())?;
         let released = self.released;
         Ok(SyncState { bytes, released })
@@ -80,9 +80,9 @@ impl<A: Allocator> SyncState<A> {
         let _ = self.bytes.extend_from_slice(more);
         // An end may begin in the last seven of the old bytes.
         let start = len.saturating_sub(7);
-        let added = find_release(&self.bytes.as_slice()[start..], start);
-        self.released = added.released;
-        added.begins
+        let release = find_release(&self.bytes.as_slice()[start..], start);
+        self.released = release.released;
+        release.begins
     }
 
     /// Releases all held bytes, when an update is stopped.

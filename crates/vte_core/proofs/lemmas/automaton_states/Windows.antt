@@ -7,18 +7,18 @@ use Rattle.vte_core.specs.declared.reader.Window.{Window}
 use Rattle.vte_core.proofs.lemmas.automaton_states.Scanned.{next_state-failed, phase, phase-between, phase-failed, phase-waiting, so_far-all, state_after-append, state_after-next}
 use Rattle.vte_core.specs.private.Automaton.{AfterC2, AfterE0, AfterED, AfterF0, AfterF4, AutomatonState, BetweenCharacters, Failed, Follows, FollowsAt, IsAllowedAfter, NeedsOne, NeedsThree, NeedsTwo, next_between_characters, next_if_in, next_state, open_count, state_after, StaysBetweenCharacters}
 
--- The tests of a byte after three others.
+-- The tests of a byte after three others. A byte begins a character only outside of one, and continues one only inside.
 pub record Fits (three_back two_back one_back byte : ℕ) : Type 0 where
-  pub none_open : is_in (from_to 0x80 0xbf) byte ≡ false
+  pub begins_outside : is_in (from_to 0x80 0xbf) byte ≡ false
       → (one_back < 0xc0) × (two_back < 0xe0) × (three_back < 0xf0)
-  pub one_open : is_in (from_to 0x80 0xbf) byte ≡ true → one_back < 0xc0 → two_back < 0xe0 → 0xf0 ≤ three_back
-  pub plain : byte < 0x20 → is_layout byte ≡ true
-  pub lead : 0xc0 ≤ byte → (0xc2 ≤ byte) × (byte < 0xf5)
-  pub after_e0 : one_back ≡ 0xe0 → 0xa0 ≤ byte
-  pub after_ed : one_back ≡ 0xed → byte < 0xa0
-  pub after_f0 : one_back ≡ 0xf0 → 0x90 ≤ byte
-  pub after_f4 : one_back ≡ 0xf4 → byte < 0x90
-  pub after_c2 : one_back ≡ 0xc2 → 0xa0 ≤ byte
+  pub continues_inside : is_in (from_to 0x80 0xbf) byte ≡ true → one_back < 0xc0 → two_back < 0xe0 → 0xf0 ≤ three_back
+  pub control_is_layout : byte < 0x20 → is_layout byte ≡ true
+  pub lead_is_used : 0xc0 ≤ byte → (0xc2 ≤ byte) × (byte < 0xf5)
+  pub from_a0_after_e0 : one_back ≡ 0xe0 → 0xa0 ≤ byte
+  pub below_a0_after_ed : one_back ≡ 0xed → byte < 0xa0
+  pub from_90_after_f0 : one_back ≡ 0xf0 → 0x90 ≤ byte
+  pub below_90_after_f4 : one_back ≡ 0xf4 → byte < 0x90
+  pub from_a0_after_c2 : one_back ≡ 0xc2 → 0xa0 ≤ byte
 
 module _ (three_back two_back one_back b : ℕ) (fit : Fits three_back two_back one_back b) where
   allowed-in_range : (range : Range) (next : AutomatonState) → is_in range b ≡ true
@@ -34,7 +34,7 @@ module _ (three_back two_back one_back b : ℕ) (fit : Fits three_back two_back 
       → is_in (from_to 0x80 0xbf) b ≡ true
   byte-continues is_open = elim (cases_Bool (is_in (from_to 0x80 0xbf) b)) [
     | inl continues ↦ continues
-    | inr begins ↦ absurd (is_open (fit.none_open begins))
+    | inr begins ↦ absurd (is_open (fit.begins_outside begins))
   ]
 
   allowed-after_between : IsAllowedAfter BetweenCharacters three_back two_back one_back
@@ -58,27 +58,27 @@ module _ (three_back two_back one_back b : ℕ) (fit : Fits three_back two_back 
       allowed-in_range (from_to 0x80 0xbf) NeedsTwo cont ((λ _. old), grind (arith, nat_tests, cont))
   allowed-after AfterE0 old =
       let cont = byte-after_lead (omega (arith, old)) in
-      let low = fit.after_e0 old in
+      let low = fit.from_a0_after_e0 old in
       allowed-in_range (from_to 0xa0 0xbf) NeedsOne (grind (arith, nat_tests, cont, low))
       ((λ _ below. absurd (omega (arith, old, below))), grind (arith, nat_tests, cont), omega (arith, old))
   allowed-after AfterED old =
       let cont = byte-after_lead (omega (arith, old)) in
-      let high = fit.after_ed old in
+      let high = fit.below_a0_after_ed old in
       allowed-in_range (from_to 0x80 0x9f) NeedsOne (grind (arith, nat_tests, cont, high))
       ((λ _ below. absurd (omega (arith, old, below))), grind (arith, nat_tests, cont), omega (arith, old))
   allowed-after AfterF0 old =
       let cont = byte-after_lead (omega (arith, old)) in
-      let low = fit.after_f0 old in
+      let low = fit.from_90_after_f0 old in
       allowed-in_range (from_to 0x90 0xbf) NeedsTwo (grind (arith, nat_tests, cont, low))
       ((λ _. omega (arith, old)), grind (arith, nat_tests, cont))
   allowed-after AfterF4 old =
       let cont = byte-after_lead (omega (arith, old)) in
-      let high = fit.after_f4 old in
+      let high = fit.below_90_after_f4 old in
       allowed-in_range (from_to 0x80 0x8f) NeedsTwo (grind (arith, nat_tests, cont, high))
       ((λ _. omega (arith, old)), grind (arith, nat_tests, cont))
   allowed-after AfterC2 old =
       let cont = byte-after_lead (omega (arith, old.0)) in
-      let low = fit.after_c2 old.0 in
+      let low = fit.from_a0_after_c2 old.0 in
       allowed-in_range (from_to 0xa0 0xbf) BetweenCharacters (grind (arith, nat_tests, cont, low))
       (grind (arith, nat_tests, cont), omega (arith, old.0), old.1)
   allowed-after Failed old = absurd old

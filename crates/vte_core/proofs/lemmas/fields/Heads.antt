@@ -77,10 +77,10 @@ counts-separator {old} {text} b counts holds separates params joined number = re
 }
 
 -- A digit is added to the number that is being read.
-pub counts-digit : {old new : CollectedHead} {text : List ℕ} (digit : ℕ) → CountsNumbers old text → 48 ≤ digit
-    → digit < 58
+pub counts-digit : {old new : CollectedHead} {text : List ℕ} (digit : ℕ) → CountsNumbers old text → 0x30 ≤ digit
+    → digit < 0x3a
     → new.params ≡ old.params
-    → new.joined ≡ old.joined → new.number ≡ min max_value (10 * old.number + (digit - 48))
+    → new.joined ≡ old.joined → new.number ≡ min max_value (10 * old.number + (digit - 0x30))
     → CountsNumbers new (text ++ digit ∷ [])
 counts-digit {text} digit counts low high params joined number =
     search (rules, arith, append_assoc, is_digit_no_separator, number_of-push)

@@ -229,15 +229,15 @@ numbers_are text = split_numbers false [] text (All-nil IsNoSeparator)
 
 -- ---- one more digit, and how large a number gets
 
-pub is_digit_no_separator : (digit : ℕ) → 48 ≤ digit → digit < 58 → IsNoSeparator digit
+pub is_digit_no_separator : (digit : ℕ) → 0x30 ≤ digit → digit < 0x3a → IsNoSeparator digit
 is_digit_no_separator digit low high = grind (arith, nat_tests)
 
-digit_value_is : (digit : ℕ) → 48 ≤ digit → digit < 58 → digit_value digit ≡ digit - 48
+digit_value_is : (digit : ℕ) → 0x30 ≤ digit → digit < 0x3a → digit_value digit ≡ digit - 0x30
 digit_value_is digit low high = grind (arith, nat_tests)
 
 -- One more digit counts from the number so far, even if this has stopped at the greatest.
-pub number_of-push : (digits : List ℕ) (digit : ℕ) → 48 ≤ digit → digit < 58
-    → number_of (digits ++ digit ∷ []) ≡ min max_value (10 * number_of digits + (digit - 48))
+pub number_of-push : (digits : List ℕ) (digit : ℕ) → 0x30 ≤ digit → digit < 0x3a
+    → number_of (digits ++ digit ∷ []) ≡ min max_value (10 * number_of digits + (digit - 0x30))
 number_of-push digits digit low high =
     omega (arith, digits_value_push 10 digits digit, digit_value_is digit low high)
 

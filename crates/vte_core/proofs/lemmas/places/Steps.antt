@@ -12,11 +12,11 @@ abbrev pub IsSilentOrSettles : Place → List Event → Type 0
 IsSilentOrSettles next reported = (reported ≡ []) ⊎ ((open_at next ≡ []) × IsAtMostOneShort reported)
 
 abbrev pub IsText : Place → Type 0
-IsText (InText begun) = Unit {0}
+IsText (InText opened) = Unit {0}
 IsText _ = ⊥
 
 pub text_at : (place : Place) → (open_at place ≡ [] → ⊥) → IsText place
-text_at (InText begun) some_open = tt
+text_at (InText opened) some_open = tt
 text_at _ some_open = absurd (some_open refl)
 
 -- The pieces of the open command, if any, fit into a buffer of this size.
@@ -26,7 +26,7 @@ OpenPiecesFit size _ = Unit {0}
 
 -- The byte is outside of a text, and of data that are put.
 abbrev pub IsOutsideRunsAtPlace : Place → ℕ → Type 0
-IsOutsideRunsAtPlace (InText begun) byte = ⊥
+IsOutsideRunsAtPlace (InText opened) byte = ⊥
 IsOutsideRunsAtPlace InDeviceData byte = is_device_data (class_of byte) ≡ false
 IsOutsideRunsAtPlace _ byte = Unit {0}
 

@@ -15,19 +15,19 @@ use Rattle.vte_core.proofs.lemmas.places.Steps.{IsSilentOrSettles, OpenPiecesFit
 
 -- ---- a byte in a text
 
-open_data_count-text : (limit : Option ℕ) (begun : List ℕ) → open_data_count (to_close_at limit (InText begun)) ≡ 0
+open_data_count-text : (limit : Option ℕ) (opened : List ℕ) → open_data_count (to_close_at limit (InText opened)) ≡ 0
 open_data_count-text limit [] = refl
-open_data_count-text limit (a ∷ begun) = refl
+open_data_count-text limit (a ∷ opened) = refl
 
 silent_or_settles-is_short : (next : Place) (reported : List Event) → IsSilentOrSettles next reported
     → IsAtMostOneShort reported
 silent_or_settles-is_short next reported silent_or_settles = search (rules, arith)
 
-step-silent_or_settles : {limit : Option ℕ} {begun later : List ℕ} {byte : ℕ} {reported : List Event}
+step-silent_or_settles : {limit : Option ℕ} {opened later : List ℕ} {byte : ℕ} {reported : List Event}
     → IsSilentOrSettles (InText later) reported → eqb byte escape ≡ false
-    → Leads limit (InText begun) byte reported (InText later)
-    → IsReachable (InText later) → Steps limit (InText begun) byte
-step-silent_or_settles {limit} {begun} {later} {byte} {reported} silent_or_settles is_no_escape leads
+    → Leads limit (InText opened) byte reported (InText later)
+    → IsReachable (InText later) → Steps limit (InText opened) byte
+step-silent_or_settles {limit} {opened} {later} {byte} {reported} silent_or_settles is_no_escape leads
     is_reachable = record {
       reported = reported;
       next = InText later;
@@ -43,16 +43,16 @@ step-silent_or_settles {limit} {begun} {later} {byte} {reported} silent_or_settl
     }
 
 -- `Steps` need only be shown for a byte that neither ends the character nor belongs to it.
-step-by_tests : {limit : Option ℕ} {begun : List ℕ} {byte : ℕ} → eqb byte escape ≡ false
-    → (is_well_formed (begun ++ byte ∷ []) ≡ false → is_truncated (begun ++ byte ∷ []) ≡ false
-    → Steps limit (InText begun) byte)
-    → Steps limit (InText begun) byte
-step-by_tests {begun} {byte} is_no_escape neither = elim (cases_Bool (is_well_formed (begun ++ byte ∷ []))) [
-  | inl well_formed ↦ step-silent_or_settles (inr (refl, short-character (begun ++ byte ∷ []) well_formed)) is_no_escape
-      (text-well_formed well_formed) refl
-  | inr not_well_formed ↦ elim (cases_Bool (is_truncated (begun ++ byte ∷ []))) [
+step-by_tests : {limit : Option ℕ} {opened : List ℕ} {byte : ℕ} → eqb byte escape ≡ false
+    → (is_well_formed (opened ++ byte ∷ []) ≡ false → is_truncated (opened ++ byte ∷ []) ≡ false
+    → Steps limit (InText opened) byte)
+    → Steps limit (InText opened) byte
+step-by_tests {opened} {byte} is_no_escape neither = elim (cases_Bool (is_well_formed (opened ++ byte ∷ []))) [
+  | inl well_formed ↦ step-silent_or_settles (inr (refl, short-character (opened ++ byte ∷ []) well_formed))
+      is_no_escape (text-well_formed well_formed) refl
+  | inr not_well_formed ↦ elim (cases_Bool (is_truncated (opened ++ byte ∷ []))) [
     | inl truncated ↦ step-silent_or_settles (inl refl) is_no_escape text-unfinished
-        (may_continue-truncated (begun ++ byte ∷ []) truncated)
+        (may_continue-truncated (opened ++ byte ∷ []) truncated)
     | inr not_truncated ↦ neither not_well_formed not_truncated
   ]
 ]
@@ -65,10 +65,10 @@ step-settled {byte} is_no_escape =
     (text-lone not_well_formed not_truncated) refl)
 
 -- `Steps` holds for a byte that belongs to no character with those before it.
-step-broken : (limit : Option ℕ) (begun : List ℕ) (byte : ℕ) → eqb byte escape ≡ false → is_truncated begun ≡ true
-    → is_well_formed (begun ++ byte ∷ []) ≡ false → is_truncated (begun ++ byte ∷ []) ≡ false
-    → Steps limit (InText begun) byte
-step-broken limit begun byte is_no_escape truncated not_well_formed_after not_truncated_after =
+step-broken : (limit : Option ℕ) (opened : List ℕ) (byte : ℕ) → eqb byte escape ≡ false → is_truncated opened ≡ true
+    → is_well_formed (opened ++ byte ∷ []) ≡ false → is_truncated (opened ++ byte ∷ []) ≡ false
+    → Steps limit (InText opened) byte
+step-broken limit opened byte is_no_escape truncated not_well_formed_after not_truncated_after =
     let alone : Steps limit (InText []) byte = step-settled is_no_escape in
     let silent_or_settles : IsSilentOrSettles alone.next alone.reported = alone.silent_or_settles tt refl in
     record {
@@ -77,8 +77,8 @@ step-broken limit begun byte is_no_escape truncated not_well_formed_after not_tr
       is_reachable = alone.is_reachable;
       leads = record {
         leads = λ rest.
-            waits-byte limit (InText begun) (InText []) byte (Print replacement ∷ []) rest is_no_escape
-            (text_outcome-broken begun byte truncated not_well_formed_after not_truncated_after)
+            waits-byte limit (InText opened) (InText []) byte (Print replacement ∷ []) rest is_no_escape
+            (text_outcome-broken opened byte truncated not_well_formed_after not_truncated_after)
             ∙ ap (report (Print replacement ∷ [])) (alone.leads.leads rest);
       };
       brief =
@@ -91,13 +91,13 @@ step-broken limit begun byte is_no_escape truncated not_well_formed_after not_tr
             | inr closed ↦ inl closed.0
           ];
       silent_or_settles = λ _ unbroken. absurd (false≢true
-          (sym unbroken ∙ breaks-broken begun byte truncated not_well_formed_after not_truncated_after));
+          (sym unbroken ∙ breaks-broken opened byte truncated not_well_formed_after not_truncated_after));
       outside_runs = λ outside. absurd outside;
     }
 
-pub step-text : (limit : Option ℕ) (begun : List ℕ) (byte : ℕ) → eqb byte escape ≡ false → may_continue begun ≡ true
-    → Steps limit (InText begun) byte
-step-text limit begun byte is_no_escape continues = search (rules, arith, step-settled, step-by_tests, step-broken)
+pub step-text : (limit : Option ℕ) (opened : List ℕ) (byte : ℕ) → eqb byte escape ≡ false → may_continue opened ≡ true
+    → Steps limit (InText opened) byte
+step-text limit opened byte is_no_escape continues = search (rules, arith, step-settled, step-by_tests, step-broken)
 
 -- ---- CAN and SUB
 

@@ -177,11 +177,11 @@ reports-nothing {limit} {stream} {bytes} settled has_read =
 -- Of a character that was open before the call, all events but the first are outside runs, and none prints ASCII.
 pub reports-open : {limit : Option ℕ} {stream begun bytes : List ℕ} {j : ℕ} → AddsCharacter limit stream begun bytes 0 j
     → (open_character stream ≡ [] → ⊥) → ReportsOutsideRuns limit stream bytes j
-reports-open {limit} {stream} {bytes} {j} adds opened =
+reports-open {limit} {stream} {bytes} {j} adds some_open =
     let all : reported_before limit stream bytes j ≡ adds.events =
     adds.parts ∙ ap (λ (events : List Event). events ++ adds.events) (added-nothing limit stream) in
     record {
-      outside_runs = λ closed. absurd (opened closed);
+      outside_runs = λ closed. absurd (some_open closed);
       after_first = subst AllAfterFirst (sym all) (elim adds.events_are [
         | inl others ↦ All-drop IsOutsideRuns 1 adds.events others
         | inr whole ↦ subst AllAfterFirst (sym whole.event_is) (All-nil IsOutsideRuns)

@@ -24,7 +24,7 @@ use Rattle.std.proofs.lemmas.List.{drop-drop}
 is_at-in_text : {B : Type 0} {limit : Option ℕ} {parser : Machine B} {longer : Unfinished} {opened : List ℕ}
     → parser.state ≡ Text longer → bytes_of longer ≡ opened
     → may_continue opened ≡ true → IsAtPlace limit parser (InText opened)
-is_at-in_text in_state same more = is_at-by in_state (same, more)
+is_at-in_text in_state same continues = is_at-by in_state (same, continues)
 
 -- The parser, inside a character of these bytes.
 abbrev pub in_text : {B : Type 0} → Machine B → Unfinished → Machine B
@@ -32,7 +32,7 @@ in_text parser unfinished = record { state = Text unfinished; collected = parser
 
 record AtText (unfinished : Unfinished) (place : Place) : Type 0 where
   same : place ≡ InText (bytes_of unfinished)
-  begun : may_continue (bytes_of unfinished) ≡ true
+  continues : may_continue (bytes_of unfinished) ≡ true
 
 at_text-by_fields : {B : Type 0} (limit : Option ℕ) (parser : Machine B) {unfinished : Unfinished} {place : Place}
     → IsPlaceOfState limit (Text unfinished) parser place → AtText unfinished place
@@ -51,7 +51,7 @@ module _ {V B : Type 0} {call : ChunkCall V} {old mid : V} {stream : List ℕ} w
   inside-open : {i : ℕ} {unfinished : Unfinished} {parser : Machine B} → parser.state ≡ Text unfinished
       → IsInsidePosition call old mid stream i parser → may_continue (bytes_of unfinished) ≡ true
   inside-open {unfinished} {parser} in_state inside =
-      (at_text-by_fields call.limit parser (is_at-in in_state inside.is_at)).begun
+      (at_text-by_fields call.limit parser (is_at-in in_state inside.is_at)).continues
 
   -- A byte that continues a character leads to the next position inside it.
   extended-truncated : {i b : ℕ} {unfinished longer : Unfinished} {parser next : Machine B}
@@ -63,20 +63,20 @@ module _ {V B : Type 0} {call : ChunkCall V} {old mid : V} {stream : List ℕ} w
   extended-truncated {i} {b} {unfinished} {longer} {parser} {next} in_state truncated extends state inside before_end
       byte_is =
       let at_text = at_text-by_fields call.limit parser (is_at-in in_state inside.is_at) in
-      let more : is_truncated (bytes_of unfinished ++ b ∷ []) ≡ true =
+      let truncated_after : is_truncated (bytes_of unfinished ++ b ∷ []) ≡ true =
       subst (λ bytes. is_truncated bytes ≡ true) extends.0 extends.1 in
       record {
         place = InText (bytes_of unfinished ++ b ∷ []);
         is_at =
             is_at-in_text state extends.0
-            (may_continue-truncated (bytes_of unfinished ++ b ∷ []) more);
+            (may_continue-truncated (bytes_of unfinished ++ b ∷ []) truncated_after);
         progress =
-            progress-extended {reported = []} at_text.begun before_end byte_is
+            progress-extended {reported = []} at_text.continues before_end byte_is
             (truncated-some (bytes_of unfinished) truncated)
-            (breaks-unfinished (bytes_of unfinished) b more)
+            (breaks-unfinished (bytes_of unfinished) b truncated_after)
             (bytes_lead-byte
-            (extending_is_no_escape (bytes_of unfinished) b truncated (inr more))
-            text-unfinished) refl (may_continue-truncated (bytes_of unfinished ++ b ∷ []) more)
+            (extending_is_no_escape (bytes_of unfinished) b truncated (inr truncated_after))
+            text-unfinished) refl (may_continue-truncated (bytes_of unfinished ++ b ∷ []) truncated_after)
             (subst (ProgressInside call old mid stream i) at_text.same inside.progress);
       }
 
@@ -89,15 +89,15 @@ module _ {V B : Type 0} {call : ChunkCall V} {old mid : V} {stream : List ℕ} w
       → i < length call.bytes
       → b ≡ slice_index call.bytes i → j ≡ i + 1 → IsAtPosition call old new stream j next
   extended-well_formed {new} {i} {b} {unfinished} {parser}
-      {next} begun opened extends state performed inside before_end byte_is later =
-      let at_text = at_text-by_fields call.limit parser (is_at-in begun inside.is_at) in
+      {next} in_state truncated extends state performed inside before_end byte_is later =
+      let at_text = at_text-by_fields call.limit parser (is_at-in in_state inside.is_at) in
       let come =
       progress-extended {new = new} {next = InText []}
-      {reported = character_event (scalar_of (bytes_of unfinished ++ b ∷ [])) ∷ []} at_text.begun before_end byte_is
-      (truncated-some (bytes_of unfinished) opened)
+      {reported = character_event (scalar_of (bytes_of unfinished ++ b ∷ [])) ∷ []} at_text.continues before_end byte_is
+      (truncated-some (bytes_of unfinished) truncated)
       (breaks-well_formed (bytes_of unfinished) b extends.0)
       (bytes_lead-byte
-      (extending_is_no_escape (bytes_of unfinished) b opened (inl extends.0)) (text-well_formed extends.0))
+      (extending_is_no_escape (bytes_of unfinished) b truncated (inl extends.0)) (text-well_formed extends.0))
       (performed ∙ ap (λ n. call.step mid (character_event n)) extends.1) refl
       (subst (ProgressInside call old mid stream i) at_text.same inside.progress) in
       subst (λ n. IsAtPosition call old new stream n next) (sym later)
@@ -123,7 +123,7 @@ module _ {V B : Type 0} {call : ChunkCall V} {old mid : V} {stream : List ℕ} w
         is_at = is_at-in_text state refl refl;
         settled = λ _. refl;
         progress =
-            progress-broken at_text.begun before_end byte_is
+            progress-broken at_text.continues before_end byte_is
             (breaks-broken (bytes_of unfinished) b truncated extends.0 extends.1) performed
             (subst (ProgressInside call old mid stream i) at_text.same inside.progress);
       }
@@ -132,24 +132,24 @@ module _ {V B : Type 0} {call : ChunkCall V} {old mid : V} {stream : List ℕ} w
 pub opens-text : {B : Type 0} {limit : Option ℕ} {stream : List ℕ} {unfinished : Unfinished} (parser : Machine B)
     → parser.state ≡ Text unfinished → bytes_of unfinished ≢ [] → HasReadWithLimit limit parser stream
     → open_character stream ≡ [] → ⊥
-opens-text {limit} {stream} {unfinished} parser in_state has_begun has_read closed =
+opens-text {limit} {stream} {unfinished} parser in_state some_open has_read closed =
     search (rules, arith, at_text-by_fields, is_at-in, after-open_character, is_at-place)
 
 -- ---- any number of bytes
 
 -- The next m bytes extend the bytes of a character.
-character-bytes : (bytes : List ℕ) (i j n m : ℕ) (begun : List ℕ) {opened : List ℕ} → j ≡ i + n
-    → opened ≡ begun ++ take n (drop i bytes)
-    → opened ++ take m (drop j bytes) ≡ begun ++ take (n + m) (drop i bytes)
-character-bytes bytes i j n m begun far bytes_are = search (rules, arith, append_assoc, drop-drop, take-add)
+character-bytes : (bytes : List ℕ) (i j n m : ℕ) (before : List ℕ) {opened : List ℕ} → j ≡ i + n
+    → opened ≡ before ++ take n (drop i bytes)
+    → opened ++ take m (drop j bytes) ≡ before ++ take (n + m) (drop i bytes)
+character-bytes bytes i j n m before far bytes_are = search (rules, arith, append_assoc, drop-drop, take-add)
 
-character-byte : (bytes : List ℕ) (i n : ℕ) (begun : List ℕ) {j b : ℕ} {opened : List ℕ} → j < length bytes → j ≡ i + n
-    → b ≡ slice_index bytes j → opened ≡ begun ++ take n (drop i bytes)
-    → opened ++ b ∷ [] ≡ begun ++ take (n + 1) (drop i bytes)
-character-byte bytes i n begun {j} {opened} before_end far byte_is bytes_are =
+character-byte : (bytes : List ℕ) (i n : ℕ) (before : List ℕ) {j b : ℕ} {opened : List ℕ} → j < length bytes → j ≡ i + n
+    → b ≡ slice_index bytes j → opened ≡ before ++ take n (drop i bytes)
+    → opened ++ b ∷ [] ≡ before ++ take (n + 1) (drop i bytes)
+character-byte bytes i n before {j} {opened} before_end far byte_is bytes_are =
     ap (λ (xs : List ℕ). opened ++ xs) (ap (λ (b : ℕ). b ∷ []) byte_is
     ∙ sym (ap (take 1) (drop_more bytes j 0 before_end)))
-    ∙ character-bytes bytes i j n 1 begun far bytes_are
+    ∙ character-bytes bytes i j n 1 before far bytes_are
 
 -- From position i, inside a character of the bytes `begun`, a call has come to position j, inside a character of the
 -- bytes `unfinished`, and reported nothing.
@@ -164,7 +164,7 @@ pub record GoesOn {V B : Type 0} (call : ChunkCall V) (value : V) (i j : ℕ) (b
       (added call.limit stream (take i call.bytes)) stream i parser
       → IsInsidePosition (keeping call.limit call.bytes) [] (added call.limit stream (take i call.bytes)) stream j
       (in_text next unfinished)
-  pub more : may_continue (bytes_of begun) ≡ true → is_truncated (bytes_of unfinished) ≡ true
+  pub truncated : may_continue (bytes_of begun) ≡ true → is_truncated (bytes_of unfinished) ≡ true
   pub n : ℕ
   pub far : j ≡ i + n
   pub bytes_are : may_continue (bytes_of begun) ≡ true
@@ -172,7 +172,7 @@ pub record GoesOn {V B : Type 0} (call : ChunkCall V) (value : V) (i j : ℕ) (b
 
 module _ {V B : Type 0} {call : ChunkCall V} {value : V} {i : ℕ} {begun : Unfinished} where
   pub goes_on-nowhere : (next : Machine B) → bytes_of begun ≢ [] → GoesOn call value i i begun begun next
-  goes_on-nowhere next has_begun = search (rules, arith)
+  goes_on-nowhere next some_open = search (rules, arith)
 
   pub goes_on-more : {j b : ℕ} {unfinished longer : Unfinished} {parser next : Machine B}
       → GoesOn call value i j begun unfinished parser
@@ -180,17 +180,18 @@ module _ {V B : Type 0} {call : ChunkCall V} {value : V} {i : ℕ} {begun : Unfi
       → j < length call.bytes
       → b ≡ slice_index call.bytes j → GoesOn call value i (j + 1) begun longer next
   goes_on-more goes extends before_end byte_is = record {
-    inside = λ old stream parser is_text inside. let more = goes.more (inside-open is_text inside) in
-        extended-truncated refl more (extends more) refl (goes.inside old stream parser is_text inside) before_end
-        byte_is;
-    kept = λ stream parser is_text inside. let more = goes.more (inside-open is_text inside) in
-        extended-truncated refl more (extends more) refl (goes.kept stream parser is_text inside) before_end byte_is;
-    more = λ opened. (extends (goes.more opened)).1;
+    inside = λ old stream parser in_state inside. let truncated = goes.truncated (inside-open in_state inside) in
+        extended-truncated refl truncated (extends truncated) refl (goes.inside old stream parser in_state inside)
+        before_end byte_is;
+    kept = λ stream parser in_state inside. let truncated = goes.truncated (inside-open in_state inside) in
+        extended-truncated refl truncated (extends truncated) refl (goes.kept stream parser in_state inside)
+        before_end byte_is;
+    truncated = λ continues. (extends (goes.truncated continues)).1;
     n = goes.n + 1;
     far = omega (arith, goes.far);
     bytes_are =
-        λ opened. (extends (goes.more opened)).0
-        ∙ character-byte call.bytes i goes.n (bytes_of begun) before_end goes.far byte_is (goes.bytes_are opened);
+        λ continues. (extends (goes.truncated continues)).0
+        ∙ character-byte call.bytes i goes.n (bytes_of begun) before_end goes.far byte_is (goes.bytes_are continues);
   }
 
   -- If all bytes are read, the character stays open.
@@ -199,14 +200,14 @@ module _ {V B : Type 0} {call : ChunkCall V} {value : V} {i : ℕ} {begun : Unfi
       → length call.bytes ≤ k → Completes call value value i k begun (in_text next unfinished)
   completes-all goes end all = record {
     is_at_position =
-        λ old stream parser is_text inside. inside-all
-        (inside-moved end (goes.inside old stream parser is_text inside)) all;
+        λ old stream parser in_state inside. inside-all
+        (inside-moved end (goes.inside old stream parser in_state inside)) all;
     in_text = λ before_end. absurd (omega arith);
-    adds = λ old stream parser is_text inside. record {
+    adds = λ old stream parser in_state inside. record {
       events = [];
       parts =
           sym (reported-at
-          (inside-all (inside-moved end (goes.kept stream parser is_text (recorded-inside inside))) all))
+          (inside-all (inside-moved end (goes.kept stream parser in_state (recorded-inside inside))) all))
           ∙ sym (append-nil (added call.limit stream (take i call.bytes)));
       events_are = inl (All-nil IsOutsideRuns);
     };
@@ -219,29 +220,30 @@ module _ {V B : Type 0} {call : ChunkCall V} {value : V} {i : ℕ} {begun : Unfi
       → next.state ≡ Text Empty → new ≡ call.step value (character_event scalar) → j < length call.bytes
       → b ≡ slice_index call.bytes j → k ≡ j + 1 → Completes call value new i k begun next
   completes-well_formed {scalar} {unfinished} {next} goes extends state performed before_end byte_is later = record {
-    is_at_position = λ old stream parser is_text inside. let more = goes.more (inside-open is_text inside) in
-        extended-well_formed refl more (extends more) state performed
-        (goes.inside old stream parser is_text inside) before_end byte_is later;
+    is_at_position = λ old stream parser in_state inside.
+        let truncated = goes.truncated (inside-open in_state inside) in
+        extended-well_formed refl truncated (extends truncated) state performed
+        (goes.inside old stream parser in_state inside) before_end byte_is later;
     in_text = λ _. state;
-    adds = λ old stream parser is_text inside.
-        let opened = inside-open is_text inside in
-        let more = goes.more opened in
-        let whole = extends more in
+    adds = λ old stream parser in_state inside.
+        let continues = inside-open in_state inside in
+        let truncated = goes.truncated continues in
+        let whole = extends truncated in
         let same =
-        character-byte call.bytes i goes.n (bytes_of begun) before_end goes.far byte_is (goes.bytes_are opened) in
+        character-byte call.bytes i goes.n (bytes_of begun) before_end goes.far byte_is (goes.bytes_are continues) in
         record {
           events = character_event scalar ∷ [];
           parts =
               sym (reported-at
-              (extended-well_formed {next = next} refl more whole state refl
-              (goes.kept stream parser is_text (recorded-inside inside)) before_end byte_is later));
+              (extended-well_formed {next = next} refl truncated whole state refl
+              (goes.kept stream parser in_state (recorded-inside inside)) before_end byte_is later));
           events_are = inr (record {
             n = goes.n + 1;
             within = omega (arith, goes.far, before_end);
             well_formed = subst (λ (bytes : List ℕ). is_well_formed bytes ≡ true) same whole.0;
             several_bytes =
                 subst (λ (bytes : List ℕ). 1 < length bytes) same
-                (length-longer _ _ (truncated-some (bytes_of unfinished) more));
+                (length-longer _ _ (truncated-some (bytes_of unfinished) truncated));
             event_is = ap (λ n. character_event n ∷ []) (whole.1 ∙ ap scalar_of same);
           });
         };
@@ -254,18 +256,19 @@ module _ {V B : Type 0} {call : ChunkCall V} {value : V} {i : ℕ} {begun : Unfi
       → next.state ≡ Text Empty → new ≡ call.step value (Print replacement) → j < length call.bytes
       → b ≡ slice_index call.bytes j → Completes call value new i j begun next
   completes-malformed {next} goes extends state performed before_end byte_is = record {
-    is_at_position = λ old stream parser is_text inside. let more = goes.more (inside-open is_text inside) in
-        extended-malformed refl more (extends more) state performed
-        (goes.inside old stream parser is_text inside) before_end byte_is;
+    is_at_position = λ old stream parser in_state inside.
+        let truncated = goes.truncated (inside-open in_state inside) in
+        extended-malformed refl truncated (extends truncated) state performed
+        (goes.inside old stream parser in_state inside) before_end byte_is;
     in_text = λ _. state;
-    adds = λ old stream parser is_text inside.
-        let more = goes.more (inside-open is_text inside) in
+    adds = λ old stream parser in_state inside.
+        let truncated = goes.truncated (inside-open in_state inside) in
         record {
           events = Print replacement ∷ [];
           parts =
               sym (reported-at
-              (extended-malformed {next = next} refl more (extends more) state refl
-              (goes.kept stream parser is_text (recorded-inside inside)) before_end byte_is));
+              (extended-malformed {next = next} refl truncated (extends truncated) state refl
+              (goes.kept stream parser in_state (recorded-inside inside)) before_end byte_is));
           events_are = inl (All-cons IsOutsideRuns (Print replacement) [] refl (All-nil IsOutsideRuns));
         };
   }
@@ -276,15 +279,15 @@ module _ {V B : Type 0} {call : ChunkCall V} {value : V} {i : ℕ} {begun : Unfi
       → Completes call value new i k begun next
   completes-then {j} {unfinished} {parser} goes completes = record {
     is_at_position =
-        λ old stream begun is_text inside. completes.is_at_position old stream (in_text parser unfinished) refl
-        (goes.inside old stream begun is_text inside);
+        λ old stream begun_parser in_state inside. completes.is_at_position old stream (in_text parser unfinished) refl
+        (goes.inside old stream begun_parser in_state inside);
     in_text = completes.in_text;
-    adds = λ old stream begun_parser is_text inside.
-        let opened = inside-open is_text inside in
+    adds = λ old stream begun_parser in_state inside.
+        let continues = inside-open in_state inside in
         let reported =
         completes.adds old stream (in_text parser unfinished) refl
-        (goes.inside old stream begun_parser is_text inside) in
-        let silent = added-inside (goes.kept stream begun_parser is_text (recorded-inside inside)) in
+        (goes.inside old stream begun_parser in_state inside) in
+        let silent = added-inside (goes.kept stream begun_parser in_state (recorded-inside inside)) in
         record {
           events = reported.events;
           parts = reported.parts ∙ ap (λ (events : List Event). events ++ reported.events) (sym silent);
@@ -293,7 +296,7 @@ module _ {V B : Type 0} {call : ChunkCall V} {value : V} {i : ℕ} {begun : Unfi
             | inr whole ↦
                 let same : bytes_of unfinished ++ take whole.n (drop j call.bytes)
                 ≡ bytes_of begun ++ take (goes.n + whole.n) (drop i call.bytes) =
-                character-bytes call.bytes i j goes.n whole.n (bytes_of begun) goes.far (goes.bytes_are opened) in
+                character-bytes call.bytes i j goes.n whole.n (bytes_of begun) goes.far (goes.bytes_are continues) in
                 inr (record {
                   n = goes.n + whole.n;
                   within = omega (arith, goes.far, whole.within);
@@ -311,9 +314,8 @@ module _ {V B : Type 0} {call : ChunkCall V} {value : V} {i first second : ℕ} 
       → i < length call.bytes
       → second ≡ slice_index call.bytes i → GoesOn call value i (i + 1) (One first) (Two first second) next
   goes_on-second next low fits before_end second_is =
-      goes_on-more (goes_on-nowhere next (unfinished-some first [])) (λ more. second-open first second more fits low)
-      before_end
-      second_is
+      goes_on-more (goes_on-nowhere next (unfinished-some first []))
+      (λ truncated. second-open first second truncated fits low) before_end second_is
 
   -- A character of four bytes goes on with its second and its third byte.
   pub goes_on-third : {third : ℕ} (next : Machine B) → 0xf0 ≤ first → is_in (second_range first) second ≡ true
@@ -323,13 +325,13 @@ module _ {V B : Type 0} {call : ChunkCall V} {value : V} {i first second : ℕ} 
   goes_on-third {third} next low second_fits third_fits before_end second_is third_is =
       let goes =
       goes_on-more {next = next} (goes_on-second next (omega arith) second_fits (omega arith) second_is)
-      (λ more. third-open first second third more third_fits low) (omega arith) third_is in
+      (λ truncated. third-open first second third truncated third_fits low) (omega arith) third_is in
       record {
         inside =
-            λ old stream parser is_text inside. inside-moved (omega arith)
-            (goes.inside old stream parser is_text inside);
-        kept = λ stream parser is_text inside. inside-moved (omega arith) (goes.kept stream parser is_text inside);
-        more = goes.more;
+            λ old stream parser in_state inside. inside-moved (omega arith)
+            (goes.inside old stream parser in_state inside);
+        kept = λ stream parser in_state inside. inside-moved (omega arith) (goes.kept stream parser in_state inside);
+        truncated = goes.truncated;
         n = goes.n;
         far = omega (arith, goes.far);
         bytes_are = goes.bytes_are;

@@ -12,7 +12,8 @@ takes-escape : {V B : Type 0} {step : V → Event → V} {value : V} {limit : Op
     {place : Place} → parser.state ≡ Escape → b ≡ 0x1b
     → IsAtPlace limit parser place → IsPlaceOfState limit Escape parser place
     → TakesBytes step value value limit place (b ∷ []) parser
-takes-escape {place = AtEscape} begun is_escape is_at by = takes_bytes-escape is_escape begun by AtEscape is_at refl
+takes-escape {place = AtEscape} in_state is_escape is_at by =
+    takes_bytes-escape is_escape in_state by AtEscape is_at refl
 takes-escape in_state is_escape is_at by = absurd by
 
 -- After ESC, another ESC changes nothing.

@@ -157,12 +157,12 @@ module _ {V : Type 0} {call : ChunkCall V} {old : V} {stream : List ℕ} where
       → breaks (open_at place) (b ∷ []) ≡ false → BytesLead call.limit place (b ∷ []) reported next
       → new ≡ after call.step value reported → IsReachable next → ProgressInside call old value stream i place
       → ProgressInside call old new stream (i + 1) next
-  progress-extended {i} {b} {place} is_here before_end byte_is has_begun unbroken leads performed is_reachable
+  progress-extended {i} {b} {place} is_here before_end byte_is some_open unbroken leads performed is_reachable
       progress =
       let ends : open_character (stream ++ take i call.bytes) ≡ open_at place =
       after-open_character progress.is_after is_here in
       progress-one before_end byte_is
-      (λ _ start. absurd (no_start before_end byte_is ends has_begun unbroken start)) leads
+      (λ _ start. absurd (no_start before_end byte_is ends some_open unbroken start)) leads
       performed is_reachable
       (progress-unbroken (breaks_at-byte stream call.bytes i before_end byte_is ends ∙ unbroken) progress)
 

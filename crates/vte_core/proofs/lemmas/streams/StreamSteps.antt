@@ -134,7 +134,7 @@ resynchronises limit = record {
 
 pub record AddedByByte (limit : Option ℕ) (stream : List ℕ) (b : ℕ) : Type 0 where
   pub place : Place
-  pub begun : open_character stream ≡ open_at place
+  pub begins : open_character stream ≡ open_at place
   pub step : Steps limit place b
   pub ends : open_character (stream ++ b ∷ []) ≡ open_at step.next
   pub reported : added limit stream (b ∷ []) ≡ step.reported
@@ -146,7 +146,7 @@ added-byte limit stream b =
     let later = after-leads leads.is_after step.leads step.is_reachable in
     record {
       place = leads.place;
-      begun = after-open_character leads.is_after leads.is_reachable;
+      begins = after-open_character leads.is_after leads.is_reachable;
       step = step;
       ends = after-open_character later step.is_reachable;
       reported = added-leads leads.is_after step.leads step.is_reachable;

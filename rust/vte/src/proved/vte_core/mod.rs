@@ -19,10 +19,10 @@ mod utf8;
 
 pub use params::{Params, ParamsIter};
 pub use parser::{Open, Parser};
-// for C alone
+// For C alone.
 #[cfg(feature = "__own")]
 pub use parser::Saved;
-// the parser that allocates
+// The parser that allocates.
 #[cfg(any(feature = "std", feature = "ansi"))]
 pub use parser::{LongParser, Refused};
 pub use perform::{Perform, PerformText};

@@ -86,7 +86,7 @@ impl<B: Buffer> CommandStore<B> {
         bell_terminated: bool,
     ) {
         let (bytes, ends) = (self.bytes.bytes(), self.ends.as_slice());
-        // most commands have one piece or two
+        // Most commands have one piece or two.
         match ends {
             [] => return performer.osc_dispatch(reader, &[bytes], bell_terminated),
             [end] => {

@@ -61,7 +61,7 @@ fn log_streams(rt: &HostRuntime) -> io::Result<u8> {
     let mut output = Device::new(rt.stdout());
     let (status, message) = run_with_arguments(&args, &mut input, &mut output);
     if output.error().map(|error| error.kind()) == Some(ErrorKind::BrokenPipe) {
-        // this ends the program silently, as it ends other filters
+        // This ends the program silently, as it ends other filters.
         return Ok(141);
     }
     if !message.is_empty() {

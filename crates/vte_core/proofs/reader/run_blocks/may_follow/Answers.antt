@@ -55,15 +55,15 @@ returns c = λ all.
     -- Therefore the byte fits after the three before it (`Fits`), and each state that they allow leads on.
     record {
       leads = allowed-after three_back two_back one_back b (record {
-        none_open = λ no_more. grind (arith, nat_tests, passed.is_opened, no_more, continues);
-        one_open = λ more low below. grind (arith, nat_tests, passed.is_opened, more, low, below, continues);
-        plain = λ below. grind (arith, nat_tests, passed.is_other, below, c.is_layout.ensures);
-        lead = λ above. grind (arith, nat_tests, passed.is_unused, passed.is_other, above, c.is_layout.ensures);
-        after_e0 = λ is_e0. grind (arith, nat_tests, passed.is_opened, continues, first.0, is_e0);
-        after_ed = λ is_ed. grind (arith, nat_tests, passed.is_opened, continues, first.1, is_ed);
-        after_f0 = λ is_f0. grind (arith, nat_tests, passed.is_opened, continues, second.1, is_f0);
-        after_f4 = λ is_f4. grind (arith, nat_tests, passed.is_opened, continues, third.1, is_f4);
-        after_c2 = λ is_c2. grind (arith, nat_tests, passed.is_opened, continues, first.0, is_c2);
+        begins_outside = λ no_more. grind (arith, nat_tests, passed.is_opened, no_more, continues);
+        continues_inside = λ more low below. grind (arith, nat_tests, passed.is_opened, more, low, below, continues);
+        control_is_layout = λ below. grind (arith, nat_tests, passed.is_other, below, c.is_layout.ensures);
+        lead_is_used = λ above. grind (arith, nat_tests, passed.is_unused, passed.is_other, above, c.is_layout.ensures);
+        from_a0_after_e0 = λ is_e0. grind (arith, nat_tests, passed.is_opened, continues, first.0, is_e0);
+        below_a0_after_ed = λ is_ed. grind (arith, nat_tests, passed.is_opened, continues, first.1, is_ed);
+        from_90_after_f0 = λ is_f0. grind (arith, nat_tests, passed.is_opened, continues, second.1, is_f0);
+        below_90_after_f4 = λ is_f4. grind (arith, nat_tests, passed.is_opened, continues, third.1, is_f4);
+        from_a0_after_c2 = λ is_c2. grind (arith, nat_tests, passed.is_opened, continues, first.0, is_c2);
       });
       above = λ no_layout. grind (arith, nat_tests, passed.is_other, no_layout);
     }

@@ -132,7 +132,7 @@ impl<B: Buffer> Machine<B> {
     }
 
     /// Continues a character that may not end in this call.
-    // inlined in cargo's builds, it would take registers from the loops of text
+    // Inlined in cargo's builds, it would take registers from the loops of text.
     #[inline(never)]
     fn continue_near_end<P: CountedPerform<G> + ?Sized, G: Granularity, const MAY_STOP: bool>(
         &mut self,

@@ -2,7 +2,7 @@
 //! Control sequences.
 //!
 //! Their heads are read in two short ways and a general one: `read_short_head` takes a head of at
-//! most one number, and calls nothing before the dispatch; `read_control_sequence` takes numbers
+//! most one number, and calls nothing before the dispatch; `read_numbers_and_rest` takes numbers
 //! with `;` between them, and `read_rest_of_head` whatever else a head has.
 
 use crate::proved::vte_core::buffer::Buffer;
@@ -65,14 +65,14 @@ impl<B: Buffer> Machine<B> {
         reached: HeadProgress,
         from: usize,
     ) -> usize {
-        self.read_control_sequence::<P, G, MAY_STOP>(reader, performer, input, reached, from)
+        self.read_numbers_and_rest::<P, G, MAY_STOP>(reader, performer, input, reached, from)
     }
 
     /// Continues a control sequence, whose head was read as far as `reached`. There is a short path
     /// for numbers with `;` between them and a final byte after them. Most bytes take it if each
     /// call has one byte and may stop.
     #[inline(always)]
-    pub(crate) fn read_control_sequence<
+    pub(crate) fn read_numbers_and_rest<
         P: CountedPerform<G> + ?Sized,
         G: Granularity,
         const MAY_STOP: bool,

@@ -75,7 +75,7 @@ impl<B: Buffer> Machine<B> {
         for position in from..input.len() {
             let byte = reader.byte_at(input, position);
             if !is_device_data(byte) {
-                return self.read_other_in_data::<P, G, MAY_STOP>(
+                return self.end_data_or_drop_byte::<P, G, MAY_STOP>(
                     reader, performer, input, position, byte,
                 );
             }
@@ -94,7 +94,7 @@ impl<B: Buffer> Machine<B> {
 
     /// Reads a byte that isn't put: it ends the data, or is dropped.
     #[inline(never)]
-    pub(crate) fn read_other_in_data<
+    pub(crate) fn end_data_or_drop_byte<
         P: CountedPerform<G> + ?Sized,
         G: Granularity,
         const MAY_STOP: bool,

@@ -46,12 +46,12 @@ impl<B: Buffer> Machine<B> {
             performer.print_char(reader, char::from(byte));
             return from + 1;
         }
-        self.read_other_last(reader, performer, input, from, byte)
+        self.read_last_control_or_non_ascii(reader, performer, input, from, byte)
     }
 
     /// Reads the last byte of a call in a text, if it isn't printed ASCII.
     #[inline(never)]
-    fn read_other_last<P: CountedPerform<G> + ?Sized, G: Granularity>(
+    fn read_last_control_or_non_ascii<P: CountedPerform<G> + ?Sized, G: Granularity>(
         &mut self,
         reader: Reader,
         performer: &mut P,
@@ -145,7 +145,7 @@ impl<B: Buffer> Machine<B> {
             performer.put_byte(reader, byte);
             return from + 1;
         }
-        self.read_other_in_data::<P, G, false>(reader, performer, input, from, byte)
+        self.end_data_or_drop_byte::<P, G, false>(reader, performer, input, from, byte)
     }
 
     /// Reads a byte outside text and control sequences, or none if memory is refused for it.

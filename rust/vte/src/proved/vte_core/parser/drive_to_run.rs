@@ -57,7 +57,7 @@ impl<B: Buffer> Machine<B> {
                         });
                     }
                     let byte = reader.byte_at(input, position);
-                    self.read_other_in_data::<P, ByCharacter, true>(
+                    self.end_data_or_drop_byte::<P, ByCharacter, true>(
                         reader, performer, input, position, byte,
                     )
                 }

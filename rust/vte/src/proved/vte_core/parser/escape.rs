@@ -56,7 +56,7 @@ impl<B: Buffer> Machine<B> {
             if byte == b'[' {
                 self.collected.clear_numbers();
                 self.state = State::ControlSequence(HeadProgress::Entry);
-                // Not `read_control_sequence`, which may look at a byte twice: 3 looks per byte are
+                // Not `read_numbers_and_rest`, which may look at a byte twice: 3 looks per byte are
                 // left.
                 return self.read_rest_of_head::<P, G, MAY_STOP>(
                     reader,

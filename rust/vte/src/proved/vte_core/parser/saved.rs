@@ -11,25 +11,35 @@ use crate::proved::vte_core::parser::{Parser, State, Unfinished, MAX_OSC_RAW};
 #[repr(C)]
 #[derive(Clone, Copy, Debug)]
 pub struct Saved {
-    // what is collected of a sequence: its parameters are numbers, in groups of these lengths
+    /// How many intermediates are collected of a sequence.
     intermediate_count: usize,
+    /// These intermediates, at the front.
     intermediates: [u8; 2],
+    /// How many groups its parameters have.
     group_count: usize,
+    /// The lengths of the groups.
     lengths: [u8; 32],
+    /// How many numbers all groups have together.
     number_count: usize,
+    /// The numbers of all groups, one after another.
     numbers: [u16; 32],
-    // the number that is being read, whether it follows a colon, and whether there were more
-    // intermediates
+    /// The number that is being read.
     number: u16,
+    /// Whether it follows a colon: 0 is false.
     joined: u8,
+    /// Whether there were more intermediates.
     too_many_intermediates: u8,
-    // what is kept of an operating system command: data bytes, and the ends of its pieces in them
+    /// How many data bytes are kept of an operating system command.
     byte_count: usize,
+    /// These bytes.
     bytes: [u8; MAX_OSC_RAW],
+    /// How many ends of pieces are kept of the command.
     end_count: usize,
+    /// These ends, as positions in the bytes.
     ends: [usize; 16],
+    /// Whether data bytes of the command were lost.
     lost: u8,
-    // the number of the state, and the bytes of an unfinished character
+    /// The number of the state, and the bytes of an unfinished character.
     state: [u8; 4],
 }
 

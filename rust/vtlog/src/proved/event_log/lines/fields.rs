@@ -97,7 +97,7 @@ impl Lines {
     }
 }
 
-/// The last decimal digit of a number.
+/// Returns the last decimal digit of a number.
 fn digit(number: usize) -> u8 {
     b'0' + (number % 10) as u8
 }

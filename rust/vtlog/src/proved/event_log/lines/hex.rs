@@ -49,7 +49,7 @@ impl Lines {
     }
 }
 
-/// The line of a character below U+0100.
+/// Returns the line of a character below U+0100.
 pub(super) fn line_of_print(byte: u8) -> [u8; 11] {
     let [high, low] = hex_pair(byte);
     [
@@ -57,7 +57,7 @@ pub(super) fn line_of_print(byte: u8) -> [u8; 11] {
     ]
 }
 
-/// The line of an executed byte.
+/// Returns the line of an executed byte.
 pub(crate) fn line_of_execute(byte: u8) -> [u8; 11] {
     let [high, low] = hex_pair(byte);
     [
@@ -65,19 +65,19 @@ pub(crate) fn line_of_execute(byte: u8) -> [u8; 11] {
     ]
 }
 
-/// The line of a data byte.
+/// Returns the line of a data byte.
 pub(crate) fn line_of_put(byte: u8) -> [u8; 7] {
     let [high, low] = hex_pair(byte);
     [b'p', b'u', b't', b' ', high, low, b'\n']
 }
 
-/// The two hex digits of a byte.
+/// Returns the two hex digits of a byte.
 pub(super) fn hex_pair(byte: u8) -> [u8; 2] {
     let index = 2 * usize::from(byte);
     [HEX_PAIRS[index], HEX_PAIRS[index + 1]]
 }
 
-/// How many hex digits a number has, at least one and at most six.
+/// Returns how many hex digits a number has, at least one and at most six.
 pub(super) fn hex_length(number: u32) -> usize {
     match number {
         0..=0xf => 1,
@@ -89,7 +89,7 @@ pub(super) fn hex_length(number: u32) -> usize {
     }
 }
 
-/// The last six hex digits of a number.
+/// Returns the last six hex digits of a number.
 pub(super) fn six_hex_digits(number: u32) -> [u8; 6] {
     let [first, second] = hex_pair((number / 0x10000 % 0x100) as u8);
     let [third, fourth] = hex_pair((number / 0x100 % 0x100) as u8);

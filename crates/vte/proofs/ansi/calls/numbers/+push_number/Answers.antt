@@ -7,7 +7,7 @@ pub push-requires-else-number-lt10-clause-fits : goal.push-requires-else-number-
 push-requires-else-number-lt10-clause-fits g t c =
     let digits =
     decimal_step c.args.number c.if-number-lt10.false (let fits = c.ranges.number.fits in omega (arith, fits)) in
-    let size = ap length digits ∙ length-append (decimal (c.args.number / 10)) ((48 + c.args.number % 10) ∷ []) in
+    let size = ap length digits ∙ length-append (decimal (c.args.number / 10)) ((0x30 + c.args.number % 10) ∷ []) in
     rw (c.push_number.ensures.pushed, c.push_number.ensures.same_capacity, length-append)
     (omega (arith, size, c.requires))
 

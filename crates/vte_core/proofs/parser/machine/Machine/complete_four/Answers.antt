@@ -1,6 +1,6 @@
--- The second, third and fourth byte of a character of four: each fits or breaks it, or the bytes of the call end. The
--- lemmas `goes-*` say how far it has gone, `completes-*` how it ends there, from the second byte on; `advances-four`
--- leads from the first. A run that it begins is reported as a text.
+-- Each of the second, third and fourth byte of a character of four fits or breaks it, unless the bytes of the call end
+-- before. The lemmas `goes_on-*` say how far the call has gone from the second byte on, and `completes-*` how the
+-- character ends there; `advances-four` leads from the first byte. A run that it begins is reported as a text.
 use Rattle.vte_core.proofs.Common.{Advances, ap, arith, ChunkCall, Empty, false, false≢true, HasNoRunAt, IsRun, length, Machine, One, slice_index, subst, sym, Text, ℕ, ◌+◌, ◌<◌, ◌∙◌, ◌≡◌, ◌≤◌}
 use Rattle.vte_core.specs.private.Prelude.{BeginsFour, Completes, MayReadByte}
 use Rattle.vte_core.proofs.lemmas.bytes.Scalars.{fourth-broken, second-broken, spells-four, third-broken}
@@ -26,7 +26,7 @@ advances-four : {V B given : Type 0} {call : ChunkCall V} {old new : V} {i j fir
     → Advances (given × HasNoRunAt false call.bytes i) call old new i j parser next
 advances-four may_read lead completes = advances-first may_read (omega (arith, lead.low)) lead.high completes
 
--- The second byte does not fit the first one: broken.
+-- The second byte doesn't fit the first one, so it breaks the character.
 pub returns-then-not-may_begin_four-clause-advances : goal.returns-then-not-may_begin_four-clause-advances
 returns-then-not-may_begin_four-clause-advances g c =
     let requires = c.requires in
@@ -36,7 +36,7 @@ returns-then-not-may_begin_four-clause-advances g c =
     -- No further byte belongs to the character (`goes_on-nowhere`), and the next one breaks it.
     (completes-malformed (goes_on-nowhere c.args.self.now (unfinished-some _ _))
     -- The definition says so, and the code printed U+FFFD.
-    (λ more. second-broken c.args.first c.args.second more misfits) requires.may_read.in_state
+    (λ truncated. second-broken c.args.first c.args.second truncated misfits) requires.may_read.in_state
     c.print_char.ensures.value
     -- The next byte is within the call, and the one that was read.
     requires.before_end requires.looked_at)
@@ -51,7 +51,7 @@ returns-then-next-len-clause-advances g c =
     (lead_of_three _ requires.lead.low) second requires.before_end requires.looked_at)
     c.continue_near_end.ensures.completes)
 
--- The third byte does not continue: broken after two.
+-- The third byte doesn't continue the character, so it breaks it after two bytes.
 pub returns-then-not-is_continuation-clause-advances : goal.returns-then-not-is_continuation-clause-advances
 returns-then-not-is_continuation-clause-advances g c =
     let requires = c.requires in
@@ -60,11 +60,11 @@ returns-then-not-is_continuation-clause-advances g c =
     advances-four requires.may_read requires.lead
     (completes-malformed (goes_on-second c.args.self.now
     (lead_of_three _ requires.lead.low) second requires.before_end requires.looked_at)
-    (λ more. third-broken c.args.first c.args.second c.byte_at-third.result more misfits)
+    (λ truncated. third-broken c.args.first c.args.second c.byte_at-third.result truncated misfits)
     requires.may_read.in_state c.print_char-then-not-is_continuation.ensures.value
     (omega (arith, requires.before_end, c.if-next-len.false)) c.byte_at-third.ensures.value)
 
--- The fourth byte does not continue: broken after three.
+-- The fourth byte doesn't continue the character, so it breaks it after three bytes.
 pub returns-then-not-is_continuation-2-clause-advances : goal.returns-then-not-is_continuation-2-clause-advances
 returns-then-not-is_continuation-2-clause-advances g c =
     let requires = c.requires in
@@ -76,11 +76,12 @@ returns-then-not-is_continuation-2-clause-advances g c =
     advances-four requires.may_read requires.lead
     (completes-malformed (goes_on-third c.args.self.now requires.lead.low second third before_end requires.looked_at
     c.byte_at-third.ensures.value)
-    (λ more. fourth-broken c.args.first c.args.second c.byte_at-third.result c.byte_at-fourth.result more misfits)
+    (λ truncated.
+    fourth-broken c.args.first c.args.second c.byte_at-third.result c.byte_at-fourth.result truncated misfits)
     requires.may_read.in_state c.print_char-then-not-is_continuation-2.ensures.value before_end
     c.byte_at-fourth.ensures.value)
 
--- The run that the character begins: the four bytes, and what follows them.
+-- The run that the character begins consists of the four bytes and what follows them.
 pub report_text-requires-clause-run : goal.report_text-requires-clause-run
 report_text-requires-clause-run g c =
     let requires = c.requires in
@@ -128,5 +129,5 @@ returns-clause-advances g c =
     advances-four requires.may_read requires.lead
     (completes-well_formed (goes_on-third c.args.self.now requires.lead.low second third before_end requires.looked_at
     c.byte_at-third.ensures.value)
-    (λ more. (spells.is_whole, c.character_of_four.ensures)) requires.may_read.in_state
+    (λ truncated. (spells.is_whole, c.character_of_four.ensures)) requires.may_read.in_state
     c.report_character.ensures.value before_end c.byte_at-fourth.ensures.value (next_counted _))

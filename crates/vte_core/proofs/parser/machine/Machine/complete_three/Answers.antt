@@ -1,4 +1,4 @@
--- The second and third byte of a character of three: each fits or breaks it, or the bytes of the call end.
+-- Each of the second and third byte of a character of three fits or breaks it, unless the bytes of the call end before.
 use Rattle.vte_core.proofs.Common.{arith, rules, sym, ℕ, ◌+◌, ◌∙◌, ◌≡◌}
 use Rattle.vte_core.proofs.lemmas.bytes.Scalars.{second-broken, spells-three, third-broken}
 use Rattle.vte_core.proofs.lemmas.positions.Characters.{completes-all, completes-malformed, completes-well_formed, goes_on-nowhere, goes_on-second, unfinished-some}
@@ -8,21 +8,20 @@ use Rattle.vte_core.proofs.parser.machine.Machine.complete_three.Goals as goal
 counted : (from : ℕ) → from + 2 ≡ from + 1 + 1
 counted from = omega arith
 
--- The second byte does not fit the first one: broken.
+-- The second byte doesn't fit the first one, so it breaks the character.
 pub returns-then-not-may_begin_three-clause-completes : goal.returns-then-not-may_begin_three-clause-completes
 returns-then-not-may_begin_three-clause-completes g c =
     let requires = c.requires.may_read in
     let misfits = sym c.may_begin_three.ensures ∙ c.if-not-may_begin_three.true in
     completes-malformed (goes_on-nowhere c.args.self.now (unfinished-some _ _))
-    (λ more. second-broken c.args.first c.args.second more misfits) requires.in_state c.print_char.ensures.value
-    requires.before_end
-    requires.looked_at
+    (λ truncated. second-broken c.args.first c.args.second truncated misfits) requires.in_state
+    c.print_char.ensures.value requires.before_end requires.looked_at
 
--- The call ends after two bytes: still open.
+-- If the call ends after two bytes, the character stays open.
 pub returns-then-second_position-len-clause-completes : goal.returns-then-second_position-len-clause-completes
 returns-then-second_position-len-clause-completes g c = search (rules, arith, completes-all, goes_on-second)
 
--- The third byte does not continue: broken after two.
+-- The third byte doesn't continue the character, so it breaks it after two bytes.
 pub returns-then-not-is_continuation-clause-completes : goal.returns-then-not-is_continuation-clause-completes
 returns-then-not-is_continuation-clause-completes g c =
     let requires = c.requires.may_read in
@@ -30,7 +29,7 @@ returns-then-not-is_continuation-clause-completes g c =
     let misfits = sym c.is_continuation.ensures ∙ c.if-not-is_continuation.true in
     completes-malformed
     (goes_on-second c.args.self.now c.requires.lead.low second requires.before_end requires.looked_at)
-    (λ more. third-broken c.args.first c.args.second c.byte_at-third.result more misfits) requires.in_state
+    (λ truncated. third-broken c.args.first c.args.second c.byte_at-third.result truncated misfits) requires.in_state
     c.print_char-then-not-is_continuation.ensures.value
     (omega (arith, requires.before_end, c.if-second_position-len.false)) c.byte_at-third.ensures.value
 
@@ -44,5 +43,5 @@ returns-clause-completes g c =
     spells-three c.requires.lead.low c.requires.lead.high second third in
     completes-well_formed
     (goes_on-second c.args.self.now c.requires.lead.low second requires.before_end requires.looked_at)
-    (λ more. (spells.is_whole, c.character_of_three.ensures)) requires.in_state c.report_character.ensures.value
+    (λ truncated. (spells.is_whole, c.character_of_three.ensures)) requires.in_state c.report_character.ensures.value
     (omega (arith, requires.before_end, c.if-second_position-len.false)) c.byte_at-third.ensures.value (counted _)

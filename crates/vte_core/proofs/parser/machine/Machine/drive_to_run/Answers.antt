@@ -51,7 +51,7 @@ loop-position-preserved-else-end-position g c =
 -- In data, before a byte that isn't put, what is read belongs to no run either.
 pub loop-position-preserved-else-end-position-2 : goal.loop-position-preserved-else-end-position-2
 loop-position-preserved-else-end-position-2 g c =
-    let read = c.read_other_in_data-position.ensures.advances in
+    let read = c.end_data_or_drop_byte-position.ensures.advances in
     record {
       before_run = before_run-then c.loop-position.invariant.before_run tt read;
       settled = read.settled;

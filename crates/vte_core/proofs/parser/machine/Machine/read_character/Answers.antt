@@ -20,7 +20,7 @@ returns-then-not-is_continuation-clause-advances g c =
     second-lone c.args.first c.byte_at-second.result (sym c.is_continuation.ensures ∙ c.if-not-is_continuation.true) in
     advances-first requires.may_read requires.lead.low requires.lead.high
     (completes-malformed (goes_on-nowhere c.args.self.now (unfinished-some _ _))
-    (λ more. second-broken c.args.first c.byte_at-second.result more misfits)
+    (λ truncated. second-broken c.args.first c.byte_at-second.result truncated misfits)
     requires.may_read.in_state c.print_char.ensures.value (omega arith) c.byte_at-second.ensures.value)
 
 -- Two bytes spell a character.
@@ -32,7 +32,7 @@ returns-then-first-lt224-clause-advances g c =
     (sym c.is_continuation.ensures ∙ c.if-not-is_continuation.false) in
     advances-first requires.may_read requires.lead.low requires.lead.high
     (completes-well_formed (goes_on-nowhere c.args.self.now (unfinished-some _ _))
-    (λ more. (spells.is_whole, c.character_of_two.ensures))
+    (λ truncated. (spells.is_whole, c.character_of_two.ensures))
     requires.may_read.in_state c.report_character.ensures.value (omega arith) c.byte_at-second.ensures.value refl)
 
 -- A first byte below F0 begins a character of three bytes.

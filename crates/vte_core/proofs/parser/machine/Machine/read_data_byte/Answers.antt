@@ -10,4 +10,4 @@ returns-then-is_device_data-clause-advances g c =
     (sym c.is_device_data.ensures ∙ c.if-is_device_data.true) c.put_byte.ensures.value
 
 pub returns-clause-advances : goal.returns-clause-advances
-returns-clause-advances g c = advances-without_promise c.read_other_in_data.ensures.advances
+returns-clause-advances g c = advances-without_promise c.end_data_or_drop_byte.ensures.advances

@@ -1,4 +1,4 @@
--- A call that asks goes on by one data byte; one that does not takes all up to the next byte that is not put.
+-- A call that asks goes on by one data byte; one that doesn't takes all up to the next byte that isn't put.
 use Rattle.vte_core.proofs.Common.{arith, refl, rules, sym, ◌∙◌}
 use Rattle.vte_core.proofs.lemmas.positions.Stretches.{advances-nothing, advances-then, advances-to_same, advances-without_promise}
 use Rattle.vte_core.proofs.lemmas.positions.DataStretches.{advances-data, advances-put, first-put}
@@ -36,7 +36,7 @@ returns-then-terminated-clause-advances g c =
     (advances-put invariant.in_state
     (omega arith) c.byte_at-byte.ensures.value invariant.may_go_on is_data c.put_byte.ensures.value)
 
--- A call that does not ask: all data up to the byte that is not put.
+-- A call that doesn't ask takes all data up to the byte that isn't put.
 pub returns-then-not-this-clause-advances : goal.returns-then-not-this-clause-advances
 returns-then-not-this-clause-advances g c =
     let invariant = c.loop-position.invariant in
@@ -48,10 +48,10 @@ returns-then-not-this-clause-advances g c =
     (advances-data invariant.in_state (omega (arith, found.in_order)) found.within are_put
     (rw c.if-not-this.true refl) c.report_data.ensures.put)
 
--- A byte that is no data ends them or is dropped.
+-- A byte that isn't data ends the data or is dropped.
 pub returns-then-not-is_device_data-clause-advances : goal.returns-then-not-is_device_data-clause-advances
 returns-then-not-is_device_data-clause-advances g c =
-    advances-then c.loop-position.invariant.advances (advances-without_promise c.read_other_in_data.ensures.advances)
+    advances-then c.loop-position.invariant.advances (advances-without_promise c.end_data_or_drop_byte.ensures.advances)
 
 pub returns-clause-advances : goal.returns-clause-advances
 returns-clause-advances g c = advances-to_same (omega arith) c.loop-position.invariant.advances

@@ -12,15 +12,15 @@ escaped before collected = record { state = Escape; collected = collected; comma
 
 pub returns-then-byte_at-eq91-clause-advances : goal.returns-then-byte_at-eq91-clause-advances
 returns-then-byte_at-eq91-clause-advances g c =
-    let begun = escaped c.args.self.now c.clear_intermediates.new.self in
+    let after_escape = escaped c.args.self.now c.clear_intermediates.new.self in
     advances-then
     (advances-escape c.requires.may_read.in_state c.requires.may_read.before_end c.requires.escape
-    (advances-byte {next = begun} c.requires.may_read.before_end refl c.requires.may_read.may_go_on
+    (advances-byte {next = after_escape} c.requires.may_read.before_end refl c.requires.may_read.may_go_on
     (λ place s between. takes_bytes-escape c.requires.escape refl c.clear_intermediates.ensures place s
     (rw (place-settled_text c.requires.may_read.in_state s) refl))
     tt))
     (advances-then
-    (advances-bracket {parser = begun} refl
+    (advances-bracket {parser = after_escape} refl
     (omega arith) c.byte_at.ensures.value c.requires.may_read.may_go_on c.if-byte_at-eq91.true
     refl c.clear_numbers.ensures.head)
     c.read_short_head.ensures.advances)

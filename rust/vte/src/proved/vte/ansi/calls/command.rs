@@ -106,7 +106,7 @@ fn set_palette<H: Handler + ?Sized>(handler: &mut H, texts: &[&[u8]], terminator
     }
 }
 
-/// Sets the link that these pieces make. A URI of one piece is lent, and not copied.
+/// Sets the link that these pieces make: 8. A URI of one piece is lent, and not copied.
 fn set_link<H: Handler + ?Sized, B: TextBuffer>(handler: &mut H, text: &mut B, texts: &[&[u8]]) {
     match texts {
         [] | [_] => {}

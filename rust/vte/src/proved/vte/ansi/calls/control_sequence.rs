@@ -5,7 +5,8 @@ use crate::proved::vte::ansi::calls::input::InputAs;
 use crate::proved::vte::ansi::calls::numbers::{first_number, NumberIterator};
 use crate::proved::vte::ansi::calls::rendition::perform_attributes;
 use crate::proved::vte::ansi::calls::values::{
-    character_path, keyboard_behavior, keyboard_modes, scp_update_mode, scrolling_bottom,
+    read_character_path, read_keyboard_behavior, read_keyboard_modes, read_scp_update_mode,
+    read_scrolling_bottom,
 };
 use crate::proved::vte_core::Params;
 use crate::proved::vte_handler::Handler;
@@ -16,7 +17,7 @@ use crate::proved::vte_types::{
 
 /// Makes the calls of a control sequence, other than `ESC [ ? .. h`, which may begin an update.
 #[inline]
-// a guard would read the numbers
+// A guard would read the numbers.
 #[allow(clippy::collapsible_match)]
 pub(crate) fn perform_control_sequence<H: InputAs<G> + ?Sized, G>(
     handler: &mut H,
@@ -43,8 +44,8 @@ pub(crate) fn perform_control_sequence<H: InputAs<G> + ?Sized, G>(
         ([b'?', b'$'], 'p') => handler.report_private_mode(PrivateMode::new(numbers.next_or(0))),
         ([b' '], 'q') => set_cursor_style(handler, numbers.next_or(0)),
         ([b' '], 'k') => {
-            let path = character_path(numbers.next_or(0));
-            let update = scp_update_mode(numbers.next_or(0));
+            let path = read_character_path(numbers.next_or(0));
+            let update = read_scp_update_mode(numbers.next_or(0));
             if let (Some(path), Some(update)) = (path, update) {
                 handler.set_scp(path, update);
             }
@@ -59,11 +60,11 @@ pub(crate) fn perform_control_sequence<H: InputAs<G> + ?Sized, G>(
                 handler.report_modify_other_keys();
             }
         }
-        ([b'>'], 'u') => handler.push_keyboard_mode(keyboard_modes(numbers.next_or(0))),
+        ([b'>'], 'u') => handler.push_keyboard_mode(read_keyboard_modes(numbers.next_or(0))),
         ([b'<'], 'u') => handler.pop_keyboard_modes(numbers.next_or(1)),
         ([b'='], 'u') => {
-            let modes = keyboard_modes(numbers.next_or(0));
-            handler.set_keyboard_mode(modes, keyboard_behavior(numbers.next_or(1)));
+            let modes = read_keyboard_modes(numbers.next_or(0));
+            handler.set_keyboard_mode(modes, read_keyboard_behavior(numbers.next_or(1)));
         }
         ([b'?'], 'u') => handler.report_keyboard_mode(),
         _ => {}
@@ -108,7 +109,7 @@ fn perform_without_intermediates<H: InputAs<G> + ?Sized, G>(
         'T' => handler.scroll_down(usize::from(numbers.next_or(1))),
         'r' => {
             let top = usize::from(numbers.next_or(1));
-            handler.set_scrolling_region(top, scrolling_bottom(numbers.next_or(0)));
+            handler.set_scrolling_region(top, read_scrolling_bottom(numbers.next_or(0)));
         }
         's' => handler.save_cursor_position(),
         'u' => handler.restore_cursor_position(),

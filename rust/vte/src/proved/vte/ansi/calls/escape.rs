@@ -5,7 +5,7 @@ use crate::proved::vte_handler::Handler;
 use crate::proved::vte_types::{CharsetIndex, StandardCharset};
 
 /// Makes the calls of an executed byte.
-// three numbers for one jump by a table: a range is compared first
+// Three numbers for one jump by a table: a range is compared first.
 #[allow(clippy::manual_range_patterns)]
 pub(crate) fn perform_execute<H: Handler + ?Sized>(handler: &mut H, byte: u8) {
     match byte {

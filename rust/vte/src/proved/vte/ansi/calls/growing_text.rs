@@ -8,7 +8,7 @@ use crate::proved::vte::ansi::calls::text_buffer::TextBuffer;
 #[derive(Clone)]
 pub(crate) struct GrowingText {
     text: String,
-    // the size that was asked for, in bytes
+    /// The size that was asked for, in bytes.
     size: usize,
 }
 

@@ -24,19 +24,19 @@ fn read_attribute(group: &[u16], groups: &mut ParamsIter<'_>) -> Option<Attr> {
     match group {
         [number @ (38 | 48 | 58)] => {
             let kind = first_number(groups.next()?);
-            colored_attribute(*number, read_color(kind, groups)?)
+            find_colored_attribute(*number, read_color(kind, groups)?)
         }
         [number @ (38 | 48 | 58), numbers @ ..] => {
-            colored_attribute(*number, read_joined_color(numbers)?)
+            find_colored_attribute(*number, read_joined_color(numbers)?)
         }
-        [number] => single_attribute(*number),
-        [4, numbers @ ..] => Some(underline_attribute(numbers)),
+        [number] => find_attribute(*number),
+        [4, numbers @ ..] => Some(find_underline(numbers)),
         _ => None,
     }
 }
 
 /// Returns the attribute that a number makes of a colour.
-fn colored_attribute(number: u16, color: Color) -> Option<Attr> {
+fn find_colored_attribute(number: u16, color: Color) -> Option<Attr> {
     match number {
         38 => Some(Attr::Foreground(color)),
         48 => Some(Attr::Background(color)),
@@ -46,7 +46,7 @@ fn colored_attribute(number: u16, color: Color) -> Option<Attr> {
 }
 
 /// Returns the attribute of a group of one number.
-fn single_attribute(number: u16) -> Option<Attr> {
+fn find_attribute(number: u16) -> Option<Attr> {
     let attribute = match number {
         0 => Attr::Reset,
         1 => Attr::Bold,
@@ -107,7 +107,7 @@ fn single_attribute(number: u16) -> Option<Attr> {
 }
 
 /// Returns the kind of underline, by the numbers after 4.
-fn underline_attribute(numbers: &[u16]) -> Attr {
+fn find_underline(numbers: &[u16]) -> Attr {
     match numbers {
         [0] => Attr::CancelUnderline,
         [2] => Attr::DoubleUnderline,

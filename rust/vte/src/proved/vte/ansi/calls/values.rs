@@ -6,7 +6,7 @@ use crate::proved::vte_types::{
 };
 
 /// Returns the bottom of a scrolling region, if there is one.
-pub(crate) fn scrolling_bottom(number: u16) -> Option<usize> {
+pub(crate) fn read_scrolling_bottom(number: u16) -> Option<usize> {
     match number {
         0 => None,
         _ => Some(usize::from(number)),
@@ -14,7 +14,7 @@ pub(crate) fn scrolling_bottom(number: u16) -> Option<usize> {
 }
 
 /// Returns how keyboard modes are applied.
-pub(crate) fn keyboard_behavior(number: u16) -> KeyboardModesApplyBehavior {
+pub(crate) fn read_keyboard_behavior(number: u16) -> KeyboardModesApplyBehavior {
     match number {
         3 => KeyboardModesApplyBehavior::Difference,
         2 => KeyboardModesApplyBehavior::Union,
@@ -23,12 +23,12 @@ pub(crate) fn keyboard_behavior(number: u16) -> KeyboardModesApplyBehavior {
 }
 
 /// Returns the keyboard modes of a number's low five bits.
-pub(crate) fn keyboard_modes(number: u16) -> KeyboardModes {
+pub(crate) fn read_keyboard_modes(number: u16) -> KeyboardModes {
     KeyboardModes::from_bits_retain((number % 32) as u8)
 }
 
 /// Returns the character path, the first selection of SCP.
-pub(crate) fn character_path(number: u16) -> Option<ScpCharPath> {
+pub(crate) fn read_character_path(number: u16) -> Option<ScpCharPath> {
     match number {
         0 => Some(ScpCharPath::Default),
         1 => Some(ScpCharPath::LTR),
@@ -38,7 +38,7 @@ pub(crate) fn character_path(number: u16) -> Option<ScpCharPath> {
 }
 
 /// Returns how the display follows the character path, the second selection of SCP.
-pub(crate) fn scp_update_mode(number: u16) -> Option<ScpUpdateMode> {
+pub(crate) fn read_scp_update_mode(number: u16) -> Option<ScpUpdateMode> {
     match number {
         0 => Some(ScpUpdateMode::ImplementationDependant),
         1 => Some(ScpUpdateMode::DataToPresentation),

@@ -71,7 +71,7 @@ impl<P: EventParser, B: TextBuffer, T: Timeout> Engine<P, B, T> {
     }
 
     /// Stops the update, whatever is held: there is memory to parse it.
-    // stops are rare, so they are kept out of the loop over bytes of a turn
+    // Stops are rare, so they are kept out of the loop over bytes of a turn.
     #[inline(never)]
     pub(crate) fn stop<H: Handler + ?Sized, G: ParseAs<H, T, P>>(&mut self, handler: &mut H) {
         self.hold.release_all();

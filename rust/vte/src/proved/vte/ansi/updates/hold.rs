@@ -47,9 +47,9 @@ impl SyncState {
         let _ = self.bytes.extend_from_slice(more);
         // An end may begin in the last seven of the old bytes.
         let start = len.saturating_sub(7);
-        let added = find_release(&self.bytes.as_slice()[start..], start);
-        self.released = added.released;
-        added.begins
+        let release = find_release(&self.bytes.as_slice()[start..], start);
+        self.released = release.released;
+        release.begins
     }
 
     /// Releases all held bytes, when an update is stopped.

@@ -18,13 +18,13 @@ invariant_of-self g c =
     let old = held_of c.args.self.now in
     let all = old ++ c.args.more.now in
     let bytes_are : c.extend_from_slice.new.self.items ≡ all = search rules in
-    let added : FindsRelease all (length c.args.more.now) c.find_release-added.result =
-    c.find_release-added.ensures old c.args.more.now
+    let release : FindsRelease all (length c.args.more.now) c.find_release-release.result =
+    c.find_release-release.ensures old c.args.more.now
     (held_tail-slice (c.as_slice.ensures.value ∙ bytes_are) (search rules) c.saturating_sub-start.ensures)
     c.args.self.now.no_end in
     record {
-      within = rw bytes_are (omega (arith, added.released));
-      no_end = rw (bytes_are, added.released, stays-is) (stays_held all).no_end;
+      within = rw bytes_are (omega (arith, release.released));
+      no_end = rw (bytes_are, release.released, stays-is) (stays_held all).no_end;
       fits = rw (bytes_are, length-drop) (omega (arith, c.requires, length-append old c.args.more.now));
       capacity = search rules;
     }
@@ -33,12 +33,12 @@ pub returns : goal.returns
 returns g c =
     let old = held_of c.args.self.now in
     let bytes_are : c.extend_from_slice.new.self.items ≡ old ++ c.args.more.now = search rules in
-    let added : FindsRelease (old ++ c.args.more.now) (length c.args.more.now) c.find_release-added.result =
-    c.find_release-added.ensures old c.args.more.now
+    let release : FindsRelease (old ++ c.args.more.now) (length c.args.more.now) c.find_release-release.result =
+    c.find_release-release.ensures old c.args.more.now
     (held_tail-slice (c.as_slice.ensures.value ∙ bytes_are) (search rules) c.saturating_sub-start.ensures)
     c.args.self.now.no_end in
     record {
-      held_is = rw (bytes_are, added.released) (stays-is (old ++ c.args.more.now));
-      released_is = rw (bytes_are, added.released) refl;
-      begins_are = added.begins;
+      held_is = rw (bytes_are, release.released) (stays-is (old ++ c.args.more.now));
+      released_is = rw (bytes_are, release.released) refl;
+      begins_are = release.begins;
     }

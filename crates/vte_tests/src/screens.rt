@@ -13,7 +13,7 @@ fn parsed(stream: &[u8]) -> Screen {
     screen
 }
 
-/// The screen of a stream whose text comes in runs, in calls of `chunk` bytes.
+/// Returns the screen of a stream whose text comes in runs, in calls of `chunk` bytes.
 fn parsed_in_runs(stream: &[u8], chunk: usize) -> Screen {
     let mut screen = Screen::new();
     let mut parser = Parser::new();
@@ -23,7 +23,7 @@ fn parsed_in_runs(stream: &[u8], chunk: usize) -> Screen {
     screen
 }
 
-/// The screen of a stream by a processor, unless memory runs out.
+/// Returns the screen of a stream by a processor, unless memory runs out.
 fn processed(alloc: Global, stream: &[u8]) -> Option<Screen> {
     let mut handler = ByCall(Screen::new());
     match Processor::new(alloc, TestTimeout::new(Answers::Never)) {
@@ -33,7 +33,7 @@ fn processed(alloc: Global, stream: &[u8]) -> Option<Screen> {
     Some(handler.0)
 }
 
-/// The screen of a stream by a processor, with text in runs, in calls of `chunk` bytes.
+/// Returns the screen of a stream by a processor, with text in runs, in calls of `chunk` bytes.
 fn processed_in_runs(alloc: Global, stream: &[u8], chunk: usize) -> Option<Screen> {
     let mut handler = ByCall(Screen::new());
     match Processor::new(alloc, TestTimeout::new(Answers::Never)) {
@@ -45,7 +45,7 @@ fn processed_in_runs(alloc: Global, stream: &[u8], chunk: usize) -> Option<Scree
     Some(handler.0)
 }
 
-/// Whether two screens have the same cells and the same cursor.
+/// Returns whether two screens have the same cells and the same cursor.
 fn are_same(one: &Screen, other: &Screen) -> bool {
     for row in 0..ROWS {
         if one.row(row) != other.row(row) {
@@ -55,7 +55,7 @@ fn are_same(one: &Screen, other: &Screen) -> bool {
     one.cursor() == other.cursor()
 }
 
-/// Whether runs of text show what characters show, in calls of `chunk` bytes.
+/// Returns whether runs of text show what characters show, in calls of `chunk` bytes.
 fn runs_show_the_same(alloc: Global, stream: &[u8], chunk: usize) -> bool {
     match (
         processed(alloc, stream),
@@ -69,12 +69,12 @@ fn runs_show_the_same(alloc: Global, stream: &[u8], chunk: usize) -> bool {
     }
 }
 
-/// Whether runs of text show what characters show, in one call and byte by byte.
+/// Returns whether runs of text show what characters show, in one call and byte by byte.
 fn runs_agree(alloc: Global, stream: &[u8]) -> bool {
     runs_show_the_same(alloc, stream, stream.len()) && runs_show_the_same(alloc, stream, 1)
 }
 
-/// Whether a row has this text, and blanks after it.
+/// Returns whether a row has this text, and blanks after it.
 fn has_text(screen: &Screen, row: usize, text: &str) -> bool {
     let mut expected = text.chars();
     for cell in screen.row(row) {
@@ -85,7 +85,7 @@ fn has_text(screen: &Screen, row: usize, text: &str) -> bool {
     expected.next().is_none()
 }
 
-/// Whether both show a text in a row, and runs show the same.
+/// Returns whether both show a text in a row, and runs show the same.
 fn both_show(alloc: Global, stream: &[u8], row: usize, text: &str) -> bool {
     match processed(alloc, stream) {
         Some(screen) => {
@@ -112,17 +112,17 @@ fn motions(rt: HostRuntime) {
     assert!(rt; both_show(rt.alloc(), b"\x1b[2B\x1b[3C\x1b[A\x1b[2Da", 1, " a"));
     assert!(rt; both_show(rt.alloc(), b"\x1b[3;5fa\x1b[2Gb\x1b[dc", 2, " b  a"));
     assert!(rt; both_show(rt.alloc(), b"\x1b[3;5fa\x1b[2Gb\x1b[dc", 0, "  c"));
-    // none leaves the screen
+    // None leaves the screen.
     assert!(rt; both_show(rt.alloc(), b"\x1b[99B\x1b[9Da", 23, "a"));
     assert!(rt; both_show(rt.alloc(), b"\x1b[9A\x1b[99C\x1b[79Da", 0, "a"));
 }
 
 #[test]
 fn the_last_column(rt: HostRuntime) {
-    // the cursor waits at the last column for the next character
+    // The cursor waits at the last column for the next character.
     assert!(rt; both_show(rt.alloc(), b"\x1b[80Gab", 1, "b"));
     assert!(rt; both_show(rt.alloc(), b"\x1b[80Ga\rb", 1, ""));
-    // moves count from the last column
+    // Moves count from the last column.
     assert!(rt; both_show(rt.alloc(), b"\x1b[80Ga\x1b[79Db\x1b[80G\x1b[K", 0, "b"));
 }
 
@@ -148,31 +148,31 @@ fn erasures(rt: HostRuntime) {
 
 #[test]
 fn wraps(rt: HostRuntime) {
-    // 80 digits, and three letters
+    // 80 digits, and three letters.
     let line = "01234567890123456789012345678901234567890123456789012345678901234567890123456789";
     let long =
         b"01234567890123456789012345678901234567890123456789012345678901234567890123456789abc";
     assert!(rt; both_show(rt.alloc(), long, 0, line));
     assert!(rt; both_show(rt.alloc(), long, 1, "abc"));
-    // the row is full before the run, and after it
+    // The row is full before the run, and after it.
     assert!(rt; both_show(rt.alloc(), b"\x1b[80Ga\x1b[31mbcd", 1, "bcd"));
     assert!(rt; both_show(rt.alloc(), b"\x1b[79Gab\x1b[31m\rc", 1, ""));
-    // a run over three rows, and one that scrolls
+    // A run over three rows, and one that scrolls.
     assert!(rt; both_show(rt.alloc(), &[b'a'; 163], 2, "aaa"));
     assert!(rt; both_show(rt.alloc(), &[b'a'; 1923], 23, "aaa"));
-    // characters that aren't ASCII, alone, in a run, and across the end of a row
+    // Characters that aren't ASCII, alone, in a run, and across the end of a row.
     let row = "\u{e9}a\u{20ac}\u{4e2d}\u{6587}b \u{1f600}";
     assert!(rt; both_show(rt.alloc(), row.as_bytes(), 0, row));
     let wrapped = "\x1b[79Ga\u{4e2d}\u{6587}\u{5b57}b";
     assert!(rt; both_show(rt.alloc(), wrapped.as_bytes(), 1, "\u{6587}\u{5b57}b"));
-    // 80 characters, and three more
+    // 80 characters, and three more.
     let line = "\u{e4}1234567890123456789\u{e4}1234567890123456789\
          \u{e4}1234567890123456789\u{e4}1234567890123456789";
     let long = "\u{e4}1234567890123456789\u{e4}1234567890123456789\
          \u{e4}1234567890123456789\u{e4}1234567890123456789\u{e4}bc";
     assert!(rt; both_show(rt.alloc(), long.as_bytes(), 0, line));
     assert!(rt; both_show(rt.alloc(), long.as_bytes(), 1, "\u{e4}bc"));
-    // a malformed byte among letters
+    // A malformed byte among letters.
     assert!(rt;
         both_show(
             rt.alloc(),
@@ -183,7 +183,7 @@ fn wraps(rt: HostRuntime) {
     );
 }
 
-/// Whether both show these colors and attributes in the first cell, and runs show the same.
+/// Returns whether both show these colors and attributes in the first cell, and runs show the same.
 fn both_style(
     alloc: Global,
     stream: &[u8],
@@ -212,7 +212,7 @@ fn looks(row: &[Cell], foreground: Color, background: Color, attributes: u32) ->
     }
 }
 
-/// A color, by its index if it has a name and one.
+/// Returns a color, by its index if it has a name and one.
 fn of_palette(color: Color) -> Color {
     match color {
         Color::Named(name) => match name as u16 {
@@ -239,7 +239,7 @@ fn colors(rt: HostRuntime) {
     let (one, two) = (Color::Spec(one), Color::Spec(two));
     assert!(rt; both_style(rt.alloc(), b"\x1b[38;2;1;2;3;48:2:4:5:6ma", one, two, 0));
     assert!(rt; both_style(rt.alloc(), b"\x1b[31;42m\x1b[39;49ma", front, back, 0));
-    // erased cells get the colors too, and no attribute
+    // Erased cells get the colors too, and no attribute.
     assert!(rt; both_style(rt.alloc(), b"\x1b[31;42;7m\x1b[K", red, green, 0));
 }
 
@@ -247,7 +247,7 @@ fn colors(rt: HostRuntime) {
 fn attributes(rt: HostRuntime) {
     let front = Color::Named(NamedColor::Foreground);
     let back = Color::Named(NamedColor::Background);
-    // bold is bit 1, italic bit 3, underline bit 4, reverse bit 7
+    // Bold is bit 1, italic bit 3, underline bit 4, reverse bit 7.
     assert!(rt; both_style(rt.alloc(), b"\x1b[1;3;4;7ma", front, back, 0b1001_1010));
     assert!(rt; both_style(rt.alloc(), b"\x1b[1;4;7;22;24ma", front, back, 0b1000_0000));
     assert!(rt; both_style(rt.alloc(), b"\x1b[3;7;23;27ma", front, back, 0));

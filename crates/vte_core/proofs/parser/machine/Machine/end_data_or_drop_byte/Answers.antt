@@ -6,8 +6,8 @@ use Rattle.vte_core.proofs.lemmas.positions.TakenBytes.{advances-in, takes-byte,
 use Rattle.vte_core.proofs.lemmas.fields.PlaceOfState.{is_at-by}
 use Rattle.vte_core.proofs.lemmas.positions.SettledStates.{settled-same_state}
 use Rattle.vte_core.proofs.lemmas.places.PlaceLeads.{data-dropped, data-terminator}
-use Rattle.vte_core.proofs.parser.machine.Machine.read_other_in_data.Goals.{else-byte-eq-STRING_TERMINATOR, then-byte-eq-STRING_TERMINATOR}
-use Rattle.vte_core.proofs.parser.machine.Machine.read_other_in_data.Goals as goal
+use Rattle.vte_core.proofs.parser.machine.Machine.end_data_or_drop_byte.Goals.{else-byte-eq-STRING_TERMINATOR, then-byte-eq-STRING_TERMINATOR}
+use Rattle.vte_core.proofs.parser.machine.Machine.end_data_or_drop_byte.Goals as goal
 
 pub returns-clause-advances : goal.returns-clause-advances
 returns-clause-advances g c =

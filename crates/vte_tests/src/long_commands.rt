@@ -58,7 +58,8 @@ fn read<A: Allocator>(
     processor.advance(handler, bytes)
 }
 
-/// A command that begins so, whose last pieces have this many bytes with the `;` between them.
+/// Returns a command that begins so, whose last pieces have this many bytes with the `;` between
+/// them.
 fn command<A: Allocator>(alloc: A, begin: &[u8], count: usize) -> Result<Vec<u8, A>, AllocError> {
     let mut stream = Vec::new(alloc);
     stream.extend_from_slice(begin)?;
@@ -167,13 +168,13 @@ fn refused_call_can_go_on(rt: HostRuntime) -> Result<(), Fail> {
                 read(&mut processor, &mut handler, b"cd").is_ok(),
                 "there is memory"
             );
-            // they are held
+            // They are held.
             assert_eq!(rt; handler.0.0.calls, 4);
             processor.stop_sync(&mut handler);
-            // two characters and the end of the update
+            // Two characters and the end of the update.
             assert_eq!(rt; handler.0.0.calls, 7);
             processor.stop_sync(&mut handler);
-            // the end of the update alone: nothing is held
+            // The end of the update alone: nothing is held.
             assert_eq!(rt; handler.0.0.calls, 8);
         }
         Err(_timeout) => assert!(rt; false, "there is room for the hold"),
@@ -221,7 +222,7 @@ fn replay_takes_all_steps_if_there_is_memory(rt: HostRuntime) {
         }
         Err(_timeout) => assert!(rt; false, "there is memory"),
     }
-    // the title, the begin and the end of an update, and three characters
+    // The title, the begin and the end of an update, and three characters.
     assert_eq!(rt; (handler.0.0.title, handler.0.0.calls), (5, 6));
 }
 

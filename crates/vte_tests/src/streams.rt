@@ -8,7 +8,7 @@ use std::alloc::{AllocError, Global};
 
 /// Any of these may follow any other.
 static PARTS: [&[u8]; 80] = [
-    // text, in characters of each length, and text that is malformed or breaks off
+    // Text, in characters of each length, and text that is malformed or breaks off.
     b"a",
     b"text ",
     b"\xc3\xa9",
@@ -32,7 +32,7 @@ static PARTS: [&[u8]; 80] = [
     b"\x85",
     b"\x9c",
     b"\xbf",
-    // controls
+    // Controls.
     b"\n",
     b"\x07",
     b"\x0e",
@@ -40,7 +40,7 @@ static PARTS: [&[u8]; 80] = [
     b"\x18",
     b"\x1a",
     b"\x00",
-    // beginnings of sequences, and what may follow them
+    // Beginnings of sequences, and what may follow them.
     b"\x1b",
     b"\x1b[",
     b"\x1b[?",
@@ -63,7 +63,7 @@ static PARTS: [&[u8]; 80] = [
     b"b",
     b"q",
     b"\\",
-    // complete sequences
+    // Complete sequences.
     b"\x1b[1;31m",
     b"\x1b[38:2:1:2:3m",
     b"\x1b[38;5;9m",
@@ -85,7 +85,7 @@ static PARTS: [&[u8]; 80] = [
     b"\x1b]52;c;aGk=\x1b\\",
     b"\x1b];;;;;;;;;;;;;;;;;\x07",
     b"\x1b^ignored\x1b\\",
-    // updates, and sequences that are almost updates
+    // Updates, and sequences that are almost updates.
     b"\x1b[?2026h",
     b"\x1b[?2026h",
     b"\x1b[?2026l",

@@ -1,4 +1,4 @@
-//! Tests that need all layers, in one crate, since a crate with tests is proved twice.
+//! Tests of `vte` that need several crates, in one crate, since a crate with tests is proved twice.
 #![tactic(auto)]
 
 #[cfg(test)]

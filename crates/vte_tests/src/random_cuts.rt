@@ -13,7 +13,7 @@ use vte_core::{LongParser, Parser};
 /// The number of streams per test.
 const STREAMS: u32 = 1000;
 
-/// The lines of the events of a stream in chunks. Text comes in runs or by character.
+/// Returns the lines of the events of a stream in chunks. Text comes in runs or by character.
 fn events_of(alloc: Global, in_runs: bool, chunks: &[&[u8]]) -> EventLines {
     let mut lines = EventLines::new(alloc, Stop::Never);
     let mut parser = Parser::<1024>::new();
@@ -27,7 +27,7 @@ fn events_of(alloc: Global, in_runs: bool, chunks: &[&[u8]]) -> EventLines {
     lines
 }
 
-/// The same lines, by a parser without a limit on commands.
+/// Returns the same lines, by a parser without a limit on commands.
 fn unlimited_events_of(
     rt: &(impl Abort + AllocGlobal),
     in_runs: bool,
@@ -46,7 +46,8 @@ fn unlimited_events_of(
     Ok(lines)
 }
 
-/// A stream has the same events in chunks, in runs or by character, as it has whole by character.
+/// Asserts that a stream has the same events in chunks, in runs or by character, as whole by
+/// character.
 fn assert_same_events(rt: &(impl Abort + AllocGlobal), in_runs: bool) -> Result<(), Fail> {
     let mut streams = Streams::new();
     for _ in 0..STREAMS {
@@ -74,14 +75,14 @@ fn events_in_runs(rt: HostRuntime) -> Result<(), Fail> {
     assert_same_events(&rt, true)
 }
 
-/// The output of `run`.
+/// Returns the output of `run`.
 fn lines_of<R: Source>(rt: &(impl Abort + AllocGlobal), reader: &mut R) -> Result<Vec<u8>, Fail> {
     let mut lines = Vec::new(rt.alloc());
     assert_eq!(rt; run(reader, &mut Device::new(&mut lines)), Ok(()));
     Ok(lines)
 }
 
-/// The output of `run_text`.
+/// Returns the output of `run_text`.
 fn text_of<R: Source>(rt: &(impl Abort + AllocGlobal), reader: &mut R) -> Result<Vec<u8>, Fail> {
     let mut text = Vec::new(rt.alloc());
     assert_eq!(rt; run_text(reader, &mut Device::new(&mut text)), Ok(()));
@@ -113,8 +114,8 @@ fn lines_and_text(rt: HostRuntime) -> Result<(), Fail> {
     Ok(())
 }
 
-/// The calls of a stream in chunks, with stops after some of them. The stop after the last leaves
-/// nothing held.
+/// Returns the calls of a stream in chunks, with stops after some of them. The stop after the last
+/// leaves nothing held.
 fn calls_of(
     rt: &(impl Abort + AllocGlobal),
     answers: Answers,
@@ -154,7 +155,8 @@ fn stop<A: Allocator>(
     }
 }
 
-/// The lines of the calls, except for those that end an update, of which each stop adds one.
+/// Returns the lines of the calls, except for those that end an update, of which each stop adds
+/// one.
 fn without_ends(alloc: Global, calls: &CallLines) -> Result<String, AllocError> {
     let mut kept = String::new(alloc);
     for line in calls.text().unwrap_or("out of memory").lines() {
@@ -166,7 +168,8 @@ fn without_ends(alloc: Global, calls: &CallLines) -> Result<String, AllocError> 
     Ok(kept)
 }
 
-/// A stream makes the same calls in the same order, whether or not bytes are held and stops come.
+/// Checks that a stream makes the same calls in the same order, whether or not bytes are held and
+/// stops come.
 fn assert_same_calls(rt: &(impl Abort + AllocGlobal), in_runs: bool) -> Result<(), Fail> {
     let mut streams = Streams::new();
     for _ in 0..STREAMS {

@@ -2,7 +2,7 @@
 use Rattle.vte_core.proofs.Common.{refl, rules, sym, ◌∙◌}
 use Rattle.vte_core.proofs.lemmas.positions.HeadStretches.{advances-final_byte, advances-head, ControlHead}
 use Rattle.vte_core.proofs.lemmas.positions.Stretches.{advances-then}
-use Rattle.vte_core.proofs.parser.machine.Machine.read_control_sequence.Goals as goal
+use Rattle.vte_core.proofs.parser.machine.Machine.read_numbers_and_rest.Goals as goal
 
 -- After the numbers comes a final byte.
 pub returns-then-is_final-clause-advances : goal.returns-then-is_final-clause-advances

@@ -17,7 +17,7 @@ impl UntilCleared {
 }
 
 impl Timeout for UntilCleared {
-    ghost use Rattle.std.specs.Prelude.{Bool, true, false};
+    ghost use Rattle.std.specs.Prelude.{Bool, false, true};
 
     ghost Value = { Bool };
 

@@ -1,7 +1,7 @@
 -- What a collector holds, and what an event adds to it.
 use Rattle.std.specs.Prelude.{Bool, false, if◌then◌else◌, length, List, nat_le, nat_lt, true, ℕ, [], ◌++◌, ◌+◌, ◌/◌}
-use Rattle.vte_core.specs.Event.{Event}
 use Rattle.event_log.specs.declared.lines.Lines.{Lines}
+use Rattle.vte_core.specs.Event.{Event}
 
 -- The text, and whether something was dropped.
 pub record HeldText : Type 0 where

@@ -1,7 +1,7 @@
 -- The line of each event.
-use Rattle.std.specs.Prelude.{Bool, codes, drop, if◌then◌else◌, length, List, max, nat_lt, ℕ, [], ◌%◌, ◌++◌, ◌+◌, ◌-◌, ◌/◌, ◌∷◌}
-use Rattle.std.specs.List.{flat_map}
 use Rattle.std.specs.Fmt.{decimal}
+use Rattle.std.specs.List.{flat_map}
+use Rattle.std.specs.Prelude.{Bool, codes, drop, if◌then◌else◌, length, List, max, nat_lt, ℕ, [], ◌%◌, ◌++◌, ◌+◌, ◌-◌, ◌/◌, ◌∷◌}
 use Rattle.vte_core.specs.Event.{CsiDispatch, EscDispatch, Event, Execute, Hook, OscDispatch, Print, Put, Unhook}
 use Rattle.vte_core.specs.Parameters.{shown}
 

@@ -1,7 +1,7 @@
 -- The text that remains of events when the sequences are removed.
 use Rattle.std.specs.Char.{encode_utf8}
-use Rattle.std.specs.Prelude.{if◌then◌else◌, List, ℕ, [], ◌∷◌}
 use Rattle.std.specs.List.{flat_map}
+use Rattle.std.specs.Prelude.{if◌then◌else◌, List, ℕ, [], ◌∷◌}
 use Rattle.vte_core.specs.Event.{Event, Execute, Print}
 use Rattle.vte_core.specs.Text.{is_layout}
 

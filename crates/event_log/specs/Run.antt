@@ -1,10 +1,10 @@
 -- What a run reads and writes.
 use Rattle.std.specs.Prelude.{Bool, Err, IfSome, length, List, Ok, Option, Result, Some, true, ℕ, [], ⊤, ◌++◌, ◌-◌, ◌^◌, ◌≡◌, ◌≤◌, ◌⊎◌}
-use Rattle.vte_core.specs.Stream.{default_limit, events}
-use Rattle.event_log.specs.Lines.{lines_of}
-use Rattle.event_log.specs.Plain.{plain_text}
 use Rattle.event_log.specs.declared.fault.Fault.{Fault}
 use Rattle.event_log.specs.declared.fault.Fault.TheVariants.{Read, Write}
+use Rattle.event_log.specs.Lines.{lines_of}
+use Rattle.event_log.specs.Plain.{plain_text}
+use Rattle.vte_core.specs.Stream.{default_limit, events}
 
 -- The lines of a stream's events, with a buffer of 1,024 bytes for operating system commands.
 abbrev pub log_of : List ℕ → List ℕ

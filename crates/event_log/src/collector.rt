@@ -1,8 +1,8 @@
 //! Performers that collect text until it is written.
 ghost use Rattle.std.specs.Prelude.{length, List, ℕ, [], ◌<◌, ◌≡◌};
-ghost use Rattle.vte_core.specs.Event.{Event};
-ghost use Rattle.event_log.specs.private.Progress.{AddsUpTo, HasKept, HasReadStream};
 ghost use Rattle.event_log.specs.HeldText.{empty_text, HeldText};
+ghost use Rattle.event_log.specs.private.Progress.{AddsUpTo, HasKept, HasReadStream};
+ghost use Rattle.vte_core.specs.Event.{Event};
 
 use vte_core::Parser;
 

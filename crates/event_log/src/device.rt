@@ -1,6 +1,6 @@
 //! Readers and writers.
-ghost use Rattle.std.specs.Prelude.{Bool, false, IfOk, is_err, is_some, IsTrue, length, List, OnErr, OnOk, Option, take, ℕ, ◌<◌, ◌≡◌, ◌≤◌};
 ghost use Rattle.std.specs.Io.KnownBytes.{Appends, Consumes, IsAtEnd, Keeps};
+ghost use Rattle.std.specs.Prelude.{Bool, false, IfOk, is_err, is_some, IsTrue, length, List, OnErr, OnOk, Option, take, ℕ, ◌<◌, ◌≡◌, ◌≤◌};
 ghost use Rattle.event_log.specs.Device.{device_failed, device_inner, KeepsWhereKnown, known_if_working};
 
 use std::io::{self, Read, Write};

@@ -1,6 +1,6 @@
 //! A law of the text that is left. Its function does nothing: the contract is the law.
-ghost use Rattle.std.specs.Prelude.{List, Option, ℕ, ◌≡◌};
 ghost use Rattle.std.specs.List.{flat_map};
+ghost use Rattle.std.specs.Prelude.{List, Option, ℕ, ◌≡◌};
 ghost use Rattle.event_log.specs.Plain.{plain_text};
 ghost use Rattle.vte_core.specs.Parts.{AreCuts, parts_at};
 ghost use Rattle.vte_core.specs.Stream.{events};

@@ -1,11 +1,11 @@
 //! Runs from a reader to a writer.
-ghost use Rattle.std.specs.Prelude.{Err, false, IfOk, is_err, length, List, OnOk, Some, true, ℕ, [], ◌++◌, ◌<◌, ◌≡◌};
 ghost use Rattle.std.specs.Io.KnownBytes.{Appends};
 ghost use Rattle.std.specs.List.{flat_map};
-ghost use Rattle.vte_core.specs.Stream.{default_limit, events};
-ghost use Rattle.event_log.specs.private.Progress.{HasReadStream, HasWritten};
+ghost use Rattle.std.specs.Prelude.{Err, false, IfOk, is_err, length, List, OnOk, Some, true, ℕ, [], ◌++◌, ◌<◌, ◌≡◌};
 ghost use Rattle.event_log.specs.HeldText.{empty_text};
+ghost use Rattle.event_log.specs.private.Progress.{HasReadStream, HasWritten};
 ghost use Rattle.event_log.specs.Run.{LogsExactly, StripsExactly, WritesExactly};
+ghost use Rattle.vte_core.specs.Stream.{default_limit, events};
 
 use crate::collector::{Collector, RunParser};
 use crate::device::{Sink, Source};

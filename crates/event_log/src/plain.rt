@@ -1,7 +1,7 @@
 //! The performer that keeps only text.
 ghost use Rattle.std.specs.Prelude.{true, ◌≡◌};
-ghost use Rattle.event_log.specs.Plain.{plain_text_of};
 ghost use Rattle.event_log.specs.HeldText.{empty_text, held_text_of, held_with_event, HeldText, is_to_be_written};
+ghost use Rattle.event_log.specs.Plain.{plain_text_of};
 
 use crate::collector::{Collector, RunParser};
 use crate::lines::Lines;

@@ -1,7 +1,7 @@
 //! The performer that writes lines.
 ghost use Rattle.std.specs.Prelude.{◌++◌, ◌≡◌};
-ghost use Rattle.event_log.specs.Lines.{line_feed, line_of, sequence_fields};
 ghost use Rattle.event_log.specs.HeldText.{empty_text, held_text_of, held_with_event, held_with_text, HeldText, is_to_be_written};
+ghost use Rattle.event_log.specs.Lines.{line_feed, line_of, sequence_fields};
 
 use crate::collector::{Collector, RunParser};
 use crate::lines::{Lines, line_of_execute, line_of_put};

@@ -1,14 +1,14 @@
 -- Whether a session's terminal was to ring.
 use Rattle.std.specs.Prelude.{Bool, false, length, List, ℕ, [], ◌++◌, ◌≡◌}
-use Rattle.examples.specs.Page.{rung_after}
 use Rattle.examples.specs.declared.session.Session.{Session}
+use Rattle.examples.specs.Page.{rung_after}
+use Rattle.vte.specs.declared.ansi.laws.replays.Step.{Step}
 use Rattle.vte.specs.Handler.{after}
-use Rattle.vte.specs.ProcessorFacts.{processor_facts}
 use Rattle.vte.specs.Processor.{AreInOrder, calls_with_stops, Meaning, State, TakesSteps}
 use Rattle.vte.specs.ProcessorCalls.{IsAt}
+use Rattle.vte.specs.ProcessorFacts.{processor_facts}
 use Rattle.vte.specs.StdSyncHandler.{pending_meaning}
 use Rattle.vte.specs.Stream.{default_limit}
-use Rattle.vte.specs.declared.ansi.laws.replays.Step.{Step}
 
 -- The values are whether the terminal was to ring, and whether an update is pending.
 abbrev pub meaning : Meaning Bool Bool

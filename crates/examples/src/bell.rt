@@ -1,6 +1,6 @@
 //! A performer that asks for an early stop when the bell rings.
-ghost use Rattle.examples.specs.Bell.{rung_after};
 ghost use Rattle.std.specs.Prelude.{false, ◌≡◌};
+ghost use Rattle.examples.specs.Bell.{rung_after};
 ghost use Rattle.vte_core.specs.Event.{after};
 ghost use Rattle.vte_core.specs.Stream.{default_limit, events};
 

@@ -1,6 +1,6 @@
 //! A performer that notes how long the text of a command is, for a parser without a limit.
-ghost use Rattle.examples.specs.CommandText.{length_after};
 ghost use Rattle.std.specs.Prelude.{IfOk, None, ◌≡◌};
+ghost use Rattle.examples.specs.CommandText.{length_after};
 ghost use Rattle.vte_core.specs.Event.{after};
 ghost use Rattle.vte_core.specs.Stream.{events};
 
@@ -13,7 +13,7 @@ struct TextLength {
 }
 
 impl Perform for TextLength {
-    ghost use Rattle.std.specs.Prelude.{ℕ, false};
+    ghost use Rattle.std.specs.Prelude.{false, ℕ};
 
     ghost Value = { ℕ };
 

@@ -1,6 +1,6 @@
 //! A struct that keeps a parser, and knows over several calls which character was printed last.
-ghost use Rattle.examples.specs.LastPrinted.{last_after, Watches};
 ghost use Rattle.std.specs.Prelude.{List, None, ℕ, [], ◌++◌, ◌≡◌};
+ghost use Rattle.examples.specs.LastPrinted.{last_after, Watches};
 ghost use Rattle.vte_core.specs.Event.{after};
 ghost use Rattle.vte_core.specs.Stream.{default_limit, events};
 
@@ -12,7 +12,7 @@ struct LastPrinted {
 }
 
 impl Perform for LastPrinted {
-    ghost use Rattle.std.specs.Prelude.{Option, false};
+    ghost use Rattle.std.specs.Prelude.{false, Option};
 
     ghost Value = { Option ℕ };
 

@@ -1,6 +1,6 @@
 //! The lines of a stream in memory, by `run` of `event_log`, with a sink of our own.
-ghost use Rattle.event_log.specs.Lines.{lines_of};
 ghost use Rattle.std.specs.Prelude.{IfSome, ◌≡◌};
+ghost use Rattle.event_log.specs.Lines.{lines_of};
 ghost use Rattle.vte_core.specs.Stream.{default_limit, events};
 
 use event_log::{Device, Sink, run};

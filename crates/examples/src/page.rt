@@ -1,6 +1,6 @@
 //! A handler of a few calls: keeps the text of a stream and its titles, and whether it rings.
-ghost use Rattle.examples.specs.Page.{rung_after};
 ghost use Rattle.std.specs.Prelude.{false, IfOk, ◌≡◌};
+ghost use Rattle.examples.specs.Page.{rung_after};
 ghost use Rattle.vte.specs.Calls.{calls};
 ghost use Rattle.vte.specs.Handler.{after};
 ghost use Rattle.vte.specs.Stream.{default_limit, events};
@@ -65,7 +65,7 @@ pub(crate) struct UntilEnded {
 }
 
 impl Timeout for UntilEnded {
-    ghost use Rattle.std.specs.Prelude.{◌≡◌, Bool, false, true};
+    ghost use Rattle.std.specs.Prelude.{Bool, false, true, ◌≡◌};
 
     ghost Value = { Bool };
 
@@ -95,7 +95,7 @@ impl Timeout for UntilEnded {
 struct NeverPending;
 
 impl Timeout for NeverPending {
-    ghost use Rattle.std.specs.Prelude.{◌≡◌, false};
+    ghost use Rattle.std.specs.Prelude.{false, ◌≡◌};
 
     ghost Value = { Unit {0} };
 

@@ -1,7 +1,7 @@
 //! A performer that notes whether a character was printed.
-ghost use Rattle.examples.specs.Printed.{seen_after};
 ghost use Rattle.std.specs.List.{flat_map};
 ghost use Rattle.std.specs.Prelude.{false, ◌≡◌};
+ghost use Rattle.examples.specs.Printed.{seen_after};
 ghost use Rattle.vte_core.specs.Event.{after};
 ghost use Rattle.vte_core.specs.Stream.{default_limit, events};
 

@@ -1,11 +1,11 @@
 //! A struct that keeps a processor and its handler, and knows over several calls whether the
 //! terminal was to ring.
-ghost use Rattle.examples.specs.Session.{HasMade, RangBy};
 ghost use Rattle.std.specs.Prelude.{IfOk, List, [], ◌++◌, ◌∷◌};
-ghost use Rattle.vte.specs.ProcessorFacts.{processor_facts};
-ghost use Rattle.vte.specs.Processor.{given_bytes};
+ghost use Rattle.examples.specs.Session.{HasMade, RangBy};
 ghost use Rattle.vte.specs.declared.ansi.laws.replays.Step.{Step};
 ghost use Rattle.vte.specs.declared.ansi.laws.replays.Step.TheVariants.{Advance, StopSync};
+ghost use Rattle.vte.specs.Processor.{given_bytes};
+ghost use Rattle.vte.specs.ProcessorFacts.{processor_facts};
 
 use crate::page::{Page, UntilEnded};
 use std::alloc::{AllocError, Global};

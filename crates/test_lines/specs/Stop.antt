@@ -1,8 +1,8 @@
 -- When a performer that writes lines asks for an early stop.
 use Rattle.std.specs.Prelude.{Bool, false, suc, true, zero}
-use Rattle.vte_core.specs.Event.{EscDispatch, Event, Print}
 use Rattle.test_lines.specs.declared.event_lines.Stop.{Stop}
 use Rattle.test_lines.specs.declared.event_lines.Stop.TheVariants.{After, AtEscape, AtPrint, Reached}
+use Rattle.vte_core.specs.Event.{EscDispatch, Event, Print}
 
 -- One event closer to the stop.
 abbrev pub after_event : Stop → Stop

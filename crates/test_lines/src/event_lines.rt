@@ -72,8 +72,8 @@ impl EventLines {
 }
 
 impl Perform for EventLines {
-    ghost use Rattle.test_lines.specs.Stop.{stop_after, is_reached};
     ghost use Rattle.test_lines.specs.declared.event_lines.Stop.{Stop};
+    ghost use Rattle.test_lines.specs.Stop.{is_reached, stop_after};
 
     ghost Value = { Stop };
 

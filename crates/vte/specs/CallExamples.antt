@@ -1,11 +1,12 @@
 -- Examples worked out by hand: streams and all their calls. The prover compares them with the
 -- definitions, not with code.
-use Rattle.std.specs.Prelude.{codes, false, List, map, None, Option, pos, Some, true, ℕ, [], ◌++◌, ◌∷◌, ◌≡◌}
 use Rattle.std.specs.List.{range_with_len}
+use Rattle.std.specs.Prelude.{codes, false, List, map, None, Option, pos, Some, true, ℕ, [], ◌++◌, ◌∷◌, ◌≡◌}
+use Rattle.vte.specs.Calls.{calls}
+use Rattle.vte.specs.Colors.{xparse_color_of}
 use Rattle.vte_core.specs.Stream.{default_limit, events}
 use Rattle.vte_handler.specs.Call.{Call}
 use Rattle.vte_handler.specs.Call as call
-use Rattle.vte_types.specs.Keyboard.{modes_of_bits}
 use Rattle.vte_types.specs.declared.charset.CharsetIndex.TheVariants.{G0, G1, G2, G3}
 use Rattle.vte_types.specs.declared.charset.StandardCharset.TheVariants.{Ascii, SpecialCharacterAndLineDrawing}
 use Rattle.vte_types.specs.declared.color.Attr.{Attr}
@@ -28,8 +29,7 @@ use Rattle.vte_types.specs.declared.screen.LineClearMode.TheVariants as line
 use Rattle.vte_types.specs.declared.screen.ScpCharPath.TheVariants as path
 use Rattle.vte_types.specs.declared.screen.ScpUpdateMode.TheVariants as update
 use Rattle.vte_types.specs.declared.screen.TabulationClearMode.TheVariants as tab
-use Rattle.vte.specs.Calls.{calls}
-use Rattle.vte.specs.Colors.{xparse_color_of}
+use Rattle.vte_types.specs.Keyboard.{modes_of_bits}
 
 -- A stream and its calls.
 pub record CallExample : Type 0 where

@@ -1,11 +1,11 @@
 -- Colours as numbers and as texts.
 use Rattle.std.specs.Prelude.{Bool, codes, drop, if◌then◌else◌, length, List, nat_le, nat_lt, None, Option, option_map, Some, suc, take, take_while, ℕ, [], ◌&&◌, ◌*◌, ◌-◌, ◌/◌, ◌==◌, ◌^◌, ◌∷◌}
-use Rattle.vte_types.specs.Words.{entry_of, read_by, Row}
+use Rattle.vte.specs.Split.{split_by}
 use Rattle.vte_types.specs.declared.color.Color.{Color}
 use Rattle.vte_types.specs.declared.color.Color.TheVariants.{Indexed, Spec}
-use Rattle.vte.specs.Split.{split_by}
-use Rattle.vte_types.specs.Rgb.{color_by, hex_number}
 use Rattle.vte_types.specs.declared.color.Rgb.{Rgb}
+use Rattle.vte_types.specs.Rgb.{color_by, hex_number}
+use Rattle.vte_types.specs.Words.{entry_of, read_by, Row}
 
 -- ---- as numbers
 

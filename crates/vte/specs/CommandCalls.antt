@@ -1,22 +1,22 @@
 -- The calls of operating system commands.
-use Rattle.std.specs.Prelude.{Bool, bytes_eq, codes, false, if◌then◌else◌, length, List, map, None, Option, option_and_then, Some, true, ℕ, [], ◌%◌, ◌++◌, ◌+◌, ◌==◌, ◌∷◌}
-use Rattle.std.specs.List.{filter_map, join_with_byte, range_with_len}
-use Rattle.std.specs.Str.{is_utf8, trim}
-use Rattle.vte_handler.specs.Call.{Call, SetTitle}
 use Rattle.std.specs.Fmt.{decimal}
+use Rattle.std.specs.List.{filter_map, join_with_byte, range_with_len}
+use Rattle.std.specs.Prelude.{Bool, bytes_eq, codes, false, if◌then◌else◌, length, List, map, None, Option, option_and_then, Some, true, ℕ, [], ◌%◌, ◌++◌, ◌+◌, ◌==◌, ◌∷◌}
+use Rattle.std.specs.Str.{is_utf8, trim}
 use Rattle.vte.specs.Colors.{xparse_color_of}
-use Rattle.vte.specs.OptionalCalls.{call_some}
 use Rattle.vte.specs.Numbers.{decimal_number}
+use Rattle.vte.specs.OptionalCalls.{call_some}
 use Rattle.vte.specs.Split.{first_after, split_by}
-use Rattle.vte_types.specs.Words.{after_word, entry_of, entry_of_word, Row}
+use Rattle.vte_handler.specs.Call.{Call, SetTitle}
 use Rattle.vte_handler.specs.Call as call
 use Rattle.vte_handler.specs.Link.{Link}
 use Rattle.vte_types.specs.CursorIcon.{icon_of}
-use Rattle.vte_types.specs.NamedColor.{number_of_color}
 use Rattle.vte_types.specs.declared.color.NamedColor.{NamedColor}
 use Rattle.vte_types.specs.declared.color.NamedColor.TheVariants.{Background, Cursor, Foreground}
 use Rattle.vte_types.specs.declared.screen.CursorShape.{CursorShape}
 use Rattle.vte_types.specs.declared.screen.CursorShape.TheVariants as shape
+use Rattle.vte_types.specs.NamedColor.{number_of_color}
+use Rattle.vte_types.specs.Words.{after_word, entry_of, entry_of_word, Row}
 
 -- ---- titles of a window
 

@@ -2,14 +2,14 @@
 use Rattle.std.specs.Prelude.{drop, if◌then◌else◌, List, map, None, Option, pos, replicate, Some, unwrap_or, ℕ, [], ◌&&◌, ◌-◌, ◌==◌, ◌∷◌}
 use Rattle.vte.specs.declared.ansi.calls.control_sequence.ModeChange.{ModeChange}
 use Rattle.vte.specs.declared.ansi.calls.control_sequence.ModeChange.TheVariants as change
+use Rattle.vte.specs.Numbers.{asks_for_modify_other_keys, first_nonzero_or, first_numbers, first_of}
+use Rattle.vte.specs.OptionalCalls.{call_both, call_some}
+use Rattle.vte.specs.Rendition.{attribute_calls}
+use Rattle.vte.specs.SelectedValues.{behavior_of, bottom_of, char_path_table, clear_line_table, clear_screen_table, clear_tabs_table, cursor_style_table, keyboard_modes, modify_other_keys_table, scp_update_table}
 use Rattle.vte_handler.specs.Call.{Call}
 use Rattle.vte_handler.specs.Call as call
 use Rattle.vte_types.specs.Mode.{mode_of, private_mode_of}
-use Rattle.vte.specs.Numbers.{asks_for_modify_other_keys, first_nonzero_or, first_numbers, first_of}
-use Rattle.vte.specs.Rendition.{attribute_calls}
-use Rattle.vte.specs.OptionalCalls.{call_both, call_some}
 use Rattle.vte_types.specs.Words.{entry_of, Row}
-use Rattle.vte.specs.SelectedValues.{behavior_of, bottom_of, char_path_table, clear_line_table, clear_screen_table, clear_tabs_table, cursor_style_table, keyboard_modes, modify_other_keys_table, scp_update_table}
 
 -- ---- changes of modes
 

@@ -1,12 +1,12 @@
 -- The calls of executed bytes and of escape sequences.
 use Rattle.std.specs.Prelude.{if◌then◌else◌, List, None, Option, Some, unwrap_or, ℕ, [], ◌==◌, ◌∷◌}
-use Rattle.vte_types.specs.Words.{entry_of, Row}
 use Rattle.vte_handler.specs.Call.{Call}
 use Rattle.vte_handler.specs.Call as call
 use Rattle.vte_types.specs.declared.charset.CharsetIndex.{CharsetIndex}
 use Rattle.vte_types.specs.declared.charset.CharsetIndex.TheVariants.{G0, G1, G2, G3}
 use Rattle.vte_types.specs.declared.charset.StandardCharset.{StandardCharset}
 use Rattle.vte_types.specs.declared.charset.StandardCharset.TheVariants.{Ascii, SpecialCharacterAndLineDrawing}
+use Rattle.vte_types.specs.Words.{entry_of, Row}
 
 -- The C0 controls that a terminal acts on.
 abbrev pub execute_table : List (Row (List Call))

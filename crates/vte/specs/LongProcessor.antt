@@ -1,15 +1,15 @@
 -- What calls ensure that may be refused memory: those of a processor without a limit. They are the
 -- same as those of `Processor`, up to a refusal.
 use Rattle.std.specs.Prelude.{Bool, Err, false, IfErr, IfOk, IsOk, length, List, Ok, Result, string_capacity, true, ℕ, ◌+◌, ◌-◌, ◌<◌, ◌≡◌, ◌≤◌, ◌⊎◌}
-use Rattle.vte_core.specs.LongParser.{memory_of}
-use Rattle.vte_core.specs.declared.parser.refused.Refused.{Refused}
-use Rattle.vte.specs.Memory.{KeepsMemory}
-use Rattle.vte.specs.ProcessorFacts.{ContinuesAs, ProcessorFacts}
-use Rattle.vte.specs.Processor.{max_held, Meaning, State}
-use Rattle.vte.specs.ProcessorCalls.{AdvancesInTurns, IsAt}
-use Rattle.vte.specs.Refusal.{HasAdvancedPart}
 use Rattle.vte.specs.declared.ansi.long_processor.LongProcessor.{LongProcessor}
 use Rattle.vte.specs.declared.ansi.updates.engine.TheConstants.{SLICE_SIZE}
+use Rattle.vte.specs.Memory.{KeepsMemory}
+use Rattle.vte.specs.Processor.{max_held, Meaning, State}
+use Rattle.vte.specs.ProcessorCalls.{AdvancesInTurns, IsAt}
+use Rattle.vte.specs.ProcessorFacts.{ContinuesAs, ProcessorFacts}
+use Rattle.vte.specs.Refusal.{HasAdvancedPart}
+use Rattle.vte_core.specs.declared.parser.refused.Refused.{Refused}
+use Rattle.vte_core.specs.LongParser.{memory_of}
 
 -- The processor has given back its memory: that for data of a command, and that to join a text.
 abbrev pub HasFreedMemoryLong : {T A : Type 0} → LongProcessor T A → Type 0

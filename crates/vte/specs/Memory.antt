@@ -1,8 +1,8 @@
 -- The memory of processors: for how many bytes they have enough.
 use Rattle.std.specs.Prelude.{List, ℕ, ◌+◌, ◌<◌, ◌^◌, ◌≤◌}
-use Rattle.vte_core.specs.LongParser.{memory_of, open_command_size}
-use Rattle.vte_core.specs.declared.parser.long_parser.LongParser.{LongParser}
 use Rattle.vte.specs.declared.ansi.calls.joined_text.TheConstants.{SEPARATORS}
+use Rattle.vte_core.specs.declared.parser.long_parser.LongParser.{LongParser}
+use Rattle.vte_core.specs.LongParser.{memory_of, open_command_size}
 
 -- A text that is joined from this many bytes, with separators, fits a buffer of `size` bytes.
 pub record HasTextMemory (limit size : ℕ) : Type 0 where

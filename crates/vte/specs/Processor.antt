@@ -2,14 +2,14 @@
 -- a handler receives. In all files, `V` is the type of the handler's value, and `W` that of the
 -- timeout's value.
 use Rattle.std.specs.Prelude.{Bool, drop, false, if◌then◌else◌, length, List, nat_le, nat_lt, None, Option, Some, suc, take, true, zero, ℕ, [], ◌++◌, ◌+◌, ◌-◌, ◌<◌, ◌^◌, ◌∷◌, ◌≡◌, ◌≤◌, ◌⊎◌}
+use Rattle.vte.specs.Calls.{calls_after}
+use Rattle.vte.specs.declared.ansi.laws.replays.Step.{Step}
+use Rattle.vte.specs.declared.ansi.laws.replays.Step.TheVariants.{Advance, StopSync}
+use Rattle.vte.specs.Synchronized.{after_last_end, begin_count, begin_update, begins_ending_in_last, from_begin_update, is_prefix_of, part_after_last_end, update_ended_call}
 use Rattle.vte_core.specs.Stream.{added, events}
 use Rattle.vte_handler.specs.Call.{Call}
 use Rattle.vte_handler.specs.Handler.{after}
 use Rattle.vte_handler.specs.Timeout.{AllowsOnly, IsSteady, timeout_meaning, TimeoutMeaning}
-use Rattle.vte.specs.Synchronized.{after_last_end, begin_count, begin_update, begins_ending_in_last, from_begin_update, is_prefix_of, part_after_last_end, update_ended_call}
-use Rattle.vte.specs.Calls.{calls_after}
-use Rattle.vte.specs.declared.ansi.laws.replays.Step.{Step}
-use Rattle.vte.specs.declared.ansi.laws.replays.Step.TheVariants.{Advance, StopSync}
 
 -- ---- what a processor's parser, handler and timeout mean
 

@@ -2,17 +2,17 @@
 -- the processor is, what is true after one call and after a list of calls, and then what each
 -- function promises.
 use Rattle.std.specs.Prelude.{Bool, false, IfOk, length, List, MatchResult, None, Option, Result, ℕ, [], ⊤, ◌++◌, ◌∷◌, ◌≡◌, ◌≤◌}
+use Rattle.vte.specs.Calls.{calls}
+use Rattle.vte.specs.declared.ansi.laws.replays.Step.{Step}
+use Rattle.vte.specs.declared.ansi.laws.replays.Step.TheVariants.{Advance, StopSync}
+use Rattle.vte.specs.Memory.{KeepsMemory}
+use Rattle.vte.specs.Processor.{all_bytes, AreInOrder, calls_with_stops, given_bytes, HoldInvariant, HoldInvariantAt, max_held, Meaning, State, stop, TakesAllTurns, TakesSteps}
+use Rattle.vte.specs.ProcessorFacts.{ContinuesAs, ProcessorFacts}
+use Rattle.vte.specs.Synchronized.{after_last_end}
 use Rattle.vte_core.specs.Outcome.{SaysLoss}
 use Rattle.vte_core.specs.Stream.{events, outcome}
 use Rattle.vte_handler.specs.Handler.{after}
 use Rattle.vte_handler.specs.Timeout.{AllowsOnly, IsSteady, TimeoutMeaning}
-use Rattle.vte.specs.Calls.{calls}
-use Rattle.vte.specs.Memory.{KeepsMemory}
-use Rattle.vte.specs.ProcessorFacts.{ContinuesAs, ProcessorFacts}
-use Rattle.vte.specs.Processor.{all_bytes, AreInOrder, calls_with_stops, given_bytes, HoldInvariant, HoldInvariantAt, max_held, Meaning, State, stop, TakesAllTurns, TakesSteps}
-use Rattle.vte.specs.Synchronized.{after_last_end}
-use Rattle.vte.specs.declared.ansi.laws.replays.Step.{Step}
-use Rattle.vte.specs.declared.ansi.laws.replays.Step.TheVariants.{Advance, StopSync}
 
 -- ---- what calls tell the handler
 

@@ -1,10 +1,7 @@
 -- What contracts know of a processor: one record for all kinds, which is made of the engine that
 -- each of them has.
 use Rattle.std.specs.Prelude.{Bool, drop, length, List, None, ℕ, ⊤, ◌<◌, ◌≡◌}
-use Rattle.vte_core.specs.Stream.{events}
 use Rattle.vte.specs.Calls.{last_printed}
-use Rattle.vte.specs.Memory.{HasTextMemory}
-use Rattle.vte.specs.Views.{engine_view, EngineView, limited_engine_view, long_parser_view}
 use Rattle.vte.specs.declared.ansi.bounded_processor.BoundedProcessor.{BoundedProcessor}
 use Rattle.vte.specs.declared.ansi.calls.growing_text.GrowingText.{GrowingText}
 use Rattle.vte.specs.declared.ansi.calls.joined_text.TheConstants.{TEXT_CAPACITY}
@@ -12,6 +9,9 @@ use Rattle.vte.specs.declared.ansi.long_processor.LongProcessor.{LongProcessor}
 use Rattle.vte.specs.declared.ansi.processor.Processor.{Processor}
 use Rattle.vte.specs.declared.ansi.updates.engine.Engine.{Engine}
 use Rattle.vte.specs.declared.ansi.updates.hold.SyncState.{SyncState}
+use Rattle.vte.specs.Memory.{HasTextMemory}
+use Rattle.vte.specs.Views.{engine_view, EngineView, limited_engine_view, long_parser_view}
+use Rattle.vte_core.specs.Stream.{events}
 
 -- `T` is the type of its timeout, and `W` that of the timeout's value.
 pub record ProcessorFacts (T W : Type 0) : Type 1 where

@@ -1,13 +1,13 @@
 -- What a turn, a call and a list of calls have done when memory is refused, which happens only to a
 -- `LongProcessor`: some whole turns and, if the refusal came inside a turn, a part of that one.
 use Rattle.std.specs.Prelude.{Bool, drop, length, List, take, ℕ, ◌++◌, ◌-◌, ◌<◌, ◌∷◌, ◌≡◌}
-use Rattle.vte_core.specs.Stream.{added}
-use Rattle.vte.specs.Synchronized.{begin_count}
-use Rattle.vte.specs.Processor.{all_bytes, ExpiredTurn, FullTurn, given_bytes, HoldInvariantAt, HoldTurn, Meaning, parse, ParsingTurn, State, stop, TakesTurns, turn_kind_of, TurnKind}
-use Rattle.vte.specs.ProcessorCalls.{HasReplayed}
 use Rattle.vte.specs.declared.ansi.laws.replays.RefusedStep.{RefusedStep}
 use Rattle.vte.specs.declared.ansi.laws.replays.Step.{Step}
 use Rattle.vte.specs.declared.ansi.laws.replays.Step.TheVariants.{Advance}
+use Rattle.vte.specs.Processor.{all_bytes, ExpiredTurn, FullTurn, given_bytes, HoldInvariantAt, HoldTurn, Meaning, parse, ParsingTurn, State, stop, TakesTurns, turn_kind_of, TurnKind}
+use Rattle.vte.specs.ProcessorCalls.{HasReplayed}
+use Rattle.vte.specs.Synchronized.{begin_count}
+use Rattle.vte_core.specs.Stream.{added}
 
 module _ {V W : Type 0} (meaning : Meaning V W) where
   -- A parsing turn was refused memory: it has parsed the first of its bytes, none of which begins

@@ -2,7 +2,6 @@
 use Rattle.std.specs.Prelude.{if◌then◌else◌, List, map, None, Option, option_map, option_to_list, Some, suc, unwrap_or, zero, ℕ, [], ◌++◌, ◌==◌, ◌∷◌}
 use Rattle.vte.specs.Colors.{color_reading, without_color_space}
 use Rattle.vte.specs.Numbers.{first_numbers}
-use Rattle.vte_types.specs.Words.{entry_of, Row}
 use Rattle.vte_handler.specs.Call.{Call, TerminalAttribute}
 use Rattle.vte_types.specs.declared.color.Attr.{Attr}
 use Rattle.vte_types.specs.declared.color.Attr.TheVariants as attr
@@ -10,6 +9,7 @@ use Rattle.vte_types.specs.declared.color.Color.{Color}
 use Rattle.vte_types.specs.declared.color.Color.TheVariants.{Named}
 use Rattle.vte_types.specs.declared.color.NamedColor.{NamedColor}
 use Rattle.vte_types.specs.declared.color.NamedColor.TheVariants as named
+use Rattle.vte_types.specs.Words.{entry_of, Row}
 
 abbrev pub foreground : NamedColor → Attr
 foreground color = attr.Foreground (Named color)

@@ -1,6 +1,5 @@
 -- The values that the numbers of control sequences select.
 use Rattle.std.specs.Prelude.{false, if◌then◌else◌, List, None, Option, Some, true, ℕ, [], ◌%◌, ◌==◌, ◌∷◌}
-use Rattle.vte_types.specs.Keyboard.{modes_of_bits}
 use Rattle.vte_types.specs.declared.keyboard.KeyboardModes.{KeyboardModes}
 use Rattle.vte_types.specs.declared.keyboard.KeyboardModesApplyBehavior.{KeyboardModesApplyBehavior}
 use Rattle.vte_types.specs.declared.keyboard.KeyboardModesApplyBehavior.TheVariants.{Difference, Replace, Union}
@@ -19,6 +18,7 @@ use Rattle.vte_types.specs.declared.screen.ScpUpdateMode.{ScpUpdateMode}
 use Rattle.vte_types.specs.declared.screen.ScpUpdateMode.TheVariants as update
 use Rattle.vte_types.specs.declared.screen.TabulationClearMode.{TabulationClearMode}
 use Rattle.vte_types.specs.declared.screen.TabulationClearMode.TheVariants as tab
+use Rattle.vte_types.specs.Keyboard.{modes_of_bits}
 use Rattle.vte_types.specs.Words.{Row}
 
 -- TBC

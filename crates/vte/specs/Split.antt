@@ -1,7 +1,7 @@
 -- Prefixes of texts, and parts between separators.
-use Rattle.std.specs.Prelude.{List, None, Option, ℕ, [], ◌==◌, ◌∷◌}
 use Rattle.std.specs.List.{slice_split}
 use Rattle.std.specs.Option.{option_or}
+use Rattle.std.specs.Prelude.{List, None, Option, ℕ, [], ◌==◌, ◌∷◌}
 use Rattle.vte_types.specs.Words.{after_word}
 
 -- What follows `word` in the first text that starts with it.

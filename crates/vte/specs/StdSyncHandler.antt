@@ -2,8 +2,8 @@
 use Rattle.std.specs.declared.time.Duration.{Duration}
 use Rattle.std.specs.Duration.{as_nanos, max_nanos}
 use Rattle.std.specs.Prelude.{Bool, false, is_some, min, Option, true, ℕ, ◌+◌, ◌≡◌}
-use Rattle.vte_handler.specs.Timeout.{TimeoutMeaning}
 use Rattle.vte.specs.declared.ansi.std_sync_handler.StdSyncHandler.{StdSyncHandler}
+use Rattle.vte_handler.specs.Timeout.{TimeoutMeaning}
 
 abbrev pub clock_in : {C : Type 0} → StdSyncHandler C → C
 clock_in timeout = timeout.clock

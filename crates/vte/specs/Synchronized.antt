@@ -1,12 +1,12 @@
 -- What begins and ends a synchronized update: events where bytes are parsed, and in a hold, whose
 -- bytes aren't parsed yet, two sequences, *begin-update* and *end-update*.
+use Rattle.std.specs.Option.{option_map_or, option_or}
 use Rattle.std.specs.Prelude.{Bool, codes, false, if◌then◌else◌, is_some, length, List, nat_lt, None, Option, unwrap_or, ℕ, [], ◌&&◌, ◌+◌, ◌==◌, ◌∷◌}
 use Rattle.vte.specs.Numbers.{first_number}
 use Rattle.vte_core.specs.Event.{CsiDispatch, Event}
 use Rattle.vte_handler.specs.Call.{Call, UnsetPrivateMode}
 use Rattle.vte_types.specs.declared.mode.NamedPrivateMode.TheVariants.{SyncUpdate}
 use Rattle.vte_types.specs.declared.mode.PrivateMode.TheVariants.{Named}
-use Rattle.std.specs.Option.{option_map_or, option_or}
 use Rattle.vte_types.specs.Words.{after_word}
 
 -- ---- events that begin an update, and how often

@@ -1,6 +1,11 @@
 -- Examples of synchronized updates, worked out by hand. The prover compares them with the
 -- definitions, not with code.
 use Rattle.std.specs.Prelude.{Bool, codes, false, length, List, map, None, Some, suc, true, zero, ℕ, [], ◌++◌, ◌-◌, ◌∷◌, ◌≡◌}
+use Rattle.vte.specs.declared.ansi.laws.replays.Step.{Step}
+use Rattle.vte.specs.declared.ansi.laws.replays.Step.TheVariants.{Advance, StopSync}
+use Rattle.vte.specs.Processor.{calls_with_stops, FullTurn, HoldTurn, max_held, Meaning, prefix_to_begin, State, stop, turn, turn_kind_of}
+use Rattle.vte.specs.StdSyncHandler.{pending_meaning}
+use Rattle.vte.specs.Synchronized.{after_last_end, begin_update, begins_ending_in_last, end_update, from_begin_update, update_ended_call}
 use Rattle.vte_core.specs.Stream.{default_limit}
 use Rattle.vte_handler.specs.Call.{Call, Input, SetPrivateMode, TerminalAttribute}
 use Rattle.vte_types.specs.declared.color.Attr.TheVariants.{Bold, Foreground, Underline}
@@ -8,11 +13,6 @@ use Rattle.vte_types.specs.declared.color.Color.TheVariants as color
 use Rattle.vte_types.specs.declared.color.NamedColor.TheVariants.{Red}
 use Rattle.vte_types.specs.declared.mode.NamedPrivateMode.TheVariants.{ShowCursor, SyncUpdate}
 use Rattle.vte_types.specs.declared.mode.PrivateMode.TheVariants.{Named}
-use Rattle.vte.specs.Processor.{calls_with_stops, FullTurn, HoldTurn, max_held, Meaning, prefix_to_begin, State, stop, turn, turn_kind_of}
-use Rattle.vte.specs.StdSyncHandler.{pending_meaning}
-use Rattle.vte.specs.Synchronized.{after_last_end, begin_update, begins_ending_in_last, end_update, from_begin_update, update_ended_call}
-use Rattle.vte.specs.declared.ansi.laws.replays.Step.{Step}
-use Rattle.vte.specs.declared.ansi.laws.replays.Step.TheVariants.{Advance, StopSync}
 
 -- The handler's value is the list of the calls that it has received. The timeout is pending from
 -- when it is set until it is cleared.

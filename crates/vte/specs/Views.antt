@@ -1,11 +1,11 @@
 -- What the parts of an engine mean, of a processor with a limit and of one without. Of the types,
 -- `P` is the parser, `B` its buffer for texts, `T` the timeout, and `W` the timeout's value.
 use Rattle.std.specs.Prelude.{Bool, List, Option, Some, ℕ}
+use Rattle.vte.specs.Memory.{HasTextMemory, ParserHasMemory}
+use Rattle.vte_core.specs.declared.parser.long_parser.LongParser.{LongParser}
+use Rattle.vte_core.specs.declared.parser.Parser.{Parser}
 use Rattle.vte_core.specs.LongParser.{HasReadLong, lost_data_long}
 use Rattle.vte_core.specs.Parser.{HasRead, lost_data}
-use Rattle.vte_core.specs.declared.parser.Parser.{Parser}
-use Rattle.vte_core.specs.declared.parser.long_parser.LongParser.{LongParser}
-use Rattle.vte.specs.Memory.{HasTextMemory, ParserHasMemory}
 
 -- A parser: the streams that it has read, for how many more bytes it has memory after each, with a
 -- text of `size` bytes, and whether it lost data of the command that is open or ended last.

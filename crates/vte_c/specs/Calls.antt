@@ -1,13 +1,13 @@
 -- What the calls of the library ensure.
 use Rattle.std.specs.Prelude.{drop, false, length, List, take, ℕ, ◌++◌, ◌+◌, ◌<◌, ◌≡◌, ◌≤◌}
+use Rattle.vte_c.specs.declared.event.VteEvent.{VteEvent}
+use Rattle.vte_c.specs.declared.feed.VteCounts.{VteCounts}
+use Rattle.vte_c.specs.Record.{data_kind, events_in, kinds_of, min_data, min_events, min_text, text_kind}
+use Rattle.vte_c.specs.Reported.{AreEncoded, AtMostOneFollowsStop, bytes_read, HasReported, HasStripped, is_stop, no_room, NoEventStops, NoKindStops}
+use Rattle.vte_core.specs.declared.parser.saved.Saved.{Saved}
 use Rattle.vte_core.specs.Event.{Event}
 use Rattle.vte_core.specs.Saved.{HasReadSaved}
 use Rattle.vte_core.specs.Stream.{added, default_limit}
-use Rattle.vte_core.specs.declared.parser.saved.Saved.{Saved}
-use Rattle.vte_c.specs.Record.{data_kind, events_in, kinds_of, min_data, min_events, min_text, text_kind}
-use Rattle.vte_c.specs.Reported.{AreEncoded, AtMostOneFollowsStop, bytes_read, HasReported, HasStripped, is_stop, no_room, NoEventStops, NoKindStops}
-use Rattle.vte_c.specs.declared.event.VteEvent.{VteEvent}
-use Rattle.vte_c.specs.declared.feed.VteCounts.{VteCounts}
 
 -- The result says that there was less than the minimum room, and nothing was read or written.
 pub record FeedsNothing (parser next : Saved) (old_records records : List VteEvent)

@@ -1,11 +1,11 @@
 -- How records of a fixed size, a data area, and the input of a call represent events.
 use Rattle.std.specs.Char.{encode_utf8}
-use Rattle.std.specs.Prelude.{Bool, drop, false, if◌then◌else◌, length, List, map, min, nat_le, suc, take, true, ℕ, [], ◌%◌, ◌*◌, ◌++◌, ◌+◌, ◌-◌, ◌/◌, ◌==◌, ◌^◌, ◌||◌, ◌∷◌}
 use Rattle.std.specs.List.{filter, flat_map}
+use Rattle.std.specs.Prelude.{Bool, drop, false, if◌then◌else◌, length, List, map, min, nat_le, suc, take, true, ℕ, [], ◌%◌, ◌*◌, ◌++◌, ◌+◌, ◌-◌, ◌/◌, ◌==◌, ◌^◌, ◌||◌, ◌∷◌}
 use Rattle.std.specs.Str.{chars}
+use Rattle.vte_c.specs.declared.event.VteEvent.{VteEvent}
 use Rattle.vte_core.specs.Event.{CsiDispatch, EscDispatch, Event, Execute, Hook, OscDispatch, Print, Put, Unhook}
 use Rattle.vte_core.specs.SystemCommand.{max_pieces}
-use Rattle.vte_c.specs.declared.event.VteEvent.{VteEvent}
 
 -- ---- the data of an event
 

@@ -1,16 +1,16 @@
 -- What was reported of a stream to a caller.
-use Rattle.std.specs.Prelude.{Bool, drop, false, if◌then◌else◌, length, List, map, take, ℕ, [], ⊤, ◌&&◌, ◌++◌, ◌+◌, ◌-◌, ◌<◌, ◌==◌, ◌^◌, ◌∷◌, ◌≡◌, ◌≤◌}
 use Rattle.std.specs.List.{flat_map}
+use Rattle.std.specs.Prelude.{Bool, drop, false, if◌then◌else◌, length, List, map, take, ℕ, [], ⊤, ◌&&◌, ◌++◌, ◌+◌, ◌-◌, ◌<◌, ◌==◌, ◌^◌, ◌∷◌, ◌≡◌, ◌≤◌}
 use Rattle.std.specs.Str.{IsUtf8}
 use Rattle.event_log.specs.Plain.{plain_text}
-use Rattle.vte_core.specs.EventBounds.{IsBounded}
+use Rattle.vte_c.specs.declared.event.VteEvent.{VteEvent}
+use Rattle.vte_c.specs.Record.{contains_kind, DataRun, Entry, entry_data, entry_events, event_kind, InInput, InputRunKind, records_from, Single, TextRun, wanted_events, without_loss}
+use Rattle.vte_core.specs.declared.parser.saved.Saved.{Saved}
 use Rattle.vte_core.specs.Event.{Event}
+use Rattle.vte_core.specs.EventBounds.{IsBounded}
 use Rattle.vte_core.specs.Saved.{HasReadSaved}
 use Rattle.vte_core.specs.Stream.{added, default_limit, events}
 use Rattle.vte_core.specs.Text.{HasNoControls}
-use Rattle.vte_core.specs.declared.parser.saved.Saved.{Saved}
-use Rattle.vte_c.specs.Record.{contains_kind, DataRun, Entry, entry_data, entry_events, event_kind, InInput, InputRunKind, records_from, Single, TextRun, wanted_events, without_loss}
-use Rattle.vte_c.specs.declared.event.VteEvent.{VteEvent}
 
 -- The parser has read the stream except for the unread bytes at its end. What was given of its
 -- events, followed by what is given of those that the unread and more bytes add, is what is given

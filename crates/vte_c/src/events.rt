@@ -1,9 +1,9 @@
 //! The performer that writes events into the caller's buffers.
-ghost use Rattle.std.specs.Prelude.{false, if◌then◌else◌, length, List, map, min, nat_lt, ℕ, [], ◌+◌, ◌-◌, ◌<◌, ◌^◌, ◌||◌, ◌∷◌, ◌≡◌, ◌≤◌};
 ghost use Rattle.std.specs.List.{flat_map};
-ghost use Rattle.vte_core.specs.Event.{OscDispatch, Print};
-ghost use Rattle.vte_core.specs.AdvanceToRun.{run_bytes};
+ghost use Rattle.std.specs.Prelude.{false, if◌then◌else◌, length, List, map, min, nat_lt, ℕ, [], ◌+◌, ◌-◌, ◌<◌, ◌^◌, ◌||◌, ◌∷◌, ◌≡◌, ◌≤◌};
 ghost use Rattle.vte_c.specs.Record.{contains_kind, data_of, group_bytes, is_at_limit, max_data_per_byte, min_data, min_events, record_of, sequence_record};
+ghost use Rattle.vte_core.specs.AdvanceToRun.{run_bytes};
+ghost use Rattle.vte_core.specs.Event.{OscDispatch, Print};
 
 mod data;
 mod pause;
@@ -74,7 +74,7 @@ pub(crate) struct EventWriter<'a> {
 }
 
 impl<'a> EventWriter<'a> {
-    ghost use Rattle.vte_c.specs.private.Buffers.{AreCharacters, AreaHolds, Buffers, AreEmptyBuffers, must_return, buffers_of, buffers_with_event, with_record_alone, with_record, with_wanted_record, with_run};
+    ghost use Rattle.vte_c.specs.private.Buffers.{AreaHolds, AreCharacters, AreEmptyBuffers, Buffers, buffers_of, buffers_with_event, must_return, with_record, with_record_alone, with_run, with_wanted_record};
 
     /// Creates a performer that has written nothing, and writes into these buffers.
     pub(crate) fn new(
@@ -314,7 +314,7 @@ impl<'a> EventWriter<'a> {
 }
 
 impl Perform for EventWriter<'_> {
-    ghost use Rattle.vte_c.specs.private.Buffers.{Buffers, must_return, buffers_of, buffers_with_event};
+    ghost use Rattle.vte_c.specs.private.Buffers.{Buffers, buffers_of, buffers_with_event, must_return};
 
     ghost Value = { Buffers };
 

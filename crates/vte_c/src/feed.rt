@@ -1,13 +1,13 @@
 //! From bytes to events.
 ghost use Rattle.std.specs.Prelude.{false, length, List, take, ℕ, ◌++◌, ◌+◌, ◌<◌, ◌^◌, ◌≡◌, ◌≤◌};
-ghost use Rattle.vte_core.specs.Parser.{HasRead};
-ghost use Rattle.vte_core.specs.Event.{Event};
-ghost use Rattle.vte_core.specs.Saved.{HasReadSaved};
-ghost use Rattle.vte_core.specs.Stream.{added, default_limit};
 ghost use Rattle.vte_c.specs.Calls.{Feeds};
 ghost use Rattle.vte_c.specs.private.Buffers.{AreEmptyBuffers, buffers_of, must_return};
 ghost use Rattle.vte_c.specs.private.Feeding.{HasFed, HasReadOn, NoEventStopsIn, NoRecordStops, NoRunStops};
 ghost use Rattle.vte_c.specs.Reported.{HasReported};
+ghost use Rattle.vte_core.specs.Event.{Event};
+ghost use Rattle.vte_core.specs.Parser.{HasRead};
+ghost use Rattle.vte_core.specs.Saved.{HasReadSaved};
+ghost use Rattle.vte_core.specs.Stream.{added, default_limit};
 
 use crate::event::VteEvent;
 use crate::events::EventWriter;

@@ -1,12 +1,12 @@
 //! Laws of what is reported to a caller. The functions do nothing: their contracts are the laws.
-ghost use Rattle.event_log.specs.Plain.{plain_text};
 ghost use Rattle.std.specs.Prelude.{List, ℕ, [], ◌++◌, ◌≡◌};
+ghost use Rattle.event_log.specs.Plain.{plain_text};
+ghost use Rattle.vte_c.specs.Record.{all_kinds, wanted_events};
+ghost use Rattle.vte_c.specs.Reported.{HasReported, HasStripped};
+ghost use Rattle.vte_core.specs.declared.parser.saved.Saved.{Saved};
 ghost use Rattle.vte_core.specs.Event.{Event};
 ghost use Rattle.vte_core.specs.Saved.{IsZero};
 ghost use Rattle.vte_core.specs.Stream.{default_limit, events};
-ghost use Rattle.vte_core.specs.declared.parser.saved.Saved.{Saved};
-ghost use Rattle.vte_c.specs.Record.{all_kinds, wanted_events};
-ghost use Rattle.vte_c.specs.Reported.{HasReported, HasStripped};
 
 use vte_core::Saved;
 

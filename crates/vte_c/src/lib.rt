@@ -7,12 +7,12 @@
 #![tactic(auto)]
 
 ghost use Rattle.std.specs.Prelude.{List, ℕ, ◌≡◌, ◌≢◌};
-ghost use Rattle.vte_core.specs.Open.{open_at_end};
-ghost use Rattle.vte_core.specs.Saved.{HasReadSaved};
-ghost use Rattle.vte_core.specs.Stream.{default_limit, IsFinished, IsUnfinished};
 ghost use Rattle.vte_c.specs.Calls.{Feeds, Strips};
 ghost use Rattle.vte_c.specs.OpenCode.{open_code};
 ghost use Rattle.vte_c.specs.Record.{min_data, min_events, min_text};
+ghost use Rattle.vte_core.specs.Open.{open_at_end};
+ghost use Rattle.vte_core.specs.Saved.{HasReadSaved};
+ghost use Rattle.vte_core.specs.Stream.{default_limit, IsFinished, IsUnfinished};
 
 // cargo instead: pub(crate) mod event;
 // cargo instead: pub(crate) use event::VteEvent;

@@ -1,8 +1,8 @@
 //! From bytes to the text that is left without the sequences.
 ghost use Rattle.std.specs.Prelude.{false, length, List, true, ℕ, ◌++◌, ◌+◌, ◌-◌, ◌<◌, ◌≡◌, ◌≤◌};
 ghost use Rattle.vte_c.specs.Calls.{Strips};
-ghost use Rattle.vte_c.specs.Reported.{HasStripped};
 ghost use Rattle.vte_c.specs.private.WrittenText.{IsEmptyBuffer, StripsMore, text_with, text_with_event, written_text_of, WrittenText};
+ghost use Rattle.vte_c.specs.Reported.{HasStripped};
 
 use crate::feed::NO_ROOM;
 use vte_core::{Params, Parser, Perform, PerformText, Saved, laws};

@@ -1,9 +1,9 @@
 -- What calls that read bytes ensure.
 use Rattle.std.specs.Prelude.{Bool, length, List, ℕ, ◌*◌, ◌++◌, ◌+◌, ◌≡◌, ◌≤◌}
+use Rattle.vte_core.specs.EarlyStop.{resumed_stream, StopsExactly}
 use Rattle.vte_core.specs.Event.{after, Event}
 use Rattle.vte_core.specs.Parser.{ParserFacts}
 use Rattle.vte_core.specs.Stream.{added}
-use Rattle.vte_core.specs.EarlyStop.{resumed_stream, StopsExactly}
 
 -- `advance` and `advance_text` perform what the bytes add to the stream.
 pub record ReadsBytes {V : Type 0} (step : V → Event → V) (old new : V) (bytes : List ℕ)

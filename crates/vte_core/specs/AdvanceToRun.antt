@@ -1,10 +1,10 @@
 -- What `advance_to_run` ensures.
 use Rattle.std.specs.Prelude.{Bool, drop, false, length, List, map, Option, slice_index, take, true, ℕ, [], ⊤, ◌*◌, ◌++◌, ◌+◌, ◌<◌, ◌≡◌, ◌≤◌}
 use Rattle.std.specs.Str.{chars}
+use Rattle.vte_core.specs.Class.{IsDeviceData}
 use Rattle.vte_core.specs.declared.reader.run.Run.{Run}
 use Rattle.vte_core.specs.declared.reader.run.Taken.{Taken}
 use Rattle.vte_core.specs.declared.reader.run.Taken.TheVariants.{Data, Nothing, Text}
-use Rattle.vte_core.specs.Class.{IsDeviceData}
 use Rattle.vte_core.specs.EarlyStop.{ComesTo, resumed_stream}
 use Rattle.vte_core.specs.Event.{Event, Print, Put}
 use Rattle.vte_core.specs.OutsideRuns.{ReportsOutsideRuns}

@@ -1,14 +1,14 @@
 -- A body: the bytes between one ESC and the next.
 use Rattle.std.specs.Prelude.{if◌then◌else◌, List, Option, ℕ, [], ◌∷◌}
-use Rattle.vte_core.specs.SequenceKind.{ControlSequence, DeviceControl, EscapeSequence, IgnoredString, sequence_kind, SequenceKind, SystemCommand}
 use Rattle.vte_core.specs.Class.{class_of, is_cancel, is_key}
 use Rattle.vte_core.specs.ControlSequence.{control_sequence_outcome}
+use Rattle.vte_core.specs.CutBefore.{cut_before}
 use Rattle.vte_core.specs.DeviceControl.{device_control_outcome}
 use Rattle.vte_core.specs.Escape.{escape_outcome}
 use Rattle.vte_core.specs.Event.{Execute}
 use Rattle.vte_core.specs.IgnoredString.{ignored_string_outcome}
 use Rattle.vte_core.specs.Outcome.{EscapeToClose, leaves, Outcome, report}
-use Rattle.vte_core.specs.CutBefore.{cut_before}
+use Rattle.vte_core.specs.SequenceKind.{ControlSequence, DeviceControl, EscapeSequence, IgnoredString, sequence_kind, SequenceKind, SystemCommand}
 use Rattle.vte_core.specs.SystemCommand.{system_command_outcome}
 use Rattle.vte_core.specs.Text.{executed_events, text_outcome}
 

@@ -1,10 +1,10 @@
 -- Control sequences (ECMA-48, section 5.4), after ESC [.
 use Rattle.std.specs.Prelude.{if◌then◌else◌, List, ℕ, [], ◌∷◌}
 use Rattle.vte_core.specs.Class.{class_of, ends_head, is_cancel}
+use Rattle.vte_core.specs.CutBefore.{cut_before}
 use Rattle.vte_core.specs.Event.{CsiDispatch, Event, Execute}
 use Rattle.vte_core.specs.Head.{head_bytes, head_of, is_well_shaped, sequence_event}
 use Rattle.vte_core.specs.Outcome.{ControlSequenceToClose, leaves, Outcome, report}
-use Rattle.vte_core.specs.CutBefore.{cut_before}
 use Rattle.vte_core.specs.Text.{executed_events, text_outcome}
 
 -- CAN and SUB are executed. A final byte dispatches a well-shaped head, and gives nothing after any

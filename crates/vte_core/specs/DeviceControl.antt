@@ -1,12 +1,12 @@
 -- Device control strings (ECMA-48, section 8.3.27), after ESC P.
-use Rattle.std.specs.Prelude.{Bool, if◌then◌else◌, List, map, ℕ, [], ◌==◌, ◌||◌, ◌∷◌}
 use Rattle.std.specs.List.{filter}
+use Rattle.std.specs.Prelude.{Bool, if◌then◌else◌, List, map, ℕ, [], ◌==◌, ◌||◌, ◌∷◌}
 use Rattle.vte_core.specs.Class.{class_of, ends_head, is_cancel, is_device_data}
+use Rattle.vte_core.specs.CutBefore.{cut_before}
 use Rattle.vte_core.specs.Event.{Event, Execute, Hook, Put, Unhook}
 use Rattle.vte_core.specs.Head.{head_bytes, head_of, is_well_shaped, sequence_event}
 use Rattle.vte_core.specs.IgnoredString.{ignored_string_outcome}
 use Rattle.vte_core.specs.Outcome.{DeviceDataToClose, DeviceHeadToClose, leaves, Outcome, report}
-use Rattle.vte_core.specs.CutBefore.{cut_before}
 use Rattle.vte_core.specs.Text.{text_outcome}
 
 -- ST as a single byte. It is the only 8-bit control that is recognised outside text, and only in

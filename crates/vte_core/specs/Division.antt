@@ -1,7 +1,7 @@
 -- The right division of a text: each segment is the well-formed sequence that starts there; failing
 -- that, the longest truncated one; failing that, one byte.
-use Rattle.std.specs.Prelude.{length, List, true, ℕ, [], ⊤, ◌++◌, ◌∷◌, ◌≡◌, ◌≤◌, ◌⊎◌}
 use Rattle.std.specs.List.{concat}
+use Rattle.std.specs.Prelude.{length, List, true, ℕ, [], ⊤, ◌++◌, ◌∷◌, ◌≡◌, ◌≤◌, ◌⊎◌}
 use Rattle.vte_core.specs.Utf8.{is_truncated, is_well_formed, segments}
 
 abbrev pub IsSegment : List ℕ → Type 0

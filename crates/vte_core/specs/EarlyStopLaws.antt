@@ -1,8 +1,8 @@
 -- Laws of early stops, which functions of `laws` state as contracts.
 use Rattle.std.specs.Prelude.{drop, length, List, Option, ℕ, [], ◌++◌, ◌<◌, ◌≡◌, ◌≤◌, ◌⊎◌}
-use Rattle.vte_core.specs.EventBounds.{AreBrief}
 use Rattle.vte_core.specs.EarlyStop.{IsStart, reported_before, resumed_stream}
 use Rattle.vte_core.specs.Event.{Event}
+use Rattle.vte_core.specs.EventBounds.{AreBrief}
 use Rattle.vte_core.specs.Stream.{added}
 
 -- What is reported before a position, and what the unread bytes and more add from there, is

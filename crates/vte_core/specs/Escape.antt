@@ -1,11 +1,11 @@
 -- Escape sequences (ECMA-35, section 13.2), after ESC.
-use Rattle.std.specs.Prelude.{if◌then◌else◌, List, ℕ, [], ◌∷◌}
 use Rattle.std.specs.List.{filter}
+use Rattle.std.specs.Prelude.{if◌then◌else◌, List, ℕ, [], ◌∷◌}
 use Rattle.vte_core.specs.Class.{class_of, ends_escape, is_cancel, is_intermediate}
+use Rattle.vte_core.specs.CutBefore.{cut_before}
 use Rattle.vte_core.specs.Event.{EscDispatch, Event, Execute}
 use Rattle.vte_core.specs.Intermediates.{are_too_many, first_two}
 use Rattle.vte_core.specs.Outcome.{EscapeToClose, leaves, Outcome, report}
-use Rattle.vte_core.specs.CutBefore.{cut_before}
 use Rattle.vte_core.specs.Text.{executed_events, text_outcome}
 
 -- CAN and SUB are executed. A final byte dispatches the sequence.

@@ -1,8 +1,8 @@
 -- The limits of events, and what one byte adds to a stream: at most two events, of which only the
 -- first may be long.
 use Rattle.std.specs.Char.{IsScalar}
-use Rattle.std.specs.Prelude.{false, length, List, None, Option, Some, true, ℕ, [], ⊤, ◌<◌, ◌∷◌, ◌≡◌, ◌≤◌}
 use Rattle.std.specs.List.{concat}
+use Rattle.std.specs.Prelude.{false, length, List, None, Option, Some, true, ℕ, [], ⊤, ◌<◌, ◌∷◌, ◌≡◌, ◌≤◌}
 use Rattle.vte_core.specs.Class.{IsDeviceData}
 use Rattle.vte_core.specs.Event.{CsiDispatch, EscDispatch, Event, Execute, Hook, OscDispatch, Print, Put, Unhook}
 use Rattle.vte_core.specs.Intermediates.{max_intermediates}

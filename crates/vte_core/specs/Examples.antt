@@ -1,10 +1,10 @@
 -- Examples worked out by hand: streams and all their events. The prover compares them with the
 -- definitions, not with code.
-use Rattle.std.specs.Prelude.{codes, false, List, map, Option, replicate, true, ℕ, [], ◌++◌, ◌∷◌, ◌≡◌}
 use Rattle.std.specs.List.{repeat}
-use Rattle.vte_core.specs.EarlyStop.{reported_before, resumed_stream}
+use Rattle.std.specs.Prelude.{codes, false, List, map, Option, replicate, true, ℕ, [], ◌++◌, ◌∷◌, ◌≡◌}
 use Rattle.vte_core.specs.declared.parser.open.Open.{Open}
 use Rattle.vte_core.specs.declared.parser.open.Open.TheVariants.{Character, ControlSequence, DeviceControl, EscapeSequence, IgnoredString, Nothing, SystemCommand}
+use Rattle.vte_core.specs.EarlyStop.{reported_before, resumed_stream}
 use Rattle.vte_core.specs.Event.{CsiDispatch, EscDispatch, Event, Execute, Hook, OscDispatch, Print, Put, Unhook}
 use Rattle.vte_core.specs.Open.{open_at_end}
 use Rattle.vte_core.specs.Outcome.{CommandToClose, ToClose}

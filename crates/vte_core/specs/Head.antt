@@ -1,12 +1,12 @@
 -- The head of a control sequence or a device control string: the bytes 20..3F (ECMA-48, section
 -- 5.4).
-use Rattle.std.specs.Prelude.{Bool, if◌then◌else◌, List, not, ℕ, [], ◌++◌, ◌||◌, ◌∷◌}
 use Rattle.std.specs.List.{filter, list_all}
+use Rattle.std.specs.Prelude.{Bool, if◌then◌else◌, List, not, ℕ, [], ◌++◌, ◌||◌, ◌∷◌}
 use Rattle.vte_core.specs.Class.{class_of, is_head_byte, is_intermediate, is_marker, is_parameter_byte}
-use Rattle.vte_core.specs.Intermediates.{are_too_many, first_two}
-use Rattle.vte_core.specs.Event.{Event}
-use Rattle.vte_core.specs.Parameters.{groups_of, has_too_many_numbers}
 use Rattle.vte_core.specs.CutBefore.{cut_before}
+use Rattle.vte_core.specs.Event.{Event}
+use Rattle.vte_core.specs.Intermediates.{are_too_many, first_two}
+use Rattle.vte_core.specs.Parameters.{groups_of, has_too_many_numbers}
 
 -- A head: an optional private marker, then parameter bytes, then the rest, which should be
 -- intermediates.

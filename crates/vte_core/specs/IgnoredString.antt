@@ -1,9 +1,9 @@
 -- Ignored strings: SOS, PM, APC, and a device control string after an ill-shaped head.
 use Rattle.std.specs.Prelude.{List, ℕ, [], ◌∷◌}
 use Rattle.vte_core.specs.Class.{class_of, is_cancel}
+use Rattle.vte_core.specs.CutBefore.{from_first}
 use Rattle.vte_core.specs.Event.{Execute}
 use Rattle.vte_core.specs.Outcome.{IgnoredStringToClose, leaves, Outcome, report}
-use Rattle.vte_core.specs.CutBefore.{from_first}
 use Rattle.vte_core.specs.Text.{text_outcome}
 
 -- The end is executed, and text follows. Without an end the string stays open.

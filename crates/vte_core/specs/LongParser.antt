@@ -1,13 +1,13 @@
 -- What a `LongParser` has read, and before which bytes it may be refused memory.
-use Rattle.std.specs.Prelude.{Bool, Err, length, List, None, Ok, Result, ℕ, [], ◌++◌, ◌+◌, ◌<◌, ◌∷◌, ◌≡◌}
 use Rattle.std.specs.List.{concat}
+use Rattle.std.specs.Prelude.{Bool, Err, length, List, None, Ok, Result, ℕ, [], ◌++◌, ◌+◌, ◌<◌, ◌∷◌, ◌≡◌}
+use Rattle.vte_core.specs.CommandMemory.{LacksMemoryAt}
 use Rattle.vte_core.specs.declared.parser.long_parser.LongParser.{LongParser}
 use Rattle.vte_core.specs.declared.parser.refused.Refused.{Refused}
-use Rattle.vte_core.specs.CommandMemory.{LacksMemoryAt}
 use Rattle.vte_core.specs.Looks.{total_looks}
-use Rattle.vte_core.specs.private.AtPlace.{HasReadWithLimit}
 use Rattle.vte_core.specs.Outcome.{CommandToClose, ToClose}
 use Rattle.vte_core.specs.Parser.{machine_facts, ParserFacts}
+use Rattle.vte_core.specs.private.AtPlace.{HasReadWithLimit}
 use Rattle.vte_core.specs.Stream.{outcome}
 use Rattle.vte_core.specs.SystemCommand.{IsCommandData, max_pieces}
 

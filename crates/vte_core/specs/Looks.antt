@@ -6,10 +6,10 @@
 -- for it. Each event counts one look, and those of a run together as many as it has bytes.
 use Rattle.std.specs.Prelude.{ℕ, ◌+◌}
 use Rattle.vte_core.specs.declared.reader.looks.Looks.{Looks}
-use Rattle.vte_core.specs.declared.reader.Reader.{Reader}
 use Rattle.vte_core.specs.declared.reader.looks.Tally.{Tally}
-use Rattle.vte_core.specs.declared.reader.looks.Tally.TheOpen.{Tally-F}
 use Rattle.vte_core.specs.declared.reader.looks.Tally.TheFolds.{fold-Tally}
+use Rattle.vte_core.specs.declared.reader.looks.Tally.TheOpen.{Tally-F}
+use Rattle.vte_core.specs.declared.reader.Reader.{Reader}
 
 -- A number of looks that a function may take for each byte, where a bound is named.
 abbrev pub per_byte : ℕ → ℕ

@@ -1,6 +1,6 @@
 -- Events other than those of runs.
-use Rattle.std.specs.Prelude.{drop, List, Option, ℕ, [], ⊤, ◌++◌, ◌≡◌, ◌≤◌}
 use Rattle.std.specs.List.{All}
+use Rattle.std.specs.Prelude.{drop, List, Option, ℕ, [], ⊤, ◌++◌, ◌≡◌, ◌≤◌}
 use Rattle.vte_core.specs.EarlyStop.{reported_before}
 use Rattle.vte_core.specs.Event.{Event, Print, Put, replacement}
 use Rattle.vte_core.specs.Stream.{open_character}

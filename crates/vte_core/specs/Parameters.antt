@@ -1,7 +1,7 @@
 -- The parameters of a control sequence (ECMA-48, section 5.4.2).
-use Rattle.std.specs.Prelude.{All, Bool, false, if◌then◌else◌, length, List, map, min, nat_lt, take, ℕ, [], ◌++◌, ◌<◌, ◌==◌, ◌||◌, ◌∷◌, ◌≤◌}
-use Rattle.std.specs.List.{filter, fold, join_with_byte, slice_split, sum_by}
 use Rattle.std.specs.Fmt.{decimal}
+use Rattle.std.specs.List.{filter, fold, join_with_byte, slice_split, sum_by}
+use Rattle.std.specs.Prelude.{All, Bool, false, if◌then◌else◌, length, List, map, min, nat_lt, take, ℕ, [], ◌++◌, ◌<◌, ◌==◌, ◌||◌, ◌∷◌, ◌≤◌}
 use Rattle.std.specs.Str.Parse.{digits_value}
 
 abbrev pub colon : ℕ

@@ -1,7 +1,7 @@
 -- Parts of a stream that can be read side by side: an ESC is the end of one and the start of the
 -- next.
-use Rattle.std.specs.Prelude.{drop, length, List, max, min, Option, slice_index, suc, take, zero, ℕ, [], ⊤, ◌++◌, ◌+◌, ◌-◌, ◌<◌, ◌==◌, ◌∷◌, ◌≡◌, ◌≤◌}
 use Rattle.std.specs.List.{flat_map, position_or_len, slice_range}
+use Rattle.std.specs.Prelude.{drop, length, List, max, min, Option, slice_index, suc, take, zero, ℕ, [], ⊤, ◌++◌, ◌+◌, ◌-◌, ◌<◌, ◌==◌, ◌∷◌, ◌≡◌, ◌≤◌}
 use Rattle.vte_core.specs.Outcome.{events_before_escape}
 use Rattle.vte_core.specs.Stream.{escape, events, outcome}
 

@@ -1,7 +1,7 @@
 -- What a saved parser has read.
 use Rattle.std.specs.Prelude.{List, replicate, ℕ, ◌≡◌}
-use Rattle.vte_core.specs.declared.parser.saved.Saved.{Saved}
 use Rattle.vte_core.specs.declared.parser.Parser.{Parser}
+use Rattle.vte_core.specs.declared.parser.saved.Saved.{Saved}
 use Rattle.vte_core.specs.Parser.{HasRead}
 use Rattle.vte_core.specs.private.SavedLayout.{IsRestored}
 

@@ -1,11 +1,11 @@
 -- Operating system commands (ECMA-48, section 8.3.89; BEL as an end is xterm's), after ESC ].
-use Rattle.std.specs.Prelude.{Bool, false, if◌then◌else◌, length, List, nat_le, nat_lt, None, not, Option, Some, take, true, ℕ, [], ◌+◌, ◌==◌, ◌||◌, ◌∷◌, ◌≢◌, ◌≤◌}
 use Rattle.std.specs.List.{concat, filter, slice_split}
+use Rattle.std.specs.Prelude.{Bool, false, if◌then◌else◌, length, List, nat_le, nat_lt, None, not, Option, Some, take, true, ℕ, [], ◌+◌, ◌==◌, ◌||◌, ◌∷◌, ◌≢◌, ◌≤◌}
 use Rattle.vte_core.specs.Class.{class_of, is_cancel}
+use Rattle.vte_core.specs.CutBefore.{cut_before}
 use Rattle.vte_core.specs.Event.{Event, Execute, OscDispatch}
 use Rattle.vte_core.specs.Outcome.{CommandToClose, leaves, Outcome, report}
 use Rattle.vte_core.specs.Parameters.{semicolon}
-use Rattle.vte_core.specs.CutBefore.{cut_before}
 use Rattle.vte_core.specs.Text.{text_outcome}
 
 abbrev pub bell : ℕ

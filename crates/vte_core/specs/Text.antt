@@ -1,6 +1,6 @@
 -- The events of a text.
-use Rattle.std.specs.Prelude.{Bool, drop, false, if◌then◌else◌, length, List, map, nat_le, nat_lt, not, take, true, ℕ, [], ◌&&◌, ◌+◌, ◌==◌, ◌||◌, ◌∷◌, ◌≡◌, ◌≤◌}
 use Rattle.std.specs.List.{All, filter}
+use Rattle.std.specs.Prelude.{Bool, drop, false, if◌then◌else◌, length, List, map, nat_le, nat_lt, not, take, true, ℕ, [], ◌&&◌, ◌+◌, ◌==◌, ◌||◌, ◌∷◌, ◌≡◌, ◌≤◌}
 use Rattle.std.specs.Str.{chars}
 use Rattle.vte_core.specs.Class.{class_of, is_plain_control}
 use Rattle.vte_core.specs.Event.{Event, Execute, Print, replacement}

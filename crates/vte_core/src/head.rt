@@ -1,8 +1,7 @@
 //! What is collected of an escape sequence, and of the head of a control sequence or a device
 //! control string.
 ghost use Rattle.std.specs.Prelude.{false, IfSome, IsTrue, length, List, min, true, ℕ, [], ◌++◌, ◌+◌, ◌↔◌, ◌∷◌, ◌≡◌, ◌≤◌, ◌⊎◌};
-ghost use Rattle.vte_core.specs.private.Prelude.{class_of, CountsNumbers, HasReadHead, HoldsHead, HoldsIntermediates, HoldsNumbers, HoldsWholeHead, is_head_byte, is_parameter_byte, ReadsHeadUpTo, SameIntermediates, SameNumbers};
-ghost use Rattle.vte_core.specs.private.Prelude.{looks_of, with_open_number};
+ghost use Rattle.vte_core.specs.private.Prelude.{class_of, CountsNumbers, HasReadHead, HoldsHead, HoldsIntermediates, HoldsNumbers, HoldsWholeHead, is_head_byte, is_parameter_byte, looks_of, ReadsHeadUpTo, SameIntermediates, SameNumbers, with_open_number};
 
 use crate::class::{digit_of, is_head_byte, is_intermediate, is_parameter_byte};
 use crate::params::Params;

@@ -1,17 +1,14 @@
 //! Laws of the definitions. The functions do nothing, but for `replay`, which reads a stream: their
 //! contracts are the laws.
-ghost use Rattle.std.specs.Prelude.{All, chars, IsUtf8, List, map, None, Option, Some, true, ℕ, [], ◌+◌, ◌^◌, ◌∷◌, ◌≡◌, ◌≤◌};
 ghost use Rattle.std.specs.Char.{encode_utf8, IsScalar};
 ghost use Rattle.std.specs.List.{concat, flat_map};
-ghost use Rattle.vte_core.specs.EventBounds.{AreBrief, IsBounded};
+ghost use Rattle.std.specs.Prelude.{All, chars, IsUtf8, List, map, None, Option, Some, true, ℕ, [], ◌+◌, ◌^◌, ◌∷◌, ◌≡◌, ◌≤◌};
 ghost use Rattle.vte_core.specs.Division.{AreCorrectSegments, SegmentsJoin};
-ghost use Rattle.vte_core.specs.Examples.{control_sequence_examples, device_control_examples, escape_examples, full_buffer_examples, HaveEvents, system_command_examples, text_examples};
-ghost use Rattle.vte_core.specs.Examples.{buffer_of_five_examples, buffer_of_two_examples, empty_buffer_examples, ignored_string_examples};
-ghost use Rattle.vte_core.specs.Examples.{AreDivided, AreStops, LeaveCommands, LeavesTextToRun, open_command_examples, parts_examples, stop_examples};
-ghost use Rattle.vte_core.specs.Examples.{LeaveOpen, sequence_end_examples, string_end_examples, text_end_examples};
-ghost use Rattle.vte_core.specs.Laws.{AreParameters, AreWellFormed, CountsData, DispatchesShown, GivesCharacters, Grows, IsDecoded, IsEncoding, OpensLate, OpensSilently, Resyncs};
-ghost use Rattle.vte_core.specs.Event.{after};
 ghost use Rattle.vte_core.specs.EarlyStopLaws.{GoesOnFromPositions, ReportsUnits};
+ghost use Rattle.vte_core.specs.Event.{after};
+ghost use Rattle.vte_core.specs.EventBounds.{AreBrief, IsBounded};
+ghost use Rattle.vte_core.specs.Examples.{AreDivided, AreStops, buffer_of_five_examples, buffer_of_two_examples, control_sequence_examples, device_control_examples, empty_buffer_examples, escape_examples, full_buffer_examples, HaveEvents, ignored_string_examples, LeaveCommands, LeaveOpen, LeavesTextToRun, open_command_examples, parts_examples, sequence_end_examples, stop_examples, string_end_examples, system_command_examples, text_end_examples, text_examples};
+ghost use Rattle.vte_core.specs.Laws.{AreParameters, AreWellFormed, CountsData, DispatchesShown, GivesCharacters, Grows, IsDecoded, IsEncoding, OpensLate, OpensSilently, Resyncs};
 ghost use Rattle.vte_core.specs.Parts.{AreCuts, EndsWithEscape, GiveEvents, parts_at};
 ghost use Rattle.vte_core.specs.Stream.{added, default_limit, events};
 ghost use Rattle.vte_core.specs.Utf8.{is_well_formed, segments};

@@ -1,11 +1,11 @@
 //! The parameters of a control sequence.
-ghost use Rattle.std.specs.Prelude.{IfSome, IsTrue, length, List, map, Some, ℕ, [], ◌++◌, ◌<◌, ◌==◌, ◌↔◌, ◌∷◌, ◌≡◌, ◌≤◌};
 ghost use Rattle.std.specs.Fmt.{decimal, WritesOnOk};
 ghost use Rattle.std.specs.Iterator.{at_most, item_count, UpTo, YieldsFirstRef};
 ghost use Rattle.std.specs.Iterator.SizeHint.{IsWithinCount};
 ghost use Rattle.std.specs.List.{join_with_byte};
-ghost use Rattle.vte_core.specs.private.Store.{AreFlatGroups, AreRawParts, IsLastPopped};
+ghost use Rattle.std.specs.Prelude.{IfSome, IsTrue, length, List, map, Some, ℕ, [], ◌++◌, ◌<◌, ◌==◌, ◌↔◌, ◌∷◌, ◌≡◌, ◌≤◌};
 ghost use Rattle.vte_core.specs.Parameters.{AreGroups, colon, count_of, max_numbers, shown, with_number};
+ghost use Rattle.vte_core.specs.private.Store.{AreFlatGroups, AreRawParts, IsLastPopped};
 
 use arrayvec::ArrayVec;
 use std::fmt;
@@ -27,7 +27,7 @@ pub struct Params {
 
 impl Model for Params {
     ghost use Rattle.std.specs.Prelude.{List, ℕ};
-    ghost use Rattle.vte_core.specs.private.Store.{cut_by_lengths, AreFlatGroups};
+    ghost use Rattle.vte_core.specs.private.Store.{AreFlatGroups, cut_by_lengths};
 
     ghost Value = { List (List ℕ) };
 
@@ -46,7 +46,7 @@ pub struct ParamsIter<'a> {
 
 impl<'a> Model for ParamsIter<'a> {
     ghost use Rattle.std.specs.Prelude.{List, ℕ};
-    ghost use Rattle.vte_core.specs.private.Store.{cut_by_lengths, AreLengths};
+    ghost use Rattle.vte_core.specs.private.Store.{AreLengths, cut_by_lengths};
 
     ghost Value = { List (List ℕ) };
 

@@ -1,6 +1,6 @@
 //! The store of an operating system command.
-ghost use Rattle.std.specs.Prelude.{All, drop, false, IsTrue, length, List, take, ℕ, [], ◌++◌, ◌+◌, ◌-◌, ◌<◌, ◌↔◌, ◌∷◌, ◌≡◌, ◌≢◌, ◌≤◌};
 ghost use Rattle.std.specs.List.Sorted.{IsNonDecreasing};
+ghost use Rattle.std.specs.Prelude.{All, drop, false, IsTrue, length, List, take, ℕ, [], ◌++◌, ◌+◌, ◌-◌, ◌<◌, ◌↔◌, ◌∷◌, ◌≡◌, ◌≢◌, ◌≤◌};
 ghost use Rattle.vte_core.specs.private.Prelude.{ArePieceEnds, ArePositions, cut_pieces, HasCapacity, HoldsItems, LooksWithin, max_pieces, OscDispatch, Reports, ReservesCapacity, SameItems, StoredCommand};
 
 use crate::buffer::Buffer;
@@ -26,8 +26,8 @@ pub(crate) struct CommandStore<B: Buffer> {
 }
 
 impl<B: Buffer> Model for CommandStore<B> {
-    ghost use Rattle.std.specs.Prelude.{◌≤◌, All, length};
     ghost use Rattle.std.specs.List.Sorted.{IsNonDecreasing};
+    ghost use Rattle.std.specs.Prelude.{All, length, ◌≤◌};
     ghost use Rattle.vte_core.specs.CommandMemory.{StoredCommand};
 
     ghost Value = { StoredCommand };

@@ -1,6 +1,6 @@
 //! Characters of UTF-8, byte by byte.
-ghost use Rattle.std.specs.Prelude.{IsTrue, true, [], ◌%◌, ◌*◌, ◌+◌, ◌<◌, ◌↔◌, ◌∷◌, ◌≡◌};
 ghost use Rattle.std.specs.Char.{InScalarRange};
+ghost use Rattle.std.specs.Prelude.{IsTrue, true, [], ◌%◌, ◌*◌, ◌+◌, ◌<◌, ◌↔◌, ◌∷◌, ◌≡◌};
 ghost use Rattle.vte_core.specs.private.Prelude.{BeginsFour, BeginsThree, BeginsTwo, bytes_of, Extends, from_to, is_in, is_truncated, scalar_of, second_range};
 
 /// The bytes of an unfinished character, at most three.

@@ -1,5 +1,6 @@
 -- The calls that a handler receives, one kind for each of its methods.
 use Rattle.std.specs.Prelude.{List, Option, ℕ, ℤ}
+use Rattle.vte_handler.specs.Link.{Link}
 use Rattle.vte_types.specs.declared.charset.CharsetIndex.{CharsetIndex}
 use Rattle.vte_types.specs.declared.charset.StandardCharset.{StandardCharset}
 use Rattle.vte_types.specs.declared.color.Attr.{Attr}
@@ -17,7 +18,6 @@ use Rattle.vte_types.specs.declared.screen.LineClearMode.{LineClearMode}
 use Rattle.vte_types.specs.declared.screen.ScpCharPath.{ScpCharPath}
 use Rattle.vte_types.specs.declared.screen.ScpUpdateMode.{ScpUpdateMode}
 use Rattle.vte_types.specs.declared.screen.TabulationClearMode.{TabulationClearMode}
-use Rattle.vte_handler.specs.Link.{Link}
 
 pub data Call : Type 0 where
   Backspace : Call

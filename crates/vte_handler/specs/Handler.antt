@@ -1,7 +1,7 @@
 -- The value of a handler after a list of calls, and what a run of text is. `vte_core`, which has no
 -- calls and isn't used here, says the same of events and of runs.
-use Rattle.std.specs.Prelude.{Bool, false, List, nat_le, nat_lt, ℕ, [], ◌&&◌, ◌||◌, ◌∷◌, ◌≡◌}
 use Rattle.std.specs.List.{All}
+use Rattle.std.specs.Prelude.{Bool, false, List, nat_le, nat_lt, ℕ, [], ◌&&◌, ◌||◌, ◌∷◌, ◌≡◌}
 use Rattle.std.specs.Str.{chars}
 use Rattle.vte_handler.specs.Call.{Call}
 

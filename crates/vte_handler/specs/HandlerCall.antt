@@ -2,9 +2,9 @@
 use Rattle.std.specs.Prelude.{option_map}
 use Rattle.vte_handler.specs.Call.{Call}
 use Rattle.vte_handler.specs.Call as call
-use Rattle.vte_handler.specs.Link.{link_of}
 use Rattle.vte_handler.specs.declared.by_call.HandlerCall.{HandlerCall}
 use Rattle.vte_handler.specs.declared.by_call.HandlerCall.TheVariants as passed
+use Rattle.vte_handler.specs.Link.{link_of}
 
 abbrev pub call_of : HandlerCall → Call
 call_of passed.Backspace = call.Backspace

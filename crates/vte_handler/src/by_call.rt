@@ -1,10 +1,10 @@
 //! Handlers that take each call as a value, by one `match`.
 ghost use Rattle.std.specs.Prelude.{length, map, ◌<◌, ◌≡◌};
 ghost use Rattle.std.specs.Str.{chars};
-ghost use Rattle.vte_handler.specs.Call as call;
 ghost use Rattle.vte_handler.specs.Call.{Call};
-ghost use Rattle.vte_handler.specs.HandlerCall.{call_of};
+ghost use Rattle.vte_handler.specs.Call as call;
 ghost use Rattle.vte_handler.specs.Handler.{after, AreShown};
+ghost use Rattle.vte_handler.specs.HandlerCall.{call_of};
 
 use crate::handler::{Handler, HandlerText};
 use crate::hyperlink::Hyperlink;

@@ -1,8 +1,8 @@
 //! What a processor asks of a terminal, one method per request.
 ghost use Rattle.std.specs.Prelude.{length, map, option_map, ◌<◌, ◌≡◌};
 ghost use Rattle.std.specs.Str.{chars};
-ghost use Rattle.vte_handler.specs.Call as call;
 ghost use Rattle.vte_handler.specs.Call.{Call};
+ghost use Rattle.vte_handler.specs.Call as call;
 ghost use Rattle.vte_handler.specs.Handler.{after, AreShown};
 ghost use Rattle.vte_handler.specs.Link.{link_of};
 

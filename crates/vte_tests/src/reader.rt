@@ -16,7 +16,7 @@ impl<'a, 'b> ChunkReader<'a, 'b> {
 }
 
 impl Source for ChunkReader<'_, '_> {
-    ghost use Rattle.std.specs.Prelude.{None, false};
+    ghost use Rattle.std.specs.Prelude.{false, None};
 
     ghost remaining = { λ reader. None };
 

@@ -1,8 +1,8 @@
 -- The characters that a character set shows.
 use Rattle.std.specs.Prelude.{List, unwrap_or, ℕ, [], ◌∷◌}
-use Rattle.vte_types.specs.Words.{entry_of, Row}
 use Rattle.vte_types.specs.declared.charset.StandardCharset.{StandardCharset}
 use Rattle.vte_types.specs.declared.charset.StandardCharset.TheVariants.{Ascii, SpecialCharacterAndLineDrawing}
+use Rattle.vte_types.specs.Words.{entry_of, Row}
 
 -- DEC Special Graphics: each character, and the one shown for it.
 abbrev pub line_drawing : List (Row ℕ)

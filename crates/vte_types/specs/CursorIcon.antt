@@ -1,9 +1,7 @@
 -- The keywords of cursor icons (CSS, property `cursor`).
 use Rattle.std.specs.Prelude.{codes, List, Option, ℕ, [], ◌∷◌}
 use Rattle.vte_types.specs.declared.cursor_icon.CursorIcon.{CursorIcon}
-use Rattle.vte_types.specs.declared.cursor_icon.CursorIcon.TheVariants.{Alias, Cell, ContextMenu, Copy, Crosshair, Default, Help, Move, NoDrop, Pointer, Progress, Text, VerticalText, Wait}
-use Rattle.vte_types.specs.declared.cursor_icon.CursorIcon.TheVariants.{EResize, EwResize, Grab, Grabbing, NeResize, NotAllowed, NResize, NsResize, NwResize, SeResize, SResize, SwResize, WResize}
-use Rattle.vte_types.specs.declared.cursor_icon.CursorIcon.TheVariants.{AllScroll, ColResize, NeswResize, NwseResize, RowResize, ZoomIn, ZoomOut}
+use Rattle.vte_types.specs.declared.cursor_icon.CursorIcon.TheVariants.{Alias, AllScroll, Cell, ColResize, ContextMenu, Copy, Crosshair, Default, EResize, EwResize, Grab, Grabbing, Help, Move, NeResize, NeswResize, NoDrop, NotAllowed, NResize, NsResize, NwResize, NwseResize, Pointer, Progress, RowResize, SeResize, SResize, SwResize, Text, VerticalText, Wait, WResize, ZoomIn, ZoomOut}
 use Rattle.vte_types.specs.Words.{entry_of_word}
 
 abbrev pub icons : List (List ℕ × CursorIcon)

@@ -1,6 +1,6 @@
 -- Keyboard modes and their bits (the kitty keyboard protocol).
-use Rattle.std.specs.Prelude.{codes, List, ℕ, [], ◌-◌, ◌∷◌}
 use Rattle.std.specs.Int.RustNames.{bit_and}
+use Rattle.std.specs.Prelude.{codes, List, ℕ, [], ◌-◌, ◌∷◌}
 use Rattle.vte_types.specs.declared.keyboard.KeyboardModes.{KeyboardModes}
 
 abbrev pub bits_of : KeyboardModes → ℕ

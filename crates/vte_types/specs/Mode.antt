@@ -1,14 +1,14 @@
 -- Modes and their numbers (ECMA-48; private modes of DEC, xterm and others).
 use Rattle.std.specs.Prelude.{List, map, None, Option, Some, ℕ, [], ◌∷◌}
-use Rattle.vte_types.specs.Words.{entry_of, Row}
 use Rattle.vte_types.specs.declared.mode.Mode.{Mode}
 use Rattle.vte_types.specs.declared.mode.Mode.TheVariants as mode
 use Rattle.vte_types.specs.declared.mode.NamedMode.{NamedMode}
 use Rattle.vte_types.specs.declared.mode.NamedMode.TheVariants.{Insert, LineFeedNewLine}
-use Rattle.vte_types.specs.declared.mode.PrivateMode.{PrivateMode}
-use Rattle.vte_types.specs.declared.mode.PrivateMode.TheVariants as private
 use Rattle.vte_types.specs.declared.mode.NamedPrivateMode.{NamedPrivateMode}
 use Rattle.vte_types.specs.declared.mode.NamedPrivateMode.TheVariants.{AlternateScroll, BlinkingCursor, BracketedPaste, ColumnMode, CursorKeys, LineWrap, Origin, ReportAllMouseMotion, ReportCellMouseMotion, ReportFocusInOut, ReportMouseClicks, SgrMouse, ShowCursor, SwapScreenAndSetRestoreCursor, SyncUpdate, UrgencyHints, Utf8Mouse}
+use Rattle.vte_types.specs.declared.mode.PrivateMode.{PrivateMode}
+use Rattle.vte_types.specs.declared.mode.PrivateMode.TheVariants as private
+use Rattle.vte_types.specs.Words.{entry_of, Row}
 
 -- The number of each named mode.
 abbrev pub number_of_named : NamedMode → ℕ

@@ -1,8 +1,8 @@
 -- The numbers of named colours, their index in a palette, or 256 and up; and their shades.
+use Rattle.std.specs.List.{list_any}
 use Rattle.std.specs.Prelude.{Bool, if◌then◌else◌, List, ℕ, [], ◌==◌, ◌∷◌}
 use Rattle.vte_types.specs.declared.color.NamedColor.{NamedColor}
 use Rattle.vte_types.specs.declared.color.NamedColor.TheVariants.{Background, Black, Blue, BrightBlack, BrightBlue, BrightCyan, BrightForeground, BrightGreen, BrightMagenta, BrightRed, BrightWhite, BrightYellow, Cursor, Cyan, DimBlack, DimBlue, DimCyan, DimForeground, DimGreen, DimMagenta, DimRed, DimWhite, DimYellow, Foreground, Green, Magenta, Red, White, Yellow}
-use Rattle.std.specs.List.{list_any}
 
 -- ---- numbers
 

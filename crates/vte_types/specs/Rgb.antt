@@ -1,8 +1,8 @@
 -- Colours by their components: sums and differences, and texts.
-use Rattle.std.specs.Prelude.{codes, false, if◌then◌else◌, List, min, nat_lt, None, Option, Some, ℕ, [], ◌%◌, ◌*◌, ◌++◌, ◌+◌, ◌-◌, ◌/◌, ◌∷◌}
-use Rattle.vte_types.specs.declared.color.Rgb.{Rgb}
 use Rattle.std.specs.Char.{digit_value}
 use Rattle.std.specs.Fmt.{digit_glyph}
+use Rattle.std.specs.Prelude.{codes, false, if◌then◌else◌, List, min, nat_lt, None, Option, Some, ℕ, [], ◌%◌, ◌*◌, ◌++◌, ◌+◌, ◌-◌, ◌/◌, ◌∷◌}
+use Rattle.vte_types.specs.declared.color.Rgb.{Rgb}
 use Rattle.vte_types.specs.Words.{read_by}
 
 -- ---- sums and differences, by component

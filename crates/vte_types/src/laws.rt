@@ -1,10 +1,10 @@
 //! Laws of the tables. All functions except `defaults` do nothing: their contracts are the laws.
 ghost use Rattle.std.specs.Prelude.{bytes_eq, false, fold, IsTrue, length, List, None, Some, ℕ, ◌++◌, ◌<◌, ◌≡◌, ◌≢◌};
 ghost use Rattle.std.specs.Str.{is_utf8};
-ghost use Rattle.vte_types.specs.NamedColor.{bright_of, dim_of, is_bright, is_dim, number_of_color};
 ghost use Rattle.vte_types.specs.CursorIcon.{icon_of};
 ghost use Rattle.vte_types.specs.Keyboard.{modes_of_bits};
 ghost use Rattle.vte_types.specs.Mode.{mode_of, number_of_mode, number_of_private_mode, private_mode_of};
+ghost use Rattle.vte_types.specs.NamedColor.{bright_of, dim_of, is_bright, is_dim, number_of_color};
 ghost use Rattle.vte_types.specs.Rgb.{hex_color_of, shown_color};
 ghost use Rattle.vte_types.specs.Words.{after_word};
 

@@ -1,9 +1,9 @@
 -- How the program ends, and what it has read and written.
-use Rattle.std.specs.Prelude.{Bool, codes, Err, false, is_err, List, None, Ok, OnErr, OnOk, Option, Result, Some, true, ℕ, [], ◌≡◌}
 use Rattle.std.specs.Io.KnownBytes.{Appends}
-use Rattle.event_log.specs.Run.{log_of, stripped_text, WritesExactly}
+use Rattle.std.specs.Prelude.{Bool, codes, Err, false, is_err, List, None, Ok, OnErr, OnOk, Option, Result, Some, true, ℕ, [], ◌≡◌}
 use Rattle.event_log.specs.declared.fault.Fault.{Fault}
 use Rattle.event_log.specs.declared.fault.Fault.TheVariants.{Read, Write}
+use Rattle.event_log.specs.Run.{log_of, stripped_text, WritesExactly}
 use Rattle.vtlog.specs.Arguments.{chosen_mode, page_of}
 use Rattle.vtlog.specs.declared.Mode.{Mode}
 use Rattle.vtlog.specs.declared.Mode.TheVariants.{Lines, Text}

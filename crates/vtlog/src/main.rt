@@ -2,8 +2,8 @@
 //! `text` only the text.
 #![tactic(auto)]
 
-ghost use Rattle.std.specs.Prelude.{is_err, map, OnErr, OnOk, option_map, ◌≡◌};
 ghost use Rattle.std.specs.Io.KnownBytes.{Appends};
+ghost use Rattle.std.specs.Prelude.{is_err, map, OnErr, OnOk, option_map, ◌≡◌};
 ghost use Rattle.vtlog.specs.Arguments.{chosen_mode, page_of};
 ghost use Rattle.vtlog.specs.End.{Ends, message_of, status_of};
 

@@ -1,8 +1,8 @@
 -- The parts of a line. Those that are pushed one after another extend it by all of them (`extends_then`); the digits of
 -- a number and the fields of pieces are such parts.
-use Rattle.event_log.proofs.Common.{ap, append_assoc, arith, blank, Bool, bytes_eq, codes, Decides-below_and, decimal, decimal_digit, decimal_step, drop, ExtendsLine, false, flat_map, get_or, has_room_after, hex_byte, hex_character, hex_digit, hex_field, hex_length, IsTrue, length, length-append, length-map, line_feed, line_of, Lines, List, map, max, nat_tests, pieces_fields, Print, refl, six_hex_digits, suc, sym, true, zero, ℕ, [], ◌%◌, ◌&&◌, ◌*◌, ◌++◌, ◌+◌, ◌-◌, ◌/◌, ◌<◌, ◌^◌, ◌∙◌, ◌∷◌, ◌≡◌, ◌≤◌}
 use Rattle.std.proofs.lemmas.List.Folds.{flat_map-map}
 use Rattle.std.proofs.lemmas.Slice.Eq.{bytes_eq-Decides}
+use Rattle.event_log.proofs.Common.{ap, append_assoc, arith, blank, Bool, bytes_eq, codes, Decides-below_and, decimal, decimal_digit, decimal_step, drop, ExtendsLine, false, flat_map, get_or, has_room_after, hex_byte, hex_character, hex_digit, hex_field, hex_length, IsTrue, length, length-append, length-map, line_feed, line_of, Lines, List, map, max, nat_tests, pieces_fields, Print, refl, six_hex_digits, suc, sym, true, zero, ℕ, [], ◌%◌, ◌&&◌, ◌*◌, ◌++◌, ◌+◌, ◌-◌, ◌/◌, ◌<◌, ◌^◌, ◌∙◌, ◌∷◌, ◌≡◌, ◌≤◌}
 use Rattle.event_log.specs.declared.lines.hex.TheConstants.{HEX_PAIRS}
 
 -- Two texts have room one after the other exactly if they have room together.

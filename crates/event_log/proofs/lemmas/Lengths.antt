@@ -1,14 +1,14 @@
 -- How long the text of an event is, part by part, and how many events bytes add: at most two each. So the text of bytes
 -- is at most eight times as long as they are, and fits where it is collected.
-use Rattle.event_log.proofs.Common.{added, AddsUpTo, after, All, All-head, All-tail, ap, append_assoc, AreBrief, AreGroups, AreSmall, arith, Bool, breaks_at, capacity, cases_Bool, chars, concat, count_of, CsiDispatch, decimal, default_limit, drop, empty_text, encode_ascii, encodes-chars, EscDispatch, Event, Execute, false, flag_field, flat_map, GoesOnFromPositions, group_text, HasKept, HasRead, held_with_event, held_with_text, HeldText, hex_byte, hex_character, hex_digit, hex_field, hex_length, Hook, if◌then◌else◌, inl, inr, is_layout, is_to_be_written, IsBounded, IsNonEmpty, IsSmallNumber, IsUtf8, join_with_byte, len_utf8_bounds, length, length-append, length-decimal-le, length-encode, line_of, List, map, max, OscDispatch, Parser, pieces_fields, plain_text_of, Print, refl, replacement, reported_before, ReportsUnits, resumed_stream, run_event, semicolon, sequence_fields, shown, six_hex_digits, StopsExactly, suc, sym, true, zero, ℕ, [], ◌*◌, ◌++◌, ◌+◌, ◌-◌, ◌<◌, ◌∙◌, ◌∷◌, ◌≡◌, ◌≤◌}
 use Rattle.std.proofs.Common.{length-drop}
 use Rattle.std.proofs.lemmas.List.Sums.{sum_by-cons}
-use Rattle.vte_core.proofs.lemmas.EarlyStops.{added-append}
-use Rattle.vte_core.proofs.lemmas.streams.After.{added-nothing}
-use Rattle.event_log.proofs.lemmas.HeldTexts.{held_bytes, IsSmall, kept-by_call, max_of_character_line, max_of_line, reported-taken, room-for_unit, text-taken_as_events, texts-taken}
 use Rattle.std.proofs.Math.Utf8.{encodes}
 use Rattle.std.specs.Char.{encode_utf8}
+use Rattle.event_log.proofs.Common.{added, AddsUpTo, after, All, All-head, All-tail, ap, append_assoc, AreBrief, AreGroups, AreSmall, arith, Bool, breaks_at, capacity, cases_Bool, chars, concat, count_of, CsiDispatch, decimal, default_limit, drop, empty_text, encode_ascii, encodes-chars, EscDispatch, Event, Execute, false, flag_field, flat_map, GoesOnFromPositions, group_text, HasKept, HasRead, held_with_event, held_with_text, HeldText, hex_byte, hex_character, hex_digit, hex_field, hex_length, Hook, if◌then◌else◌, inl, inr, is_layout, is_to_be_written, IsBounded, IsNonEmpty, IsSmallNumber, IsUtf8, join_with_byte, len_utf8_bounds, length, length-append, length-decimal-le, length-encode, line_of, List, map, max, OscDispatch, Parser, pieces_fields, plain_text_of, Print, refl, replacement, reported_before, ReportsUnits, resumed_stream, run_event, semicolon, sequence_fields, shown, six_hex_digits, StopsExactly, suc, sym, true, zero, ℕ, [], ◌*◌, ◌++◌, ◌+◌, ◌-◌, ◌<◌, ◌∙◌, ◌∷◌, ◌≡◌, ◌≤◌}
+use Rattle.event_log.proofs.lemmas.HeldTexts.{held_bytes, IsSmall, kept-by_call, max_of_character_line, max_of_line, reported-taken, room-for_unit, text-taken_as_events, texts-taken}
 use Rattle.vte_core.proofs.lemmas.bytes.Runs.{layout-is_ascii}
+use Rattle.vte_core.proofs.lemmas.EarlyStops.{added-append}
+use Rattle.vte_core.proofs.lemmas.streams.After.{added-nothing}
 
 -- ---- fields
 

@@ -1,11 +1,11 @@
 -- From what a collector holds to what a run has written: what was collected is appended, and each read that gives
 -- something takes a chunk off the input (`HasReadPart`), until one fails or gives nothing.
-use Rattle.event_log.proofs.Common.{AddsUpTo, ap, append-nil, append_assoc, arith, Bool, default_limit, Event, events, flat_map, HasRead, HasWritten, IfSome, inl, inr, length, length-append, List, None, Option, Parser, refl, Some, sym, true, ℕ, [], ◌++◌, ◌+◌, ◌<◌, ◌∙◌, ◌≡◌, ◌≤◌, ◌⊎◌}
 use Rattle.std.specs.Io.KnownBytes.{Appends, Consumes, IsAtEnd, Keeps}
+use Rattle.event_log.proofs.Common.{AddsUpTo, ap, append-nil, append_assoc, arith, Bool, default_limit, Event, events, flat_map, HasRead, HasWritten, IfSome, inl, inr, length, length-append, List, None, Option, Parser, refl, Some, sym, true, ℕ, [], ◌++◌, ◌+◌, ◌<◌, ◌∙◌, ◌≡◌, ◌≤◌, ◌⊎◌}
+use Rattle.event_log.proofs.lemmas.HeldTexts.{adds_up-at_first}
 use Rattle.event_log.specs.Device.{KeepsWhereKnown}
 use Rattle.event_log.specs.Run.{max_reads, WritesAll, WritesPrefix}
 use Rattle.vte_core.proofs.lemmas.streams.After.{added-nothing}
-use Rattle.event_log.proofs.lemmas.HeldTexts.{adds_up-at_first}
 
 -- ---- devices whose bytes are known
 

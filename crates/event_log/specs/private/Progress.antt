@@ -1,11 +1,11 @@
 -- The state of a run between two calls of the parser.
-use Rattle.std.specs.Prelude.{false, List, Option, Some, ℕ, ◌++◌, ◌≡◌}
 use Rattle.std.specs.List.{flat_map}
+use Rattle.std.specs.Prelude.{false, List, Option, Some, ℕ, ◌++◌, ◌≡◌}
+use Rattle.event_log.specs.HeldText.{HeldText}
+use Rattle.vte_core.specs.declared.parser.Parser.{Parser}
 use Rattle.vte_core.specs.Event.{Event}
 use Rattle.vte_core.specs.Parser.{HasRead}
 use Rattle.vte_core.specs.Stream.{added, default_limit}
-use Rattle.vte_core.specs.declared.parser.Parser.{Parser}
-use Rattle.event_log.specs.HeldText.{HeldText}
 
 pub record HasReadStream (parser : Parser 1024) : Type 0 where
   pub already_read : List ℕ

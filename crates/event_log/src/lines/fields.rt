@@ -1,10 +1,10 @@
 //! Fields of lines.
-ghost use Rattle.std.specs.Prelude.{codes, length, map, ◌%◌, ◌++◌, ◌+◌, ◌<◌, ◌≡◌, ◌≤◌};
 ghost use Rattle.std.specs.Fmt.{decimal};
 ghost use Rattle.std.specs.List.{join_with_byte};
-ghost use Rattle.vte_core.specs.Parameters.{colon, shown};
+ghost use Rattle.std.specs.Prelude.{codes, length, map, ◌%◌, ◌++◌, ◌+◌, ◌<◌, ◌≡◌, ◌≤◌};
 ghost use Rattle.event_log.specs.Lines.{flag_field, hex_byte, hex_character, hex_field, pieces_fields, sequence_fields};
 ghost use Rattle.event_log.specs.private.Line.{ExtendsLine};
+ghost use Rattle.vte_core.specs.Parameters.{colon, shown};
 
 use super::Lines;
 use super::hex::{hex_length, hex_pair, six_hex_digits};

@@ -1,8 +1,8 @@
 //! Lines of characters and single bytes, and hex digits.
 ghost use Rattle.std.specs.Prelude.{◌≡◌, ◌≤◌};
-ghost use Rattle.vte_core.specs.Event.{Execute, Print, Put};
 ghost use Rattle.event_log.specs.HeldText.{held_text_of, held_with_text};
 ghost use Rattle.event_log.specs.Lines.{hex_byte, hex_length as hex_length_of, line_of, six_hex_digits as six_hex_digits_of};
+ghost use Rattle.vte_core.specs.Event.{Execute, Print, Put};
 
 use super::Lines;
 

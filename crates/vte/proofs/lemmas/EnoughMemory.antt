@@ -1,13 +1,13 @@
 -- With memory for all bytes, a parser reads them all, and each command's joined text fits. No command has more data
 -- than was stored and read, nor more separators than 16; so the contracts of both parsers become those of one.
 use Rattle.vte.proofs.Common.{added, added-append, AdvancesAll, AdvancesUntilStop, All, All-drop, All-take, arith, counts_data, Err, Event, events, events_are_bounded, false, FitsText, HasTextMemory, KeepsMemory, length, limited_parser_view, List, long_parser_view, LongParser, None, Ok, Option, ParserHasMemory, PerformerValue, Refused, Result, rules, Some, take-append_seam, ℕ, ◌++◌, ◌+◌, ◌≤◌}
-use Rattle.vte_core.specs.EventBounds.{IsBounded}
-use Rattle.vte_core.specs.LongParserCalls.{ReadsLong}
-use Rattle.vte_core.specs.LongParser.{memory_of, open_command_size, read_count}
-use Rattle.vte_core.specs.Parser.{parser_facts}
-use Rattle.vte_core.specs.declared.parser.Parser.{Parser}
 use Rattle.vte_core.specs.Advance.{ReadsBytes, ReadsUntilTerminated}
+use Rattle.vte_core.specs.declared.parser.Parser.{Parser}
+use Rattle.vte_core.specs.EventBounds.{IsBounded}
+use Rattle.vte_core.specs.LongParser.{memory_of, open_command_size, read_count}
+use Rattle.vte_core.specs.LongParserCalls.{ReadsLong}
 use Rattle.vte_core.specs.Looks.{per_byte}
+use Rattle.vte_core.specs.Parser.{parser_facts}
 
 -- ---- a text of the size of the data and 16 separators holds what is joined of a command
 

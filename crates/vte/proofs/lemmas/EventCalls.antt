@@ -1,11 +1,11 @@
 -- From events to calls: what a performer makes of a handler and a timeout. All events together make the calls of their
 -- rows, and set the timeout once per begin of an update; a run of text makes those of its characters.
-use Rattle.vte.proofs.Common.{add-zero, added, added-append, added-nothing, added_calls, after, ap, append-nil, append_assoc, arith, Bool, Call, calls, calls_after, calls_from, chars, drop-append_seam, Event, events, events_grow, first_number, get_or, get_or-append-add, Input, IsCharBoundary, IsUtf8, last_printed, last_printed_after, last_printed_from, length, length-append, List, map, nat_lt, nat_tests, None, Option, option_or, or-false, performer_with_event, PerformerValue, Print, refl, rules, Some, suc, suc-add, sym, take-append_seam, timeout_set_times, TimeoutMeaning, update_nanos, with_private_mode, with_private_modes, zero, zero-add, ℕ, [], ◌++◌, ◌+◌, ◌||◌, ◌∙◌, ◌∷◌, ◌≡◌, ◌≤◌}
-use Rattle.std.specs.Bool.{if◌then◌else◌}
-use Rattle.std.proofs.Math.Utf8.{encode}
-use Rattle.std.proofs.lemmas.Str.{chars-append, chars-nil, chars_past_char, IsUtf8-drop, IsUtf8-take}
 use Rattle.std.proofs.lemmas.List.{nil_from_length}
+use Rattle.std.proofs.lemmas.Str.{chars-append, chars-nil, chars_past_char, IsUtf8-drop, IsUtf8-take}
+use Rattle.std.proofs.Math.Utf8.{encode}
+use Rattle.std.specs.Bool.{if◌then◌else◌}
 use Rattle.std.specs.Str.Iter.{chars_rest, chars_steps_back}
+use Rattle.vte.proofs.Common.{add-zero, added, added-append, added-nothing, added_calls, after, ap, append-nil, append_assoc, arith, Bool, Call, calls, calls_after, calls_from, chars, drop-append_seam, Event, events, events_grow, first_number, get_or, get_or-append-add, Input, IsCharBoundary, IsUtf8, last_printed, last_printed_after, last_printed_from, length, length-append, List, map, nat_lt, nat_tests, None, Option, option_or, or-false, performer_with_event, PerformerValue, Print, refl, rules, Some, suc, suc-add, sym, take-append_seam, timeout_set_times, TimeoutMeaning, update_nanos, with_private_mode, with_private_modes, zero, zero-add, ℕ, [], ◌++◌, ◌+◌, ◌||◌, ◌∙◌, ◌∷◌, ◌≡◌, ◌≤◌}
 use Rattle.vte_core.specs.Event.{after as performed}
 
 -- ---- the calls of events that follow one another

@@ -1,17 +1,17 @@
 -- What is true of a processor's engine between the parts of a turn.
 use Rattle.std.specs.Prelude.{Bool, drop, IfErr, IfOk, length, List, nat_lt, Result, take, ℕ, ◌++◌, ◌+◌, ◌<◌, ◌≡◌}
-use Rattle.vte_core.specs.declared.parser.refused.Refused.{Refused}
-use Rattle.vte_core.specs.Stream.{added, events}
-use Rattle.vte.specs.Synchronized.{begin_count}
 use Rattle.vte.specs.Calls.{last_printed}
+use Rattle.vte.specs.declared.ansi.calls.performer.ProcessorState.{ProcessorState}
+use Rattle.vte.specs.declared.ansi.updates.engine.Engine.{Engine}
 use Rattle.vte.specs.Memory.{KeepsMemory}
 use Rattle.vte.specs.Processor.{Meaning, parse, parsing_turn, prefix_to_begin, State, turn}
 use Rattle.vte.specs.ProcessorCalls.{IsAt}
-use Rattle.vte.specs.Refusal.{TakesTurnsUntilRefused}
 use Rattle.vte.specs.ProcessorFacts.{engine_facts, ProcessorFacts}
+use Rattle.vte.specs.Refusal.{TakesTurnsUntilRefused}
+use Rattle.vte.specs.Synchronized.{begin_count}
 use Rattle.vte.specs.Views.{EngineView}
-use Rattle.vte.specs.declared.ansi.calls.performer.ProcessorState.{ProcessorState}
-use Rattle.vte.specs.declared.ansi.updates.engine.Engine.{Engine}
+use Rattle.vte_core.specs.declared.parser.refused.Refused.{Refused}
+use Rattle.vte_core.specs.Stream.{added, events}
 
 -- ---- what is true between the parts of a turn
 

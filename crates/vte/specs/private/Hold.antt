@@ -1,9 +1,9 @@
 -- The bytes of a hold.
 use Rattle.std.specs.Prelude.{drop, eqb, false, length, List, None, Option, slice_index, Some, take, ℕ, ◌&&◌, ◌++◌, ◌+◌, ◌-◌, ◌<◌, ◌≡◌, ◌≤◌}
-use Rattle.vte.specs.ProcessorFacts.{held_of}
-use Rattle.vte.specs.Synchronized.{after_last_end, begin_update, begins_ending_in_last, end_update, from_begin_update, is_prefix_of, part_after_last_end}
 use Rattle.vte.specs.declared.ansi.updates.hold.SyncState.{SyncState}
 use Rattle.vte.specs.declared.ansi.updates.release.Release.{Release}
+use Rattle.vte.specs.ProcessorFacts.{held_of}
+use Rattle.vte.specs.Synchronized.{after_last_end, begin_update, begins_ending_in_last, end_update, from_begin_update, is_prefix_of, part_after_last_end}
 
 -- The bytes before the held ones, which the last turn released.
 abbrev pub released_of : {A : Type 0} → SyncState A → List ℕ

@@ -1,14 +1,14 @@
 -- The value of a performer, the texts that it splits and joins, and what is read of a colour's
 -- components.
-use Rattle.std.specs.Prelude.{Bool, false, if◌then◌else◌, length, List, nat_le, nat_lt, None, Option, Some, true, ℕ, [], ◌+◌, ◌||◌, ◌∷◌, ◌≡◌, ◌≤◌}
-use Rattle.vte.specs.Colors.{is_component}
 use Rattle.std.specs.Borrow.{Bor, GName}
 use Rattle.std.specs.List.{concat}
-use Rattle.vte.specs.Split.{split_by}
-use Rattle.vte.specs.Synchronized.{begin_count_in_event}
+use Rattle.std.specs.Prelude.{Bool, false, if◌then◌else◌, length, List, nat_le, nat_lt, None, Option, Some, true, ℕ, [], ◌+◌, ◌||◌, ◌∷◌, ◌≡◌, ◌≤◌}
 use Rattle.vte.specs.Calls.{calls_of, last_printed_after}
+use Rattle.vte.specs.Colors.{is_component}
 use Rattle.vte.specs.CommandCalls.{system_command_calls}
 use Rattle.vte.specs.Processor.{timeout_set_times}
+use Rattle.vte.specs.Split.{split_by}
+use Rattle.vte.specs.Synchronized.{begin_count_in_event}
 use Rattle.vte_core.specs.Event.{Event, OscDispatch}
 use Rattle.vte_handler.specs.Call.{Call}
 use Rattle.vte_handler.specs.Handler.{after}

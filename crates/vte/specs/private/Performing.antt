@@ -1,16 +1,16 @@
 -- The value of a performer, and what a parser that reads bytes for it has performed. Of the types,
 -- `H` is the performer's handler, and `G` the granularity of its text.
-use Rattle.std.specs.Prelude.{if◌then◌else◌, length, List, nat_lt, Option, ℕ, ◌++◌, ◌+◌, ◌==◌, ◌||◌, ◌≡◌, ◌≤◌}
 use Rattle.std.specs.List.{All}
-use Rattle.vte.specs.Synchronized.{update_group_count, update_mode}
+use Rattle.std.specs.Prelude.{if◌then◌else◌, length, List, nat_lt, Option, ℕ, ◌++◌, ◌+◌, ◌==◌, ◌||◌, ◌≡◌, ◌≤◌}
 use Rattle.vte.specs.ControlSequenceCalls.{change_call, change_calls}
-use Rattle.vte.specs.Memory.{KeepsMemory}
-use Rattle.vte.specs.Views.{ParserView}
-use Rattle.vte.specs.Processor.{timeout_set_times}
-use Rattle.vte.specs.Numbers.{first_numbers}
-use Rattle.vte.specs.private.Performer.{FitsText, PerformerValue}
 use Rattle.vte.specs.declared.ansi.calls.control_sequence.ModeChange.TheVariants.{SetPrivate}
 use Rattle.vte.specs.declared.ansi.calls.performer.Performer.{Performer}
+use Rattle.vte.specs.Memory.{KeepsMemory}
+use Rattle.vte.specs.Numbers.{first_numbers}
+use Rattle.vte.specs.private.Performer.{FitsText, PerformerValue}
+use Rattle.vte.specs.Processor.{timeout_set_times}
+use Rattle.vte.specs.Synchronized.{update_group_count, update_mode}
+use Rattle.vte.specs.Views.{ParserView}
 use Rattle.vte_core.specs.EarlyStop.{resumed_stream, StopsExactly}
 use Rattle.vte_core.specs.Event.{after as performed, Event}
 use Rattle.vte_core.specs.Stream.{added}

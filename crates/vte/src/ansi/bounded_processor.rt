@@ -1,9 +1,9 @@
 //! The processor with a limit of its own.
 ghost use Rattle.std.specs.Prelude.{Some, ◌≡◌};
-ghost use Rattle.vte_handler.specs.Timeout.{timeout_meaning};
-ghost use Rattle.vte.specs.ProcessorFacts.{bounded_facts};
 ghost use Rattle.vte.specs.Processor.{processor_meaning};
 ghost use Rattle.vte.specs.ProcessorCalls.{AdvancesInTurns, CountsHeld, Creates, SaysParsedLoss, StopsSync};
+ghost use Rattle.vte.specs.ProcessorFacts.{bounded_facts};
+ghost use Rattle.vte_handler.specs.Timeout.{timeout_meaning};
 
 use crate::ansi::calls::growing_text::GrowingText;
 use crate::ansi::updates::engine::Engine;

@@ -1,12 +1,11 @@
 //! Laws of lists of a processor's calls, and the laws of the types.
 ghost use Rattle.std.specs.Prelude.{drop, List, None, Option, take, ℕ, ◌++◌, ◌≡◌};
-ghost use Rattle.vte.specs.CallExamples.{color_examples, command_examples, counted_examples, escape_examples, executed_examples, HaveCalls, HaveColors};
-ghost use Rattle.vte.specs.CallExamples.{link_examples, mode_examples, palette_examples, position_examples, rendition_examples, selected_examples, title_examples};
+ghost use Rattle.vte.specs.CallExamples.{color_examples, command_examples, counted_examples, escape_examples, executed_examples, HaveCalls, HaveColors, link_examples, mode_examples, palette_examples, position_examples, rendition_examples, selected_examples, title_examples};
+ghost use Rattle.vte.specs.declared.ansi.laws.replays.Step.{Step};
 ghost use Rattle.vte.specs.Processor.{given_bytes, HoldInvariantAt, processor_meaning, State, TakesAllTurns, TakesSteps, TakesTurns};
 ghost use Rattle.vte.specs.ProcessorCalls.{HasDelivered};
 ghost use Rattle.vte.specs.Refusal.{TakesTurnsUntilRefused};
 ghost use Rattle.vte.specs.UpdateExamples.{ExpiredExample, HaveOutcomes, ShortExamples, update_examples};
-ghost use Rattle.vte.specs.declared.ansi.laws.replays.Step.{Step};
 ghost use Rattle.vte_handler.specs.Timeout.{IsSteady};
 
 mod replays;

@@ -1,11 +1,11 @@
 //! The processor without a limit.
 ghost use Rattle.std.specs.Prelude.{List, None, ℕ, [], ◌≡◌};
+ghost use Rattle.vte.specs.LongProcessor.{AdvancesLong, HasFreedMemoryLong, Reserves};
+ghost use Rattle.vte.specs.Processor.{processor_meaning};
+ghost use Rattle.vte.specs.ProcessorCalls.{CountsHeld, Creates, IsCloneOfProcessor, SaysParsedLoss, StopsSync};
+ghost use Rattle.vte.specs.ProcessorFacts.{ContinuesAs, long_facts};
 ghost use Rattle.vte_core.specs.LongParser.{open_command_size};
 ghost use Rattle.vte_handler.specs.Timeout.{timeout_meaning};
-ghost use Rattle.vte.specs.Processor.{processor_meaning};
-ghost use Rattle.vte.specs.LongProcessor.{AdvancesLong, HasFreedMemoryLong, Reserves};
-ghost use Rattle.vte.specs.ProcessorFacts.{ContinuesAs, long_facts};
-ghost use Rattle.vte.specs.ProcessorCalls.{CountsHeld, Creates, IsCloneOfProcessor, SaysParsedLoss, StopsSync};
 
 use crate::ansi::calls::growing_text::GrowingText;
 use crate::ansi::updates::engine::Engine;

@@ -1,10 +1,10 @@
 //! The processor. A call of `advance` takes turns, and each turn parses bytes or holds them back.
 ghost use Rattle.std.specs.Prelude.{◌≡◌};
-ghost use Rattle.vte_handler.specs.Timeout.{timeout_meaning};
 ghost use Rattle.vte.specs.Processor.{processor_meaning};
-ghost use Rattle.vte.specs.ProcessorFacts.{processor_facts};
 ghost use Rattle.vte.specs.ProcessorCalls.{AdvancesInTurns, CountsHeld, Creates, IsCloneOfProcessor, SaysParsedLoss, StopsSync};
+ghost use Rattle.vte.specs.ProcessorFacts.{processor_facts};
 ghost use Rattle.vte_core.specs.Stream.{default_limit};
+ghost use Rattle.vte_handler.specs.Timeout.{timeout_meaning};
 
 use crate::ansi::updates::engine::Engine;
 use crate::ansi::updates::parsing::{ProcessorParser, ProcessorText};

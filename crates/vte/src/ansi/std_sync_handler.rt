@@ -1,8 +1,8 @@
 //! A timeout over a clock.
 ghost use Rattle.std.specs.Duration.{as_nanos};
 ghost use Rattle.std.specs.Prelude.{Bool, false, IsSomeAnd, None, true, ◌≡◌};
-ghost use Rattle.vte_handler.specs.Timeout.{AllowsOnly, IsSteady};
 ghost use Rattle.vte.specs.StdSyncHandler.{clock_in, ExpiresAfter, expiry_in, is_pending, pending_meaning};
+ghost use Rattle.vte_handler.specs.Timeout.{AllowsOnly, IsSteady};
 
 use crate::ansi::clock::Clock;
 use std::alloc::AllocError;

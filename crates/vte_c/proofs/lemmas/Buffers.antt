@@ -1,12 +1,12 @@
 -- What events leave in the buffers. Those that aren't full have room for what one byte adds, so each event is written
 -- as one entry (`event-written`), or isn't one of the kinds asked for (`event-passed`); so is all that one byte reports
 -- (`entries-unit_more`), and a run of the input (`entries-run`).
-use Rattle.vte_c.proofs.Common.{add-zero, after, All, All-head, All-tail, any_of_kinds, ap, append-nil, append_assoc, AreaHolds, AreBrief, AreGroups, AreReadable, arith, AtMostOneFollowsStop, Bool, Buffers, buffers_of, buffers_with_event, cases_Bool, concat, contains_kind, count_of, CsiDispatch, data_of, DataRun, default_limit, Entry, entry_data, EscDispatch, Event, event_kind, EventWriter, Execute, false, filter-append, flag_byte, flat_map, flat_map-append, group_bytes, has_room_for_record, HasEntries, Hook, if◌then◌else◌, InInput, inl, InputRunKind, inr, IsBounded, IsNonEmpty, IsRunAt, IsShort, kinds_of, len_utf8_bounds, length, length-append, length-encode, length-map, List, map, map-append, max_data_per_byte, may_have_lost, must_return, nat_lt, nat_tests, NoRecordStops, or_parts, OscDispatch, piece_bytes, Print, Put, record_at, records_from, refl, resumed, run_kind, run_record, Single, subst, sum_by-cons, sym, take, TextRun, true, two_bytes, Unhook, VteEvent, wanted_events, with_entries, with_record, with_record_alone, without_loss, ℕ, [], ◌%◌, ◌*◌, ◌++◌, ◌+◌, ◌<◌, ◌∙◌, ◌∷◌, ◌≡◌, ◌≤◌}
-use Rattle.std.proofs.Math.Bool.{or-false, or_assoc}
 use Rattle.std.proofs.lemmas.List.Folds.{list_any-append}
+use Rattle.std.proofs.Math.Bool.{or-false, or_assoc}
+use Rattle.vte_c.proofs.Common.{add-zero, after, All, All-head, All-tail, any_of_kinds, ap, append-nil, append_assoc, AreaHolds, AreBrief, AreGroups, AreReadable, arith, AtMostOneFollowsStop, Bool, Buffers, buffers_of, buffers_with_event, cases_Bool, concat, contains_kind, count_of, CsiDispatch, data_of, DataRun, default_limit, Entry, entry_data, EscDispatch, Event, event_kind, EventWriter, Execute, false, filter-append, flag_byte, flat_map, flat_map-append, group_bytes, has_room_for_record, HasEntries, Hook, if◌then◌else◌, InInput, inl, InputRunKind, inr, IsBounded, IsNonEmpty, IsRunAt, IsShort, kinds_of, len_utf8_bounds, length, length-append, length-encode, length-map, List, map, map-append, max_data_per_byte, may_have_lost, must_return, nat_lt, nat_tests, NoRecordStops, or_parts, OscDispatch, piece_bytes, Print, Put, record_at, records_from, refl, resumed, run_kind, run_record, Single, subst, sum_by-cons, sym, take, TextRun, true, two_bytes, Unhook, VteEvent, wanted_events, with_entries, with_record, with_record_alone, without_loss, ℕ, [], ◌%◌, ◌*◌, ◌++◌, ◌+◌, ◌<◌, ◌∙◌, ◌∷◌, ◌≡◌, ◌≤◌}
+use Rattle.vte_c.proofs.lemmas.Continuations.{no_kind_stops-append, no_kind_stops-none}
 use Rattle.vte_core.proofs.lemmas.places.PlaceLeads.{short_bounded}
 use Rattle.vte_core.proofs.lemmas.streams.After.{after_events-append}
-use Rattle.vte_c.proofs.lemmas.Continuations.{no_kind_stops-append, no_kind_stops-none}
 
 -- ---- how long the data of an event are
 

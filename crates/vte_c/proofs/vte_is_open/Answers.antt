@@ -1,11 +1,11 @@
 -- The restored parser says what is open.
+use denote.Enum.Declared.{tag_of}
 use Rattle.vte_c.proofs.Common.{ap, refl, ◌∙◌, ◌≡◌}
+use Rattle.vte_c.proofs.vte_is_open.Goals as goal
 use Rattle.vte_c.specs.OpenCode.{open_code}
+use Rattle.vte_core.specs.contracts.parser.open.Open.{the_type}
 use Rattle.vte_core.specs.declared.parser.open.Open.{Open}
 use Rattle.vte_core.specs.declared.parser.open.Open.TheVariants.{Character, ControlSequence, DeviceControl, EscapeSequence, IgnoredString, Nothing, SystemCommand}
-use Rattle.vte_core.specs.contracts.parser.open.Open.{the_type}
-use denote.Enum.Declared.{tag_of}
-use Rattle.vte_c.proofs.vte_is_open.Goals as goal
 
 kind-nothing_by_code : (kind : Open) → tag_of the_type kind ≡ 0 → kind ≡ Nothing
 kind-nothing_by_code Nothing code_is_0 = refl

@@ -1,13 +1,13 @@
 -- The caller's buffers for events, and how an event changes them.
 use Rattle.std.specs.Prelude.{Bool, false, if◌then◌else◌, length, List, map, min, nat_le, nat_lt, take, ℕ, [], ⊤, ◌&&◌, ◌++◌, ◌+◌, ◌-◌, ◌^◌, ◌||◌, ◌∷◌, ◌≡◌, ◌≤◌}
 use Rattle.std.specs.Str.{IsUtf8}
-use Rattle.vte_core.specs.Event.{Event}
-use Rattle.vte_core.specs.declared.reader.run.Run.{Run}
-use Rattle.vte_core.specs.declared.reader.run.Taken.{Taken}
-use Rattle.vte_core.specs.declared.reader.run.Taken.TheVariants.{Data, Nothing, Text}
 use Rattle.vte_c.specs.declared.event.VteEvent.{VteEvent}
 use Rattle.vte_c.specs.declared.events.EventWriter.{EventWriter}
 use Rattle.vte_c.specs.Record.{contains_kind, data_kind, data_of, event_kind, max_data_per_byte, may_have_lost, min_data, min_events, record_of, run_record, text_kind, without_loss}
+use Rattle.vte_core.specs.declared.reader.run.Run.{Run}
+use Rattle.vte_core.specs.declared.reader.run.Taken.{Taken}
+use Rattle.vte_core.specs.declared.reader.run.Taken.TheVariants.{Data, Nothing, Text}
+use Rattle.vte_core.specs.Event.{Event}
 
 -- What was written, how much that is, how much fits, which kinds to write and after which to stop.
 -- It is paused after a command that may have lost data. The names identify the caller's slices.

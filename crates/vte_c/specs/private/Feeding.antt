@@ -1,16 +1,16 @@
 -- How far a call has come.
-use Rattle.std.specs.Prelude.{Bool, drop, false, length, List, map, take, ℕ, ◌++◌, ◌+◌, ◌<◌, ◌||◌, ◌≡◌, ◌≤◌}
 use Rattle.std.specs.List.{flat_map, list_any}
-use Rattle.vte_core.specs.Event.{Event}
-use Rattle.vte_core.specs.Parser.{HasRead}
-use Rattle.vte_core.specs.Stream.{added, default_limit}
-use Rattle.vte_core.specs.declared.parser.Parser.{Parser}
-use Rattle.vte_core.specs.declared.parser.saved.Saved.{Saved}
+use Rattle.std.specs.Prelude.{Bool, drop, false, length, List, map, take, ℕ, ◌++◌, ◌+◌, ◌<◌, ◌||◌, ◌≡◌, ◌≤◌}
+use Rattle.vte_c.specs.declared.event.VteEvent.{VteEvent}
+use Rattle.vte_c.specs.declared.events.EventWriter.{EventWriter}
 use Rattle.vte_c.specs.private.Buffers.{Buffers, buffers_of}
 use Rattle.vte_c.specs.Record.{contains_kind, data_kind, Entry, entry_data, entry_events, events_in, kinds_of, records_from, text_kind, wanted_events}
 use Rattle.vte_c.specs.Reported.{AreEncoded, AreReadable, AtMostOneFollowsStop, HasReported, is_stop, NoEventStops, NoKindStops}
-use Rattle.vte_c.specs.declared.event.VteEvent.{VteEvent}
-use Rattle.vte_c.specs.declared.events.EventWriter.{EventWriter}
+use Rattle.vte_core.specs.declared.parser.Parser.{Parser}
+use Rattle.vte_core.specs.declared.parser.saved.Saved.{Saved}
+use Rattle.vte_core.specs.Event.{Event}
+use Rattle.vte_core.specs.Parser.{HasRead}
+use Rattle.vte_core.specs.Stream.{added, default_limit}
 
 -- The events are the first of those of another list.
 pub record IsPrefix (events all : List Event) : Type 0 where

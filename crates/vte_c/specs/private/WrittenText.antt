@@ -1,11 +1,11 @@
 -- The caller's buffer for text, and how an event changes it.
 use Rattle.std.specs.Prelude.{Bool, drop, false, if◌then◌else◌, length, List, nat_le, take, true, ℕ, [], ◌&&◌, ◌++◌, ◌+◌, ◌≡◌, ◌≤◌}
 use Rattle.event_log.specs.Plain.{plain_text_of}
-use Rattle.vte_core.specs.Event.{Event}
-use Rattle.vte_core.specs.declared.parser.saved.Saved.{Saved}
+use Rattle.vte_c.specs.declared.text.TextWriter.{TextWriter}
 use Rattle.vte_c.specs.Record.{min_text}
 use Rattle.vte_c.specs.Reported.{HasStripped}
-use Rattle.vte_c.specs.declared.text.TextWriter.{TextWriter}
+use Rattle.vte_core.specs.declared.parser.saved.Saved.{Saved}
+use Rattle.vte_core.specs.Event.{Event}
 
 -- What was written, how much that is, how much fits, whether all did, and which of the caller's
 -- slices it is.

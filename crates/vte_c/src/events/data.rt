@@ -1,7 +1,7 @@
 //! The data of events: the groups of a sequence and the pieces of a command, written into the
 //! caller's area.
-ghost use Rattle.std.specs.Prelude.{length, List, map, ℕ, ◌++◌, ◌≤◌};
 ghost use Rattle.std.specs.List.{flat_map};
+ghost use Rattle.std.specs.Prelude.{length, List, map, ℕ, ◌++◌, ◌≤◌};
 ghost use Rattle.vte_c.specs.private.Buffers.{AreaHolds, Buffers, buffers_of};
 ghost use Rattle.vte_c.specs.Record.{group_bytes, piece_bytes};
 

@@ -2,13 +2,13 @@
 -- (`goes_on_from`); from one position to the next at most one unit is reported. By what a byte does to an open
 -- character.
 use Rattle.vte_core.proofs.Common.{add-one, added, ap, append-nil, append_assoc, AreBrief, arith, Bool, breaks, breaks_at, cases_Bool, drop, drop-append_seam, Event, false, false≢true, get_or, if◌then◌else◌, inl, inr, IsAfter, IsAtMostOneShort, IsStart, length, List, None, open_at, open_character, Option, Place, Print, refl, replacement, reported_before, resumed_stream, rules, subst, suc, sym, take, take-append-drop, take_more, true, zero, ℕ, [], ◌++◌, ◌+◌, ◌<◌, ◌∙◌, ◌∷◌, ◌≡◌, ◌≤◌, ◌⊎◌}
-use Rattle.vte_core.specs.EarlyStopLaws.{AreReportedAtStart, GoesOnFromPositions, ReportsUnit, ReportsUnits}
-use Rattle.vte_core.proofs.lemmas.streams.After.{added-nothing, after-open_character}
 use Rattle.vte_core.proofs.lemmas.places.PlaceLeads.{one_short-append}
 use Rattle.vte_core.proofs.lemmas.places.Steps.{text_at}
-use Rattle.vte_core.proofs.lemmas.streams.Parts.{added-broken, resumes-after}
 use Rattle.vte_core.proofs.lemmas.shapes.BrokenCharacters.{breaks_at-byte, breaks_at-settled, starts-broken, starts-settled}
+use Rattle.vte_core.proofs.lemmas.streams.After.{added-nothing, after-open_character}
+use Rattle.vte_core.proofs.lemmas.streams.Parts.{added-broken, resumes-after}
 use Rattle.vte_core.proofs.lemmas.streams.StreamSteps.{added-byte, bytes_are_brief, events_grow, leads_to, LeadsTo, opens_silently}
+use Rattle.vte_core.specs.EarlyStopLaws.{AreReportedAtStart, GoesOnFromPositions, ReportsUnit, ReportsUnits}
 
 -- ---- what is kept from start to start holds wherever a call stops
 

@@ -1,15 +1,15 @@
 -- The place at which a parser is, and what it has read.
 use Rattle.std.specs.Prelude.{List, Option, true, ℕ, [], ⊤, ◌≡◌}
-use Rattle.vte_core.specs.declared.utf8.Unfinished.TheVariants.{Empty}
 use Rattle.vte_core.specs.declared.parser.machine.Machine.{Machine}
-use Rattle.vte_core.specs.declared.parser.State.{State}
-use Rattle.vte_core.specs.declared.parser.State.TheVariants.{ControlSequence, DeviceControl, DeviceData, Escape, EscapeIntermediate, IgnoredString, SystemCommand, Text}
-use Rattle.vte_core.specs.private.Place.{AtEscape, InControlSequence, InDeviceControl, InDeviceData, InEscape, InIgnoredString, InSystemCommand, InText, IsAfter, Place}
-use Rattle.vte_core.specs.private.Store.{HoldsItems}
 use Rattle.vte_core.specs.declared.parser.open.Open.{Open}
 use Rattle.vte_core.specs.declared.parser.open.Open.TheVariants as kind
-use Rattle.vte_core.specs.private.OpenCharacter.{bytes_of, may_continue}
+use Rattle.vte_core.specs.declared.parser.State.{State}
+use Rattle.vte_core.specs.declared.parser.State.TheVariants.{ControlSequence, DeviceControl, DeviceData, Escape, EscapeIntermediate, IgnoredString, SystemCommand, Text}
+use Rattle.vte_core.specs.declared.utf8.Unfinished.TheVariants.{Empty}
 use Rattle.vte_core.specs.private.HeldHead.{HasReadHead, HoldsIntermediates}
+use Rattle.vte_core.specs.private.OpenCharacter.{bytes_of, may_continue}
+use Rattle.vte_core.specs.private.Place.{AtEscape, InControlSequence, InDeviceControl, InDeviceData, InEscape, InIgnoredString, InSystemCommand, InText, IsAfter, Place}
+use Rattle.vte_core.specs.private.Store.{HoldsItems}
 
 -- What the state says of the place.
 abbrev pub IsPlaceOfState : {B : Type 0} → Option ℕ → State → Machine B → Place → Type 0

@@ -1,10 +1,10 @@
 -- How far the function of a state reads, and what that costs: looks at bytes, and memory.
 use Rattle.std.specs.Prelude.{IfErr, IfOk, length, List, Result, ℕ, ◌*◌, ◌+◌, ◌<◌, ◌≡◌, ◌≤◌}
-use Rattle.vte_core.specs.LongParser.{read_count}
-use Rattle.vte_core.specs.Looks.{looks_of, per_byte}
 use Rattle.vte_core.specs.declared.parser.machine.Machine.{Machine}
 use Rattle.vte_core.specs.declared.parser.refused.Refused.{Refused}
 use Rattle.vte_core.specs.declared.reader.Reader.{Reader}
+use Rattle.vte_core.specs.LongParser.{read_count}
+use Rattle.vte_core.specs.Looks.{looks_of, per_byte}
 use Rattle.vte_core.specs.private.Progress.{ChunkCall, IsRefusedInCommand, IsSettled, MayGoOn, ReadsUntilRefused, ReadsUpTo}
 
 -- ---- where the looks go

@@ -1,14 +1,14 @@
 -- What a parser holds of the head of a sequence: its intermediates, its numbers, and how far it has
 -- come.
 use Rattle.std.specs.Prelude.{Bool, drop, false, if◌then◌else◌, length, List, MatchOption, slice_index, take, true, ℕ, [], ⊤, ◌++◌, ◌-◌, ◌<◌, ◌||◌, ◌∷◌, ◌≡◌, ◌≤◌}
+use Rattle.vte_core.specs.Class.{AreInClass, is_head_byte, is_intermediate, is_marker, is_parameter_byte}
 use Rattle.vte_core.specs.declared.head.CollectedHead.{CollectedHead}
+use Rattle.vte_core.specs.declared.head.HeadEnd.{HeadEnd}
 use Rattle.vte_core.specs.declared.head.HeadProgress.{HeadProgress}
 use Rattle.vte_core.specs.declared.head.HeadProgress.TheVariants.{Entry, IllShaped, Intermediates, Parameters}
-use Rattle.vte_core.specs.Class.{AreInClass, is_head_byte, is_intermediate, is_marker, is_parameter_byte}
-use Rattle.vte_core.specs.Intermediates.{are_too_many, first_two}
 use Rattle.vte_core.specs.Head.{head_of, is_well_shaped, reported_intermediates}
+use Rattle.vte_core.specs.Intermediates.{are_too_many, first_two}
 use Rattle.vte_core.specs.Parameters.{grouped, groups_of, has_too_many_numbers, is_colon, is_separator, max_numbers, Number, number_of, numbers}
-use Rattle.vte_core.specs.declared.head.HeadEnd.{HeadEnd}
 
 -- The first two intermediates are held, and whether there are more.
 pub record HoldsIntermediates (collected : CollectedHead) (intermediates : List ℕ) : Type 0 where

@@ -1,17 +1,17 @@
 -- Places in a text or a body at which a stream may end, what more bytes give there, and where they
 -- lead, according to the grammar.
-use Rattle.std.specs.Prelude.{List, Option, ℕ, [], ⊤, ◌++◌, ◌∷◌, ◌≡◌}
 use Rattle.std.specs.List.{filter}
+use Rattle.std.specs.Prelude.{List, Option, ℕ, [], ⊤, ◌++◌, ◌∷◌, ◌≡◌}
 use Rattle.vte_core.specs.Body.{body_outcome}
 use Rattle.vte_core.specs.Class.{class_of, ends_escape, ends_head, is_intermediate}
 use Rattle.vte_core.specs.ControlSequence.{control_sequence_rest}
+use Rattle.vte_core.specs.CutBefore.{cut_before}
 use Rattle.vte_core.specs.DeviceControl.{device_control_rest, device_data_outcome}
 use Rattle.vte_core.specs.Escape.{escape_rest}
 use Rattle.vte_core.specs.Event.{Event}
 use Rattle.vte_core.specs.Head.{head_bytes}
 use Rattle.vte_core.specs.IgnoredString.{ignored_string_outcome}
 use Rattle.vte_core.specs.Outcome.{CharacterToClose, closing_events, CommandToClose, ControlSequenceToClose, DeviceDataToClose, DeviceHeadToClose, EscapeToClose, IgnoredStringToClose, NothingToClose, Outcome, report, ToClose}
-use Rattle.vte_core.specs.CutBefore.{cut_before}
 use Rattle.vte_core.specs.Stream.{cut_at_escape, events, outcome, with_bodies}
 use Rattle.vte_core.specs.SystemCommand.{ends_system_command, items_of, loses_data, pieces_of, system_command_rest}
 use Rattle.vte_core.specs.Text.{executed_events, text_outcome}

@@ -2,9 +2,9 @@
 use Rattle.std.specs.Prelude.{Bool, List, not, take, ℕ, [], ⊤, ◌==◌, ◌∷◌, ◌≡◌}
 use Rattle.vte_core.specs.declared.head.HeadProgress.TheVariants.{Entry, IllShaped, Intermediates, Parameters}
 use Rattle.vte_core.specs.declared.parser.machine.Machine.{Machine}
+use Rattle.vte_core.specs.declared.parser.saved.Saved.{Saved}
 use Rattle.vte_core.specs.declared.parser.State.{State}
 use Rattle.vte_core.specs.declared.parser.State.TheVariants.{ControlSequence, DeviceControl, DeviceData, Escape, EscapeIntermediate, IgnoredString, SystemCommand, Text}
-use Rattle.vte_core.specs.declared.parser.saved.Saved.{Saved}
 use Rattle.vte_core.specs.declared.utf8.Unfinished.TheVariants.{Empty, One, Three, Two}
 use Rattle.vte_core.specs.private.Store.{ArePieceEnds, AreRawParts}
 

@@ -1,13 +1,13 @@
 -- Parts of a call's bytes: data, runs of text, how far a search in them goes, and how few looks
 -- are taken.
 use Rattle.std.specs.Prelude.{Bool, drop, false, length, List, map, min, slice_index, take, ℕ, ◌+◌, ◌-◌, ◌<◌, ◌≡◌, ◌≤◌}
-use Rattle.vte_core.specs.Class.{class_of, ends_sequence, IsDeviceData}
 use Rattle.std.specs.Str.{chars, IsUtf8}
-use Rattle.vte_core.specs.Event.{after, Event}
-use Rattle.vte_core.specs.Text.{IsRunText, run_event}
+use Rattle.vte_core.specs.Class.{class_of, ends_sequence, IsDeviceData}
 use Rattle.vte_core.specs.declared.reader.Reader.{Reader}
 use Rattle.vte_core.specs.declared.reader.Window.{Window}
+use Rattle.vte_core.specs.Event.{after, Event}
 use Rattle.vte_core.specs.Looks.{looks_of}
+use Rattle.vte_core.specs.Text.{IsRunText, run_event}
 
 -- `holds` is true of each byte from `from` up to `to`.
 abbrev pub Each : (ℕ → Type 0) → List ℕ → ℕ → ℕ → Type 0

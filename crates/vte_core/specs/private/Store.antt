@@ -1,7 +1,7 @@
 -- The stored part of an operating system command, and of groups.
-use Rattle.std.specs.Prelude.{All, Bool, drop, false, if◌then◌else◌, length, List, nat_lt, None, Option, option_to_list, Some, suc, sum, take, true, zero, ℕ, [], ⊤, ◌++◌, ◌+◌, ◌-◌, ◌<◌, ◌==◌, ◌∷◌, ◌≡◌, ◌≤◌}
 use Rattle.std.specs.List.{filter, slice_range}
 use Rattle.std.specs.List.Sorted.{IsNonDecreasing}
+use Rattle.std.specs.Prelude.{All, Bool, drop, false, if◌then◌else◌, length, List, nat_lt, None, Option, option_to_list, Some, suc, sum, take, true, zero, ℕ, [], ⊤, ◌++◌, ◌+◌, ◌-◌, ◌<◌, ◌==◌, ◌∷◌, ◌≡◌, ◌≤◌}
 use Rattle.vte_core.specs.CommandMemory.{StoredCommand}
 use Rattle.vte_core.specs.Parameters.{max_numbers, max_value, semicolon}
 use Rattle.vte_core.specs.SystemCommand.{is_data_item, kept_after, max_pieces, pieces_of}

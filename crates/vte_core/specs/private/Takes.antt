@@ -1,14 +1,14 @@
 -- What the parser did with a byte, or several: the events that a performer received, with the
 -- count of looks, and the place at which the parser then is.
 use Rattle.std.specs.Prelude.{List, Option, ℕ, ◌+◌, ◌≡◌, ◌≤◌}
-use Rattle.vte_core.specs.declared.reader.Reader.{Reader}
-use Rattle.vte_core.specs.Event.{after, Event}
-use Rattle.vte_core.specs.Looks.{looks_of}
 use Rattle.vte_core.specs.declared.parser.machine.Machine.{Machine}
 use Rattle.vte_core.specs.declared.parser.State.TheVariants.{Text}
+use Rattle.vte_core.specs.declared.reader.Reader.{Reader}
 use Rattle.vte_core.specs.declared.utf8.Unfinished.TheVariants.{Empty}
-use Rattle.vte_core.specs.private.Place.{BytesLead, Leads, Place}
+use Rattle.vte_core.specs.Event.{after, Event}
+use Rattle.vte_core.specs.Looks.{looks_of}
 use Rattle.vte_core.specs.private.AtPlace.{IsAtPlace}
+use Rattle.vte_core.specs.private.Place.{BytesLead, Leads, Place}
 
 -- The performer received the event, which counts one look.
 pub record Reports {V : Type 0} (step : V → Event → V) (old new : V) (event : Event)

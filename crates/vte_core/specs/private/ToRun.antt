@@ -1,16 +1,16 @@
 -- How far a call has come that returns a run.
 use Rattle.std.specs.Prelude.{drop, Err, false, length, List, map, Ok, Option, Result, slice_index, take, true, ℕ, [], ⊤, ◌++◌, ◌-◌, ◌<◌, ◌≡◌}
 use Rattle.std.specs.Str.{chars}
+use Rattle.vte_core.specs.Class.{class_of, is_device_data, IsDeviceData}
+use Rattle.vte_core.specs.declared.parser.machine.Machine.{Machine}
+use Rattle.vte_core.specs.declared.parser.refused.Refused.{Refused}
+use Rattle.vte_core.specs.declared.parser.State.{State}
+use Rattle.vte_core.specs.declared.parser.State.TheVariants.{DeviceData, Text}
 use Rattle.vte_core.specs.declared.reader.run.RunKind.{RunKind}
 use Rattle.vte_core.specs.declared.reader.run.RunKind.TheVariants.{Data as DataKind, NoRun, Text as TextKind}
 use Rattle.vte_core.specs.declared.reader.run.RunRange.{RunRange}
 use Rattle.vte_core.specs.declared.reader.run.Taken.{Taken}
 use Rattle.vte_core.specs.declared.reader.run.Taken.TheVariants.{Data, Nothing, Text as TakenText}
-use Rattle.vte_core.specs.declared.parser.machine.Machine.{Machine}
-use Rattle.vte_core.specs.declared.parser.refused.Refused.{Refused}
-use Rattle.vte_core.specs.declared.parser.State.{State}
-use Rattle.vte_core.specs.declared.parser.State.TheVariants.{DeviceData, Text}
-use Rattle.vte_core.specs.Class.{class_of, is_device_data, IsDeviceData}
 use Rattle.vte_core.specs.Event.{Event, Print, Put}
 use Rattle.vte_core.specs.private.AtPlace.{HasReadWithLimit}
 use Rattle.vte_core.specs.private.Progress.{ChunkCall, IsAtPosition}

@@ -4,8 +4,8 @@
 //! that most bytes take do nothing after a call of another one, so they save no registers.
 ghost use Rattle.std.specs.Prelude.{false, IfErr, IfOk, length, List, ℕ, [], ◌≡◌, ◌≢◌};
 ghost use Rattle.vte_core.specs.Event.{Print, replacement};
-ghost use Rattle.vte_core.specs.Utf8.{from_to, is_in};
 ghost use Rattle.vte_core.specs.private.Prelude.{Advances, AnyEvents, bytes_of, caller_looks, chunk_call, DeviceData, Empty, EventsOutsideRuns, HasReadWithLimit, IsAtPosition, IsRefusedAt, lookahead, looks_of, MayReadAt, MayReadByte, per_byte, read_count, ReadsCall, ReadsWithin, SpendsWithin, Text};
+ghost use Rattle.vte_core.specs.Utf8.{from_to, is_in};
 
 use crate::buffer::Buffer;
 use crate::class::{ESCAPE, is_device_data, is_parameter_byte};

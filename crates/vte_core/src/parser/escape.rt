@@ -1,7 +1,6 @@
 //! Escape sequences, and what ESC begins.
 ghost use Rattle.std.specs.Prelude.{slice_index, true, [], ◌*◌, ◌+◌, ◌<◌, ◌∷◌, ◌≡◌, ◌≢◌, ◌≤◌};
-ghost use Rattle.vte_core.specs.private.Prelude.{Advances, AtEscape, caller_looks, Dispatches, Empty, Escape, EscapeIntermediate, EscDispatch, EventsOutsideRuns, HandlesByteWithin, IsSettledPlace, MayRead, MayReadAt, per_byte, Place, ReadsWithin, TakesBytes};
-ghost use Rattle.vte_core.specs.private.Prelude.{chunk_call, class_of, is_final, IsAtPlace, looks_of, TakesByte, Text};
+ghost use Rattle.vte_core.specs.private.Prelude.{Advances, AtEscape, caller_looks, chunk_call, class_of, Dispatches, Empty, Escape, EscapeIntermediate, EscDispatch, EventsOutsideRuns, HandlesByteWithin, is_final, IsAtPlace, IsSettledPlace, looks_of, MayRead, MayReadAt, per_byte, Place, ReadsWithin, TakesByte, TakesBytes, Text};
 
 use crate::buffer::Buffer;
 use crate::class::{

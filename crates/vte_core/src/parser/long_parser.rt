@@ -1,12 +1,11 @@
 //! The parser that keeps operating system commands of any length.
 ghost use Rattle.std.specs.Prelude.{false, IfErr, IfOk, length, List, None, true, ℕ, [], ◌+◌, ◌<◌, ◌≡◌, ◌≤◌};
-ghost use Rattle.vte_core.specs.LongParser.{HasReadLong, LacksMemoryForMore, long_parser_facts, lost_data_long, memory_of};
-ghost use Rattle.vte_core.specs.LongParser.{open_command_size};
-ghost use Rattle.vte_core.specs.Parser.{IsCloneOfParser};
+ghost use Rattle.vte_core.specs.LongParser.{HasReadLong, LacksMemoryForMore, long_parser_facts, lost_data_long, memory_of, open_command_size};
 ghost use Rattle.vte_core.specs.Open.{SaysOpen, SaysWhetherOpen};
 ghost use Rattle.vte_core.specs.Outcome.{SaysLoss};
-ghost use Rattle.vte_core.specs.Stream.{outcome};
+ghost use Rattle.vte_core.specs.Parser.{IsCloneOfParser};
 ghost use Rattle.vte_core.specs.private.Prelude.{chunk_call, ComesToRun, Costs, NoCharacterStops, per_byte, read_before_range, read_through_range, ReadsCall, ReadsUntilRefused, ReportsOutsideRuns, total_looks};
+ghost use Rattle.vte_core.specs.Stream.{outcome};
 
 use crate::parser::{Machine, Open, Refused, State};
 use crate::reader::{ByCharacter, Chunk, CountedPerform, Granularity, Looks, RunRange};

@@ -1,9 +1,9 @@
 //! A parser as plain data, for callers that can hold nothing else.
 ghost use Rattle.std.specs.Prelude.{length, List, take, ℕ, [], ◌≡◌, ◌≤◌};
-ghost use Rattle.vte_core.specs.Parser.{HasRead};
-ghost use Rattle.vte_core.specs.Saved.{HasReadSaved, IsZero};
 ghost use Rattle.vte_core.specs.declared.parser.State.{State};
+ghost use Rattle.vte_core.specs.Parser.{HasRead};
 ghost use Rattle.vte_core.specs.private.SavedLayout.{state_bytes};
+ghost use Rattle.vte_core.specs.Saved.{HasReadSaved, IsZero};
 
 use crate::head::HeadProgress;
 use crate::params::Params;

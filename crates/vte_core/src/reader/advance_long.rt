@@ -5,8 +5,8 @@ ghost use Rattle.vte_core.specs.Advance.{ReadsBytes, ReadsUntilTerminated};
 ghost use Rattle.vte_core.specs.AdvanceToRun.{ReadsToRun};
 ghost use Rattle.vte_core.specs.LongParser.{HasReadLong};
 ghost use Rattle.vte_core.specs.LongParserCalls.{ReadsLong};
-ghost use Rattle.vte_core.specs.OutsideRuns.{ReportsOutsideRuns};
 ghost use Rattle.vte_core.specs.Looks.{per_byte};
+ghost use Rattle.vte_core.specs.OutsideRuns.{ReportsOutsideRuns};
 
 use crate::parser::{LongParser, Refused};
 use crate::perform::{Perform, PerformText, PerformThroughText};

@@ -1,6 +1,6 @@
 //! The iterator over parts.
-ghost use Rattle.std.specs.Prelude.{length, ◌<◌, ◌≡◌, ◌≤◌};
 ghost use Rattle.std.specs.Iterator.{item_count, YieldsFirstRef};
+ghost use Rattle.std.specs.Prelude.{length, ◌<◌, ◌≡◌, ◌≤◌};
 ghost use Rattle.vte_core.specs.Parts.{next_escape, parts_after};
 
 use crate::class::ESCAPE;

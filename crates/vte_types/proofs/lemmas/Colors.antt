@@ -6,12 +6,12 @@ use Rattle.std.proofs.lemmas.Str.{digit_value-digit_char}
 use Rattle.std.specs.Char.{digit_value}
 use Rattle.std.specs.Fmt.{digit_glyph}
 use Rattle.std.specs.Prelude.{if◌then◌else◌, List, nat_lt, [], ◌∷◌}
-use Rattle.vte_types.specs.Rgb.{hex_color_of, hex_number, shown_byte, shown_color}
-use Rattle.vte_types.specs.declared.color.Rgb.{Rgb}
-use Rattle.vte_types.specs.NamedColor.{bright_of, dim_of, is_bright, is_dim, number_of_color}
-use Rattle.vte_types.specs.Words.{entry_of, Row}
 use Rattle.vte_types.specs.declared.color.NamedColor.{NamedColor}
 use Rattle.vte_types.specs.declared.color.NamedColor.TheVariants.{Background, Black, Blue, BrightBlack, BrightBlue, BrightCyan, BrightForeground, BrightGreen, BrightMagenta, BrightRed, BrightWhite, BrightYellow, Cursor, Cyan, DimBlack, DimBlue, DimCyan, DimForeground, DimGreen, DimMagenta, DimRed, DimWhite, DimYellow, Foreground, Green, Magenta, Red, White, Yellow}
+use Rattle.vte_types.specs.declared.color.Rgb.{Rgb}
+use Rattle.vte_types.specs.NamedColor.{bright_of, dim_of, is_bright, is_dim, number_of_color}
+use Rattle.vte_types.specs.Rgb.{hex_color_of, hex_number, shown_byte, shown_color}
+use Rattle.vte_types.specs.Words.{entry_of, Row}
 
 -- ---- texts
 

@@ -4,11 +4,11 @@ use Rattle.std.proofs.Common.{ap, arith, Bool, Bor, cond, drop, drop-cons, eqb, 
 use Rattle.std.proofs.lemmas.Bool.{and_parts, false_from_ne_true, ltb-true}
 use Rattle.std.proofs.lemmas.Bool.Decides.{nat_tests}
 use Rattle.std.proofs.lemmas.Slice.Eq.{bytes_eq-Decides}
+use Rattle.std.proofs.lemmas.Str.{is_utf8-from_IsUtf8, IsUtf8-from_ascii}
 use Rattle.std.specs.Prelude.{bytes_eq, map, nat_lt, ◌&&◌}
 use Rattle.std.specs.Str.{is_utf8, IsAscii}
-use Rattle.vte_types.specs.Words.{after_word, entry_of_word}
-use Rattle.std.proofs.lemmas.Str.{is_utf8-from_IsUtf8, IsUtf8-from_ascii}
 use Rattle.vte_types.specs.CursorIcon.{icon_of, icons}
+use Rattle.vte_types.specs.Words.{after_word, entry_of_word}
 
 pub bytes_eq-other : (text word : List ℕ) → (text ≡ word → ⊥) → bytes_eq text word ≡ false
 bytes_eq-other text word differ = false_from_ne_true _ (λ equal. differ ((bytes_eq-Decides text word).0 equal))

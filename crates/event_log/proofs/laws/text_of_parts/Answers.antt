@@ -1,9 +1,9 @@
 -- The events of the stream are those of its parts (`events_of_parts`), and the text of joined events is joined.
 use Rattle.event_log.proofs.Common.{ap, flat_map, flat_map-append, List, refl, sym, ℕ, [], ◌++◌, ◌∙◌, ◌∷◌, ◌≡◌}
+use Rattle.event_log.proofs.laws.text_of_parts.Goals as goal
 use Rattle.event_log.specs.Plain.{plain_text, plain_text_of}
 use Rattle.vte_core.specs.Event.{Event}
 use Rattle.vte_core.specs.Stream.{events}
-use Rattle.event_log.proofs.laws.text_of_parts.Goals as goal
 
 texts-joined : (events_of : List ℕ → List Event) (parts : List (List ℕ))
     → flat_map (λ part. plain_text (events_of part)) parts ≡ plain_text (flat_map events_of parts)

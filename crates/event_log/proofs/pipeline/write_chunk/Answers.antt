@@ -1,6 +1,6 @@
 -- At first the chunk is unread. In the end nothing is, and a flush keeps what was written.
-use Rattle.event_log.proofs.Common.{nil_from_length, rules}
 use Rattle.std.proofs.lemmas.Result.{on_ok_weaker}
+use Rattle.event_log.proofs.Common.{nil_from_length, rules}
 use Rattle.event_log.proofs.lemmas.Progress.{written-before_chunk, written-kept}
 use Rattle.event_log.proofs.pipeline.write_chunk.Goals as goal
 

@@ -1,10 +1,10 @@
 -- The call may stop early, but only once the bell has rung, and no further event changes that.
 use Rattle.std.proofs.Common.{ap, arith, Bool, drop, false, length, List, refl, sym, true, ℕ, [], ◌∙◌, ◌∷◌, ◌≡◌}
+use Rattle.examples.proofs.bell.rings.Goals as goal
 use Rattle.examples.specs.Bell.{rung_after}
 use Rattle.vte_core.specs.EarlyStop.{resumed_stream, StopsExactly}
 use Rattle.vte_core.specs.Event.{after, Event, Execute}
 use Rattle.vte_core.specs.Stream.{added, default_limit, events}
-use Rattle.examples.proofs.bell.rings.Goals as goal
 
 stays : (event : Event) → rung_after true event ≡ true
 stays (Execute byte) = refl

@@ -1,7 +1,7 @@
 -- The devices are new, so they tell their bytes, and the lines that `run` writes are those that the writer holds.
 use Rattle.std.proofs.Common.{ap, Bool, Bor, false, is_some, List, Some, true, ℕ, [], ◌≡◌}
-use Rattle.examples.specs.Logged.{bytes_unless}
 use Rattle.examples.proofs.logged.lines.Goals as goal
+use Rattle.examples.specs.Logged.{bytes_unless}
 
 -- A new device tells what it has inside.
 tells : (failed : Bool) (inside given : Bor (List ℕ)) → failed ≡ false → inside ≡ given

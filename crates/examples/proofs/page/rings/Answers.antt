@@ -1,7 +1,7 @@
 -- Nothing is ever held, so the handler receives the calls of the whole stream.
 use Rattle.std.proofs.Common.{false, refl, []}
-use Rattle.vte_core.specs.Stream.{default_limit}
 use Rattle.examples.proofs.page.rings.Goals as goal
+use Rattle.vte_core.specs.Stream.{default_limit}
 
 pub returns : goal.returns
 returns c =

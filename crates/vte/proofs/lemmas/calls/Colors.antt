@@ -1,8 +1,8 @@
 -- Colours by numbers and by texts: which are no colour, and how much is read of them.
-use Rattle.vte.proofs.Common.{arith, decimal, drop, first_component, kind_reading, length, length-slice_split, List, map, map-id, nat_tests, None, refl, Some, split_by, ℕ, [], ◌+◌, ◌<◌, ◌==◌, ◌^◌, ◌∷◌, ◌≡◌, ◌≤◌}
-use Rattle.std.proofs.Math.Nat.{pow-le-pow_right}
-use Rattle.vte.specs.Colors.{color_of_parts}
 use Rattle.std.proofs.lemmas.Fmt.{length-decimal-le}
+use Rattle.std.proofs.Math.Nat.{pow-le-pow_right}
+use Rattle.vte.proofs.Common.{arith, decimal, drop, first_component, kind_reading, length, length-slice_split, List, map, map-id, nat_tests, None, refl, Some, split_by, ℕ, [], ◌+◌, ◌<◌, ◌==◌, ◌^◌, ◌∷◌, ◌≡◌, ◌≤◌}
+use Rattle.vte.specs.Colors.{color_of_parts}
 
 -- ---- colours by numbers
 

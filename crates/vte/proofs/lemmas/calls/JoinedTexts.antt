@@ -1,8 +1,8 @@
 -- Texts that are joined one by one: the buffer holds what was joined, the rest adds the others, and they fit (`Joins`).
 -- A title or a link of one piece needs no joining.
-use Rattle.vte.proofs.Common.{ap, append-nil, append_assoc, arith, Bool, Bor, concat, drop, drop_more, false, false_from_ne_true, filter_map, FitsTextCapacity, get_or, id_of, is_utf8, IsUtf8, join_with_byte, joined_size, joined_texts, length, length-append, link_to, List, map, None, Option, refl, Some, sym, text_in, text_to_join, true, ℕ, [], ◌++◌, ◌+◌, ◌<◌, ◌∙◌, ◌∷◌, ◌≡◌, ◌≤◌}
 use Rattle.std.proofs.lemmas.Str.{is_utf8-from_IsUtf8, IsUtf8-from_is_utf8}
 use Rattle.std.specs.Option.{option_map, unwrap_or}
+use Rattle.vte.proofs.Common.{ap, append-nil, append_assoc, arith, Bool, Bor, concat, drop, drop_more, false, false_from_ne_true, filter_map, FitsTextCapacity, get_or, id_of, is_utf8, IsUtf8, join_with_byte, joined_size, joined_texts, length, length-append, link_to, List, map, None, Option, refl, Some, sym, text_in, text_to_join, true, ℕ, [], ◌++◌, ◌+◌, ◌<◌, ◌∙◌, ◌∷◌, ◌≡◌, ◌≤◌}
 
 -- What texts add after others, each with a separator unless it is the first.
 abbrev joined_more : Bool → List (List ℕ) → List ℕ

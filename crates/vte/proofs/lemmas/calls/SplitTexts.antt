@@ -1,6 +1,6 @@
 -- Parts of a text: the first one ends at the first separator, and a text without one is its own part.
-use Rattle.vte.proofs.Common.{arith, Bool, Bor, drop, fails_before_first, length, List, None, Option, slice_split_first, slice_split_none, Some, sym, take, ℕ, [], ◌+◌, ◌<◌, ◌∷◌, ◌≡◌}
 use Rattle.std.specs.List.{position_or_len, slice_split}
+use Rattle.vte.proofs.Common.{arith, Bool, Bor, drop, fails_before_first, length, List, None, Option, slice_split_first, slice_split_none, Some, sym, take, ℕ, [], ◌+◌, ◌<◌, ◌∷◌, ◌≡◌}
 
 -- A text without a separator is split into one part.
 pub split-whole : (splits : ℕ → Bool) (text : List ℕ) → position_or_len splits text ≡ length text

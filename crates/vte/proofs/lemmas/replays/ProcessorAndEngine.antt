@@ -1,12 +1,12 @@
 -- The contracts of the processors, from what their engine ensures. That of a `LongProcessor` is its engine's. With a
 -- limit no memory is refused, since the memory for texts is there at any time.
 use Rattle.vte.proofs.Common.{AdvancesInTurns, AdvancesLong, AdvancesUntilRefused, ap, arith, Bor, counts_data, drop, Engine, engine_facts, engine_facts_with, EngineView, Err, HasAdvanced, HasAdvancedPart, HasParsedAndHolds, HasTextMemory, IsAt, length, length-append, length-drop, limited_engine_view, List, long_facts, Meaning, Ok, ParserHasMemory, ProcessorFacts, ProcessorLacksMemory, refl, Refused, Result, State, StopsSync, ℕ, [], ◌++◌, ◌+◌, ◌-◌, ◌<◌, ◌≡◌}
-use Rattle.vte_core.specs.declared.parser.Parser.{Parser}
 use Rattle.vte.proofs.lemmas.replays.WithoutUpdates.{plain_call}
 use Rattle.vte.proofs.lemmas.turns.EngineTurns.{has_advanced, taken-to}
+use Rattle.vte.proofs.lemmas.turns.RefusedTurns.{progresses-until_refused}
 use Rattle.vte.specs.declared.ansi.calls.joined_text.TheConstants.{TEXT_CAPACITY}
 use Rattle.vte.specs.declared.ansi.long_processor.LongProcessor.{LongProcessor}
-use Rattle.vte.proofs.lemmas.turns.RefusedTurns.{progresses-until_refused}
+use Rattle.vte_core.specs.declared.parser.Parser.{Parser}
 
 -- What a call of any processor ensures if it has read all its bytes.
 module _ {T V W : Type 0} {meaning : Meaning V W} {processor next : ProcessorFacts T W} {old new : V}

@@ -2,11 +2,11 @@
 -- handler has received their calls. A steady timeout allows one answer in each state, so where the list leads is then a
 -- function of its calls (`replay-only_one`).
 use Rattle.vte.proofs.Common.{Advance, ap, append-nil, append_assoc, append_cancel_right, arith, Bool, Bor, done, drop, drop_more, get_or, given_bytes, HasAdvanced, HasAdvancedPart, HasDelivered, HasReplayed, HoldInvariantAt, IsSteady, length, List, Meaning, refl, rules, State, Step, stop, StopSync, sym, take, take-append-drop, take_more, TakesAllTurns, TakesSteps, TakesTurnsUntilRefused, turns, ℕ, [], ◌++◌, ◌+◌, ◌-◌, ◌<◌, ◌∙◌, ◌∷◌, ◌≡◌}
+use Rattle.vte.proofs.lemmas.replays.ReceivedCalls.{delivers-refused, delivers-replay, HasStillToDeliver}
 use Rattle.vte.proofs.lemmas.turns.EachOnce.{progresses-before, progresses-replay, progresses-then}
 use Rattle.vte.proofs.lemmas.turns.HoldFacts.{stop-invariant, turn-invariant, turns-invariant}
-use Rattle.vte.specs.Refusal.{IsFirstRefused}
 use Rattle.vte.proofs.lemmas.turns.RefusedTurns.{progresses-until_refused}
-use Rattle.vte.proofs.lemmas.replays.ReceivedCalls.{delivers-refused, delivers-replay, HasStillToDeliver}
+use Rattle.vte.specs.Refusal.{IsFirstRefused}
 
 -- The refused step is the first of those that are left.
 pub first_lacks : {i : ℕ} {bytes : Bor (List ℕ)} (lacks : ℕ → Type 0) (steps : List Step) (missing : Step) (read : ℕ)

@@ -1,10 +1,10 @@
 -- Each given byte is parsed or held, once and in order. Each turn and stop keeps `Progresses`: parsed, held and left
 -- bytes together are those of before, and `Progresses` composes over the turns of a call and over calls.
-use Rattle.vte.proofs.Common.{Advance, after_last_end, all_bytes, ap, append-nil, append_assoc, arith, Bool, cases_Bool, done, drop, extend, given_bytes, hold_turn, inl, inr, length, List, Meaning, Option, parse, prefix_to_begin, refl, release, rules, State, Step, stop, StopSync, sym, take-append-drop, TakesSteps, TakesTurns, turn, turns, ℕ, [], ◌++◌, ◌-◌, ◌∙◌, ◌∷◌, ◌≡◌}
 use Rattle.std.proofs.lemmas.List.{nil_from_length}
+use Rattle.vte.proofs.Common.{Advance, after_last_end, all_bytes, ap, append-nil, append_assoc, arith, Bool, cases_Bool, done, drop, extend, given_bytes, hold_turn, inl, inr, length, List, Meaning, Option, parse, prefix_to_begin, refl, release, rules, State, Step, stop, StopSync, sym, take-append-drop, TakesSteps, TakesTurns, turn, turns, ℕ, [], ◌++◌, ◌-◌, ◌∙◌, ◌∷◌, ◌≡◌}
+use Rattle.vte.proofs.lemmas.turns.TurnKinds.{hold_turn-all, hold_turn-rest, is_held, stop_if_due, turn-holds, turn-parses}
 use Rattle.vte.proofs.lemmas.updates.Prefixes.{prefix-is}
 use Rattle.vte.proofs.lemmas.updates.Sequences.{cases_Option, stays-is}
-use Rattle.vte.proofs.lemmas.turns.TurnKinds.{hold_turn-all, hold_turn-rest, is_held, stop_if_due, turn-holds, turn-parses}
 
 pub prefix-rest : (limit : Option ℕ) (stream bytes : List ℕ)
     → prefix_to_begin limit stream bytes ++ drop (length (prefix_to_begin limit stream bytes)) bytes ≡ bytes

@@ -1,11 +1,11 @@
 -- From turns to a call: what the private functions ensure of parser, hold and handler is put together into `HasTurned`
 -- and `HasBeenRefused`, and the loop over turns into `TakesTurns` and `TakesTurnsUntilRefused`.
-use Rattle.vte.proofs.Common.{AdvancesUntilRefused, all_bytes, ap, append_assoc, append_cancel_right, arith, between_turns, Bool, done, drop, drop-drop, drop_all, EndsParsingTurn, EndsTurn, Engine, engine_facts, EngineIsAt, EngineView, Err, false, HasAdvanced, HasAdvancedPart, HasBeenRefused, HasParsedPrefix, HasParsedWithoutBegin, HasTurned, held_of, hold_turn, inside_turn, IsAt, IsAtKeepingMemory, KeepsMemory, length, length-drop, List, MatchResult, Meaning, Ok, parse, PartsAreAt, PartsAreAtKeepingMemory, PartsAreAtWithMemory, ProcessorFacts, ProcessorLacksMemory, ProcessorState, refl, Refused, Reserves, Result, rules, State, stop, StopsSync, sym, take, take-append-drop, take_all, TakesTurns, TakesTurnsUntilRefused, true, turn, ℕ, [], ◌++◌, ◌+◌, ◌-◌, ◌<◌, ◌∙◌, ◌≡◌, ◌≤◌}
-use Rattle.vte.proofs.lemmas.turns.TurnKinds.{is_held, refused-by_parsing, stop_if_due, turn-holds, turn-parses}
-use Rattle.vte.proofs.lemmas.turns.EachOnce.{all_bytes-grown}
-use Rattle.vte.proofs.lemmas.turns.Slices.{parsing-refused}
-use Rattle.vte.proofs.lemmas.turns.RefusedTurns.{progresses-until_refused, taken_on, takes-one, until_refused-all, until_refused-invariant, until_refused-on}
 use Rattle.std.proofs.lemmas.List.{take_rest}
+use Rattle.vte.proofs.Common.{AdvancesUntilRefused, all_bytes, ap, append_assoc, append_cancel_right, arith, between_turns, Bool, done, drop, drop-drop, drop_all, EndsParsingTurn, EndsTurn, Engine, engine_facts, EngineIsAt, EngineView, Err, false, HasAdvanced, HasAdvancedPart, HasBeenRefused, HasParsedPrefix, HasParsedWithoutBegin, HasTurned, held_of, hold_turn, inside_turn, IsAt, IsAtKeepingMemory, KeepsMemory, length, length-drop, List, MatchResult, Meaning, Ok, parse, PartsAreAt, PartsAreAtKeepingMemory, PartsAreAtWithMemory, ProcessorFacts, ProcessorLacksMemory, ProcessorState, refl, Refused, Reserves, Result, rules, State, stop, StopsSync, sym, take, take-append-drop, take_all, TakesTurns, TakesTurnsUntilRefused, true, turn, ℕ, [], ◌++◌, ◌+◌, ◌-◌, ◌<◌, ◌∙◌, ◌≡◌, ◌≤◌}
+use Rattle.vte.proofs.lemmas.turns.EachOnce.{all_bytes-grown}
+use Rattle.vte.proofs.lemmas.turns.RefusedTurns.{progresses-until_refused, taken_on, takes-one, until_refused-all, until_refused-invariant, until_refused-on}
+use Rattle.vte.proofs.lemmas.turns.Slices.{parsing-refused}
+use Rattle.vte.proofs.lemmas.turns.TurnKinds.{is_held, refused-by_parsing, stop_if_due, turn-holds, turn-parses}
 
 -- If an engine is at a state, so are its parts.
 module _ {P B T A V W : Type 0} {view : EngineView P B T W} {engine : Engine P B T A} {value : V} {state : State V W}

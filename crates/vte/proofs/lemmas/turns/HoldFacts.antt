@@ -1,10 +1,10 @@
 -- Turns and stops keep `HoldInvariant`: by cases of the timeout's answer and of what a hold turn keeps, which is all,
 -- or starts with a begin-update, or is nothing.
 use Rattle.vte.proofs.Common.{added, after_last_end, AllowsOnly, ap, append-nil, arith, begin_count, begin_update, begins_ending_in_last, Bool, cases_Bool, cases_lt, done, extend, from_begin_update, hold_turn, HoldInvariantAt, inl, inr, IsInsideUpdate, IsOutsideUpdate, IsSteady, length, length-append, List, max_held, Meaning, nat_tests, parsing_turn, part_after_last_end, prefix_to_begin, refl, release, rules, State, stop, suc, take, TakesTurns, timeout_set_times, TimeoutMeaning, true, turn, turns, update_nanos, zero, ℕ, [], ◌++◌, ◌-◌, ◌<◌, ◌∷◌, ◌≡◌, ◌≤◌}
+use Rattle.vte.proofs.lemmas.turns.EachOnce.{stop_if_due-holds_nothing}
+use Rattle.vte.proofs.lemmas.turns.TurnKinds.{hold_turn-all, hold_turn-rest, is_held, stop_if_due, turn-holds, turn-parses}
 use Rattle.vte.proofs.lemmas.updates.Prefixes.{prefix-is}
 use Rattle.vte.proofs.lemmas.updates.Sequences.{cases_Option, is_prefix_of-append, stays_held, StaysHeld, suffix-length}
-use Rattle.vte.proofs.lemmas.turns.TurnKinds.{hold_turn-all, hold_turn-rest, is_held, stop_if_due, turn-holds, turn-parses}
-use Rattle.vte.proofs.lemmas.turns.EachOnce.{stop_if_due-holds_nothing}
 
 -- ---- a steady timeout is pending once it is set, and stays so when it is set again
 

@@ -1,11 +1,11 @@
 -- A hold turn, of states and of the engine: bytes join the hold, the timeout is set as often as they begin updates, and
 -- what the hold releases is parsed, with a stop if nothing stays held.
-use Rattle.vte.proofs.Common.{AddsToHold, after_last_end, ap, arith, Engine, engine_facts, EngineIsAt, EngineView, extend, from_begin_update, held_of, hold_turn, inl, inr, IsAtKeepingMemory, length, length-append, length-take, List, Meaning, parse, PartsAreAt, PartsAreAtKeepingMemory, PartsAreAtWithMemory, refl, release, released_of, rules, State, still_held, stop, sym, take, take_all, timeout_set_times, with_held, ℕ, [], ◌++◌, ◌+◌, ◌-◌, ◌<◌, ◌∙◌, ◌∷◌, ◌≡◌}
 use Rattle.std.proofs.lemmas.List.{nil_from_length}
+use Rattle.vte.proofs.Common.{AddsToHold, after_last_end, ap, arith, Engine, engine_facts, EngineIsAt, EngineView, extend, from_begin_update, held_of, hold_turn, inl, inr, IsAtKeepingMemory, length, length-append, length-take, List, Meaning, parse, PartsAreAt, PartsAreAtKeepingMemory, PartsAreAtWithMemory, refl, release, released_of, rules, State, still_held, stop, sym, take, take_all, timeout_set_times, with_held, ℕ, [], ◌++◌, ◌+◌, ◌-◌, ◌<◌, ◌∙◌, ◌∷◌, ◌≡◌}
+use Rattle.vte.proofs.lemmas.turns.Slices.{parse-nothing}
+use Rattle.vte.proofs.lemmas.turns.TurnKinds.{hold_turn-all, hold_turn-rest}
 use Rattle.vte.proofs.lemmas.updates.Sequences.{cases_Option, stays_held, suffix-length}
 use Rattle.vte.specs.declared.ansi.updates.hold.SyncState.{SyncState}
-use Rattle.vte.proofs.lemmas.turns.TurnKinds.{hold_turn-all, hold_turn-rest}
-use Rattle.vte.proofs.lemmas.turns.Slices.{parse-nothing}
 
 module _ {V W : Type 0} (meaning : Meaning V W) where
   abbrev cut : State V W → List ℕ → State V W

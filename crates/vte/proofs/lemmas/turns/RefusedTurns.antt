@@ -2,11 +2,11 @@
 -- in a further call. The refused turn leaves nothing held and is outside an update, so they do what they would have
 -- done (`until_refused-goes_on`).
 use Rattle.vte.proofs.Common.{ap, arith, between_turns, Bool, done, drop, drop-append-add, false, HasBeenRefused, HoldInvariantAt, inl, inside_turn, IsOutsideUpdate, IsSteady, length, length-append, List, Meaning, parsing_turn, ParsingTurn, ParsingTurnIsRefused, prefix_to_begin, refl, rules, State, subst, TakesAllTurns, TakesTurns, TakesTurnsUntilRefused, turn, turn_kind_of, turns, ℕ, [], ◌++◌, ◌<◌, ◌∙◌, ◌∷◌, ◌≡◌}
-use Rattle.vte.proofs.lemmas.updates.Prefixes.{prefix-after}
-use Rattle.vte.proofs.lemmas.turns.TurnKinds.{ParsesUntilRefused, refused-parses, stop_if_due, turn-parses}
 use Rattle.vte.proofs.lemmas.turns.EachOnce.{Progresses, progresses-parse, progresses-stop_if_due, progresses-then, progresses-turns, stop_if_due-holds_nothing}
 use Rattle.vte.proofs.lemmas.turns.HoldFacts.{turns-invariant}
 use Rattle.vte.proofs.lemmas.turns.Slices.{parse-append}
+use Rattle.vte.proofs.lemmas.turns.TurnKinds.{ParsesUntilRefused, refused-parses, stop_if_due, turn-parses}
+use Rattle.vte.proofs.lemmas.updates.Prefixes.{prefix-after}
 
 -- ---- turns of a call, and one after them that is refused memory
 

@@ -1,7 +1,7 @@
 -- What a turn is, by cases: a hold turn by whether the hold has an end-update, and any turn by whether its bytes are
 -- held. If they aren't, an update that is due is stopped first, and the bytes are parsed.
-use Rattle.vte.proofs.Common.{after_last_end, arith, Bool, extend, false, from_begin_update, hold_turn, length, List, max_held, Meaning, nat_le, nat_lt, None, parsing_turn, ParsingTurnIsRefused, refl, release, rules, Some, State, stop, true, turn, TurnIsRefused, ℕ, [], ◌++◌, ◌+◌, ◌||◌, ◌≡◌}
 use Rattle.std.specs.Prelude.{if◌then◌else◌, ◌&&◌}
+use Rattle.vte.proofs.Common.{after_last_end, arith, Bool, extend, false, from_begin_update, hold_turn, length, List, max_held, Meaning, nat_le, nat_lt, None, parsing_turn, ParsingTurnIsRefused, refl, release, rules, Some, State, stop, true, turn, TurnIsRefused, ℕ, [], ◌++◌, ◌+◌, ◌||◌, ◌≡◌}
 
 -- ---- hold turns
 

@@ -1,7 +1,7 @@
 -- An early stop reads exactly the prefix up to the byte that begins an update. Such a byte ends a control sequence, so
 -- no character is open or broken there, and the prefix is the shortest that adds a begin.
-use Rattle.vte_core.proofs.lemmas.shapes.BrokenCharacters.{breaks_at-all, breaks_at-settled, reported-broken}
 use Rattle.vte.proofs.Common.{added, added-append, added-nothing, ap, append-nil, append_assoc, arith, begin_count, breaks_at, cases_Bool, cases_lt, EndsInBegin, Event, false, inl, inr, length, List, nat_lt, nat_tests, open_character, opens_silently, Option, prefix_to_begin, refl, reported-settled, reported_before, rules, subst, suc, take, take_all, zero, ℕ, [], ◌++◌, ◌+◌, ◌<◌, ◌∙◌, ◌∷◌, ◌≡◌, ◌≤◌}
+use Rattle.vte_core.proofs.lemmas.shapes.BrokenCharacters.{breaks_at-all, breaks_at-settled, reported-broken}
 
 -- ---- how often bytes begin an update
 

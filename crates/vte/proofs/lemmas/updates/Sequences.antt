@@ -1,7 +1,7 @@
 -- The two sequences of updates in a text, and the parts after them. Both have eight bytes and one ESC, so they never
 -- overlap; without an end-update in the older bytes, their last seven decide as all of them would.
-use Rattle.vte.proofs.Common.{after_last_end, after_word, ap, arith, begin_update, begins_ending_in_last, cases_Bool, cases_lt, drop, drop-drop, end_update, false, from_begin_update, inl, inr, is_prefix_of, length, length-append, length-drop, List, nat_tests, None, Option, refl, rules, Some, still_held, suc, sym, true, zero, zero-add, ℕ, [], ◌++◌, ◌+◌, ◌-◌, ◌<◌, ◌∷◌, ◌≡◌, ◌≤◌, ◌⊎◌}
 use Rattle.std.specs.Prelude.{is_some, nat_lt}
+use Rattle.vte.proofs.Common.{after_last_end, after_word, ap, arith, begin_update, begins_ending_in_last, cases_Bool, cases_lt, drop, drop-drop, end_update, false, from_begin_update, inl, inr, is_prefix_of, length, length-append, length-drop, List, nat_tests, None, Option, refl, rules, Some, still_held, suc, sym, true, zero, zero-add, ℕ, [], ◌++◌, ◌+◌, ◌-◌, ◌<◌, ◌∷◌, ◌≡◌, ◌≤◌, ◌⊎◌}
 
 -- An `Option` by cases, for `elim`.
 pub cases_Option : {A : Type 0} (option : Option A) → (option ≡ None) ⊎ ((x : A) × (option ≡ Some x))

@@ -1,12 +1,12 @@
 //! The calls of operating system commands.
 ghost use Rattle.std.specs.Prelude.{bytes_eq, codes, map, ◌≡◌, ◌≤◌};
 ghost use Rattle.vte.specs.CommandCalls.{all_reset, clipboard_calls, color_calls, dynamic_calls, dynamic_color_calls, dynamic_colors, link_calls, link_to, palette_calls, palette_entry_calls, pointer_calls, reset_calls, shape_calls, system_command_calls, title_calls};
-ghost use Rattle.vte_types.specs.Words.{entry_of};
-ghost use Rattle.vte.specs.private.Performer.{FitsTextCapacity};
 ghost use Rattle.vte.specs.Numbers.{decimal_number};
+ghost use Rattle.vte.specs.private.Performer.{FitsTextCapacity};
 ghost use Rattle.vte_handler.specs.Call.{SetHyperlink};
 ghost use Rattle.vte_handler.specs.Handler.{after};
 ghost use Rattle.vte_types.specs.CursorIcon.{icon_of};
+ghost use Rattle.vte_types.specs.Words.{entry_of};
 
 use crate::ansi::calls::color_text::xparse_color;
 use crate::ansi::calls::joined_text::{join_texts, text_in};

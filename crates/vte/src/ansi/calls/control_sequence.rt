@@ -5,8 +5,8 @@ ghost use Rattle.vte.specs.Numbers.{first_numbers};
 ghost use Rattle.vte.specs.OptionalCalls.{call_some};
 ghost use Rattle.vte.specs.SelectedValues.{clear_line_table, clear_screen_table, clear_tabs_table, cursor_style_table, modify_other_keys_table};
 ghost use Rattle.vte_handler.specs.Call as call;
-ghost use Rattle.vte_types.specs.Words.{entry_of};
 ghost use Rattle.vte_handler.specs.Handler.{after};
+ghost use Rattle.vte_types.specs.Words.{entry_of};
 
 use crate::ansi::calls::input::InputAs;
 use crate::ansi::calls::numbers::{NumberIterator, first_number};

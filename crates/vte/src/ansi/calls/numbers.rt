@@ -1,6 +1,6 @@
 //! The numbers of a control sequence, and those in texts of commands.
-ghost use Rattle.std.specs.Prelude.{drop, length, List, map, ℕ, ◌++◌, ◌+◌, ◌<◌, ◌≡◌, ◌≤◌};
 ghost use Rattle.std.specs.Fmt.{decimal};
+ghost use Rattle.std.specs.Prelude.{drop, length, List, map, ℕ, ◌++◌, ◌+◌, ◌<◌, ◌≡◌, ◌≤◌};
 ghost use Rattle.vte.specs.Numbers.{decimal_number, first_nonzero_or, first_number as first_of_group, first_of};
 
 use crate::ansi::calls::text_buffer::TextBuffer;

@@ -1,10 +1,10 @@
 //! The performer that calls a handler.
 ghost use Rattle.std.specs.Prelude.{false, map, ◌≡◌};
 ghost use Rattle.std.specs.Str.{chars};
-ghost use Rattle.vte_core.specs.Event.{Print};
 ghost use Rattle.vte.specs.Calls.{last_printed_from};
-ghost use Rattle.vte.specs.private.Performing.{performer_value, with_private_mode, with_private_modes};
 ghost use Rattle.vte.specs.private.Performer.{fits_text_capacity};
+ghost use Rattle.vte.specs.private.Performing.{performer_value, with_private_mode, with_private_modes};
+ghost use Rattle.vte_core.specs.Event.{Print};
 ghost use Rattle.vte_handler.specs.Timeout.{timeout_meaning};
 
 use crate::ansi::calls::command::perform_system_command;
@@ -40,7 +40,7 @@ pub(crate) struct Performer<'s, 'h, H: Handler, T: Timeout + Drop, B: TextBuffer
 
 impl<'s, 'h, H: InputAs<G>, T: Timeout + Drop, B: TextBuffer + Drop, G> Perform
     for Performer<'s, 'h, H, T, B, G> {
-    ghost use Rattle.vte.specs.private.Performer.{PerformerValue, performer_with_event};
+    ghost use Rattle.vte.specs.private.Performer.{performer_with_event, PerformerValue};
 
     ghost Value = { PerformerValue H.Value T.Value };
 

@@ -1,8 +1,8 @@
 //! Select graphic rendition (SGR).
 ghost use Rattle.std.specs.Prelude.{drop, option_map, ◌≡◌};
 ghost use Rattle.vte.specs.Rendition.{attribute_calls, attribute_table, color_table, rendition, underline_of};
-ghost use Rattle.vte_types.specs.Words.{entry_of};
 ghost use Rattle.vte_handler.specs.Handler.{after};
+ghost use Rattle.vte_types.specs.Words.{entry_of};
 
 use crate::ansi::calls::color_reader::{read_color, read_joined_color};
 use crate::ansi::calls::numbers::first_number;

@@ -1,7 +1,7 @@
 //! What the numbers of control sequences select.
 ghost use Rattle.std.specs.Prelude.{◌≡◌};
-ghost use Rattle.vte_types.specs.Words.{entry_of};
 ghost use Rattle.vte.specs.SelectedValues.{behavior_of, bottom_of, char_path_table, keyboard_modes, scp_update_table};
+ghost use Rattle.vte_types.specs.Words.{entry_of};
 
 use vte_types::{KeyboardModes, KeyboardModesApplyBehavior, ScpCharPath, ScpUpdateMode};
 

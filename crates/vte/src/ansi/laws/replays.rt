@@ -1,9 +1,9 @@
 //! Lists of a processor's calls.
 ghost use Rattle.std.specs.Prelude.{IfErr, IfOk, None};
 ghost use Rattle.vte.specs.LongProcessor.{ProcessorLacksMemory};
-ghost use Rattle.vte.specs.ProcessorFacts.{long_facts, processor_facts};
 ghost use Rattle.vte.specs.Processor.{processor_meaning, State};
 ghost use Rattle.vte.specs.ProcessorCalls.{IsAt, Replays};
+ghost use Rattle.vte.specs.ProcessorFacts.{long_facts, processor_facts};
 ghost use Rattle.vte.specs.Refusal.{HasReplayedUntil, left_by};
 ghost use Rattle.vte_core.specs.Stream.{default_limit};
 

@@ -1,13 +1,13 @@
 //! What a processor is, whatever its limit. It takes turns: each parses bytes of a call, or holds
 //! them back.
 ghost use Rattle.std.specs.Prelude.{IfErr, IfOk, length, MatchResult, nat_le, ℕ, [], ◌+◌, ◌-◌, ◌<◌, ◌≡◌, ◌≤◌};
-ghost use Rattle.vte.specs.Views.{engine_view};
-ghost use Rattle.vte.specs.ProcessorFacts.{engine_facts, held_of};
-ghost use Rattle.vte.specs.ProcessorCalls.{StopsSync};
+ghost use Rattle.vte.specs.LongProcessor.{AdvancesUntilRefused, ProcessorLacksMemory, Reserves};
+ghost use Rattle.vte.specs.private.Engine.{EndsParsingTurn, EndsTurn, IsAtKeepingMemory, LeadsOn, PartsAreAt, PartsAreAtKeepingMemory, PartsHaveMemory, PartsLeaveMemory};
 ghost use Rattle.vte.specs.private.Hold.{released_of};
 ghost use Rattle.vte.specs.Processor.{hold_turn, max_held, parse, processor_meaning, State, stop, timeout_set_times};
-ghost use Rattle.vte.specs.private.Engine.{EndsParsingTurn, EndsTurn, IsAtKeepingMemory, LeadsOn, PartsAreAt, PartsAreAtKeepingMemory, PartsHaveMemory, PartsLeaveMemory};
-ghost use Rattle.vte.specs.LongProcessor.{AdvancesUntilRefused, ProcessorLacksMemory, Reserves};
+ghost use Rattle.vte.specs.ProcessorCalls.{StopsSync};
+ghost use Rattle.vte.specs.ProcessorFacts.{engine_facts, held_of};
+ghost use Rattle.vte.specs.Views.{engine_view};
 ghost use Rattle.vte_handler.specs.Timeout.{timeout_meaning};
 
 use crate::ansi::calls::performer::ProcessorState;

@@ -1,9 +1,9 @@
 //! The bytes of an update that are held back, in memory that is allocated once.
 ghost use Rattle.std.proofs.Props.{props};
 ghost use Rattle.std.specs.Prelude.{drop, IfOk, length, None, vec_capacity, [], ◌+◌, ◌≡◌, ◌≤◌};
-ghost use Rattle.vte.specs.Synchronized.{after_last_end};
-ghost use Rattle.vte.specs.Processor.{max_held};
 ghost use Rattle.vte.specs.declared.ansi.updates.hold.TheConstants.{CAPACITY};
+ghost use Rattle.vte.specs.Processor.{max_held};
+ghost use Rattle.vte.specs.Synchronized.{after_last_end};
 
 use crate::ansi::updates::release::find_release;
 use std::alloc::{AllocError, Allocator};
@@ -43,8 +43,8 @@ impl<A: Allocator + Clone> Clone for SyncState<A> {
 
 impl<A: Allocator> SyncState<A> {
     ghost use Rattle.vte.specs.private.Hold.{AddsToHold, released_of};
-    ghost use Rattle.vte.specs.ProcessorFacts.{held_of};
     ghost use Rattle.vte.specs.ProcessorCalls.{CountsHeld};
+    ghost use Rattle.vte.specs.ProcessorFacts.{held_of};
 
     /// Allocates the memory.
     pub(crate) fn new(alloc: A) -> Result<Self, AllocError>

@@ -1,8 +1,8 @@
 //! The parser of a processor without a limit. It allocates before it reads, so that no memory is
 //! refused while it reads.
 ghost use Rattle.std.specs.Prelude.{IfSome, None, ◌+◌, ◌^◌, ◌≡◌, ◌≤◌};
-ghost use Rattle.vte.specs.Views.{long_parser_view};
 ghost use Rattle.vte.specs.declared.ansi.calls.joined_text.TheConstants.{SEPARATORS};
+ghost use Rattle.vte.specs.Views.{long_parser_view};
 
 use crate::ansi::calls::joined_text::SEPARATORS;
 use crate::ansi::calls::performer::Performer;

@@ -1,12 +1,12 @@
 //! The parser, together with what a processor lends it. The references are separate parameters, not
 //! fields of one struct, so that the performer can borrow each.
 ghost use Rattle.std.specs.Prelude.{false, length, List, Option, Some, true, ℕ, ◌+◌, ◌≡◌, ◌≤◌};
+ghost use Rattle.vte.specs.Memory.{KeepsMemory};
+ghost use Rattle.vte.specs.private.Engine.{HasParsedPrefix, PartsLeadOn, PartsLeaveMemory};
+ghost use Rattle.vte.specs.private.Performer.{performer_with_event};
 ghost use Rattle.vte.specs.private.Performing.{AdvancesAll, AdvancesUntilStop, performer_value};
 ghost use Rattle.vte.specs.Processor.{parse, processor_meaning};
-ghost use Rattle.vte.specs.private.Performer.{performer_with_event};
-ghost use Rattle.vte.specs.private.Engine.{HasParsedPrefix, PartsLeadOn, PartsLeaveMemory};
 ghost use Rattle.vte.specs.Views.{engine_view, limited_parser_view, ParserView};
-ghost use Rattle.vte.specs.Memory.{KeepsMemory};
 ghost use Rattle.vte_handler.specs.Timeout.{timeout_meaning};
 
 use crate::ansi::calls::joined_text::{SEPARATORS, TEXT_CAPACITY};

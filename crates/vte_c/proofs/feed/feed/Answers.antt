@@ -1,8 +1,8 @@
 -- The caller's counts and slices are those of the writer (`counts-of_writer`). So what `read_into` ensures, of the
 -- bytes that 32 bits can count, holds for the caller.
 use Rattle.vte_c.proofs.Common.{append_assoc, arith, bytes_read, drop, drop-append-le, Event, HasReported, length, length-take, List, rules, sym, take, take-append-drop, take-take, ℕ, [], ◌++◌, ◌<◌, ◌∙◌, ◌≡◌, ◌≤◌}
-use Rattle.vte_c.proofs.lemmas.ReadBack.{bytes_read-with_room, counts-of_writer}
 use Rattle.vte_c.proofs.feed.feed.Goals as goal
+use Rattle.vte_c.proofs.lemmas.ReadBack.{bytes_read-with_room, counts-of_writer}
 
 pub returns : goal.returns
 returns c =

@@ -1,10 +1,10 @@
 -- A call of the parser goes on to the run that it returns, and by this run (`reads_on-to_run`), and reads a byte if it
 -- can (`call-reads_some`).
-use Rattle.vte_c.proofs.Common.{arith, buffers_of, default_limit, drop, length, length-drop, List, resumed_stream, take, ℕ, ◌++◌, ◌-◌, ◌≡◌, ◌≤◌}
-use Rattle.vte_core.specs.AdvanceToRun.{run_bytes}
-use Rattle.vte_c.proofs.lemmas.CallSteps.{call-reads_some, Laws, reads_on-to_run}
-use Rattle.vte_c.proofs.feed.read_more.Goals as goal
 use Rattle.std.proofs.lemmas.List.{take_rest}
+use Rattle.vte_c.proofs.Common.{arith, buffers_of, default_limit, drop, length, length-drop, List, resumed_stream, take, ℕ, ◌++◌, ◌-◌, ◌≡◌, ◌≤◌}
+use Rattle.vte_c.proofs.feed.read_more.Goals as goal
+use Rattle.vte_c.proofs.lemmas.CallSteps.{call-reads_some, Laws, reads_on-to_run}
+use Rattle.vte_core.specs.AdvanceToRun.{run_bytes}
 
 pub returns : goal.returns
 returns c =

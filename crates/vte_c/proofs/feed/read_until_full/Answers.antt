@@ -1,8 +1,8 @@
 -- Each round goes on from where the one before stopped (`has_read_on-then`). A round that reads nothing ends the call;
 -- the first one does so only if a record that stops was written.
 use Rattle.vte_c.proofs.Common.{ap, arith, Buffers, buffers_of, cases_lt, inl, inr, refl, sym, ◌+◌, ◌<◌, ◌∙◌, ◌≡◌}
-use Rattle.vte_c.proofs.lemmas.CallSteps.{has_read_on-nothing, has_read_on-then}
 use Rattle.vte_c.proofs.feed.read_until_full.Goals as goal
+use Rattle.vte_c.proofs.lemmas.CallSteps.{has_read_on-nothing, has_read_on-then}
 
 pub loop-position-init : goal.loop-position-init
 loop-position-init c =

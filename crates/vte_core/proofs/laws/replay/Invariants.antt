@@ -1,7 +1,7 @@
 -- After some of the chunks the performer has the events of these, and the parser has read them.
 use Rattle.vte_core.proofs.Common.{after, events, flat_map, Some, take, ◌≡◌}
-use Rattle.vte_core.specs.Parser.{HasRead}
 use Rattle.vte_core.proofs.laws.replay.Given as goal
+use Rattle.vte_core.specs.Parser.{HasRead}
 
 abbrev pub invariant-loop-chunk : goal.invariant-loop-chunk
 invariant-loop-chunk g l =

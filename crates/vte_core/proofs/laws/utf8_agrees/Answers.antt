@@ -1,6 +1,6 @@
 -- The encoding of a character is well formed and spells its number (`dividing/Utf8Agrees`).
-use Rattle.vte_core.proofs.lemmas.dividing.Utf8Agrees.{encoded_is_well_formed, scalar_of-encoded}
 use Rattle.vte_core.proofs.laws.utf8_agrees.Goals as goal
+use Rattle.vte_core.proofs.lemmas.dividing.Utf8Agrees.{encoded_is_well_formed, scalar_of-encoded}
 
 pub returns-clause-character : goal.returns-clause-character
 returns-clause-character c =

@@ -1,9 +1,9 @@
 -- The definitions compute.
 use Rattle.vte_core.proofs.Common.{All, All-head, arith, body_outcome, breaks_at, character_event, class_of, control_sequence_end, control_sequence_outcome, device_control_after_head, device_control_outcome, device_data_outcome, drop, escape_outcome, events, executed_events, groups_of, has_too_many_numbers, head_of, is_truncated, is_well_formed, is_well_shaped, IsOutsideRuns, kept_items, loses_data, malformed_event, numbers, open_character, Option, outcome, pieces_of, Print, reported_before, resumed_stream, rules, segment_event, sequence_event, sequence_kind, subst, system_command_outcome, text_outcome, trailing_count, utf8_rows, ℕ, [], ◌∷◌, ◌≡◌}
+use Rattle.vte_core.proofs.laws.worked_examples.Goals as goal
 use Rattle.vte_core.specs.Examples.{LeavesTextToRun}
 use Rattle.vte_core.specs.IgnoredString.{ignored_string_outcome}
 use Rattle.vte_core.specs.Open.{open_at_end}
-use Rattle.vte_core.proofs.laws.worked_examples.Goals as goal
 
 text_is_left : (limit : Option ℕ) → LeavesTextToRun limit
 unfolding events outcome text_outcome segment_event character_event malformed_event utf8_rows is_well_formed

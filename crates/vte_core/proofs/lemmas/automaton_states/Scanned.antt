@@ -1,15 +1,15 @@
 -- What the automaton's state says of the text that it has read: characters that are printed, and then the bytes of one
 -- that has begun. Each step of the automaton keeps that. The ten states have three phases (`Phase`): between two
 -- characters, failed, or inside a character, whose next byte has one range.
+use Rattle.std.proofs.lemmas.List.{get_or-append-add, get_or-take}
+use Rattle.std.proofs.lemmas.Str.{encode_ascii, encodes-chars}
 use Rattle.vte_core.proofs.Common.{add-one, All, All-cons, All-head, All-nil, All-tail, and_parts, ap, append-nil, append_assoc, arith, Bool, cases_Bool, cases_eq, cases_lt, cond, drop, encode, encodes, false, false≢true, from_to, get_or, get_or-drop, inl, inr, is_in, is_layout, IsPrintedAscii, IsUtf8Run, length, length-append, length-drop, length-take, List, nat_tests, Range, refl, rows_after_byte, rules, second_range, slice_index, StaysInRun, subst, suc, sym, take, take-add, take_more, true, utf8_rows, zero, ℕ, [], ◌&&◌, ◌++◌, ◌+◌, ◌-◌, ◌<◌, ◌∙◌, ◌∷◌, ◌≡◌, ◌≢◌, ◌≤◌}
-use Rattle.vte_core.proofs.lemmas.bytes.Utf8.{continuation, fits, tests-row, tests-two}
-use Rattle.vte_core.specs.private.Automaton.{AfterC2, AfterE0, AfterED, AfterF0, AfterF4, AutomatonState, BetweenCharacters, Failed, NeedsOne, NeedsThree, NeedsTwo, next_between_characters, next_if_in, next_state, state_after}
 use Rattle.vte_core.proofs.lemmas.bytes.Each.{each-one}
 use Rattle.vte_core.proofs.lemmas.bytes.Runs.{run-ascii, run-layout, utf8_run-append, utf8_run-nil}
 use Rattle.vte_core.proofs.lemmas.bytes.Scalars.{in_range-bounds}
+use Rattle.vte_core.proofs.lemmas.bytes.Utf8.{continuation, fits, tests-row, tests-two}
 use Rattle.vte_core.proofs.lemmas.dividing.Utf8Agrees.{utf8_run-character}
-use Rattle.std.proofs.lemmas.List.{get_or-append-add, get_or-take}
-use Rattle.std.proofs.lemmas.Str.{encode_ascii, encodes-chars}
+use Rattle.vte_core.specs.private.Automaton.{AfterC2, AfterE0, AfterED, AfterF0, AfterF4, AutomatonState, BetweenCharacters, Failed, NeedsOne, NeedsThree, NeedsTwo, next_between_characters, next_if_in, next_state, state_after}
 use Rattle.vte_core.specs.private.Scans.{Each}
 
 -- ---- one byte after another

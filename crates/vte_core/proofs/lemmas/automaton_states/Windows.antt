@@ -1,11 +1,11 @@
 -- What the last three bytes say of the automaton's state (`IsAllowedAfter`). Bytes that pass the tests of a block
 -- keep it (`allowed-after`, `leads-window`), so three bytes say where the last character ends (`run-before-open`).
 use Rattle.vte_core.proofs.Common.{ap, arith, Bool, cases_Bool, cases_lt, drop, false, from_to, get_or-drop, inl, inr, is_in, is_layout, IsUtf8Run, length, length-drop, List, nat_tests, Range, refl, rules, slice_index, subst, suc, sym, take, take-add, true, zero, ℕ, [], ◌+◌, ◌-◌, ◌<◌, ◌∙◌, ◌∷◌, ◌≡◌, ◌≢◌, ◌≤◌}
-use Rattle.vte_core.specs.private.Scans.{Each, IsWindow}
+use Rattle.vte_core.proofs.lemmas.automaton_states.Scanned.{next_state-failed, phase, phase-between, phase-failed, phase-waiting, so_far-all, state_after-append, state_after-next}
 use Rattle.vte_core.proofs.lemmas.bytes.Each.{block-byte, each-both}
 use Rattle.vte_core.specs.declared.reader.Window.{Window}
-use Rattle.vte_core.proofs.lemmas.automaton_states.Scanned.{next_state-failed, phase, phase-between, phase-failed, phase-waiting, so_far-all, state_after-append, state_after-next}
 use Rattle.vte_core.specs.private.Automaton.{AfterC2, AfterE0, AfterED, AfterF0, AfterF4, AutomatonState, BetweenCharacters, Failed, Follows, FollowsAt, IsAllowedAfter, NeedsOne, NeedsThree, NeedsTwo, next_between_characters, next_if_in, next_state, open_count, state_after, StaysBetweenCharacters}
+use Rattle.vte_core.specs.private.Scans.{Each, IsWindow}
 
 -- The tests of a byte after three others. A byte begins a character only outside of one, and continues one only inside.
 pub record Fits (three_back two_back one_back byte : ℕ) : Type 0 where

@@ -1,9 +1,9 @@
 -- Stretches of bytes from one position to another, and what each of their bytes meets (`Each`): `each-X`, what each
 -- byte of X meets. By cases of the position.
-use Rattle.vte_core.proofs.Common.{ap, arith, drop, drop-drop, drop_more, get_or, length, List, refl, rules, slice_index, subst, take, take-add, take_rest, ℕ, [], ◌++◌, ◌+◌, ◌-◌, ◌<◌, ◌∙◌, ◌∷◌, ◌≡◌, ◌≤◌}
 use Rattle.std.proofs.lemmas.List.{length-drop, length-take}
 use Rattle.std.proofs.lemmas.Simd.{get_or-chunk}
 use Rattle.std.specs.Array.{IsFirstChunk}
+use Rattle.vte_core.proofs.Common.{ap, arith, drop, drop-drop, drop_more, get_or, length, List, refl, rules, slice_index, subst, take, take-add, take_rest, ℕ, [], ◌++◌, ◌+◌, ◌-◌, ◌<◌, ◌∙◌, ◌∷◌, ◌≡◌, ◌≤◌}
 use Rattle.vte_core.specs.private.Scans.{Each}
 
 pub one_byte : (bytes : List ℕ) (from b : ℕ) → from < length bytes → b ≡ slice_index bytes from

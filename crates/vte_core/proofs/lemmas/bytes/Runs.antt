@@ -1,9 +1,9 @@
 -- Runs of text among the bytes of a call (`IsRun`): `run-X`, X is a run. By what std has of characters and their bytes.
-use Rattle.vte_core.proofs.Common.{after, All, All-append, All-cons, All-nil, ap, append-nil, ArePrintedAscii, arith, Bool, chars, drop, encode, Event, false, from_to, get_or, get_or-drop, is_control_character, is_in, is_layout, IsAscii, IsPrintedAscii, IsRun, IsScalar, IsUtf8Run, length, List, map, nat_tests, Print, refl, rules, run_event, slice_index, StaysInRun, subst, sym, take, true, ℕ, [], ◌++◌, ◌+◌, ◌-◌, ◌<◌, ◌∙◌, ◌∷◌, ◌≡◌, ◌≤◌}
 use Rattle.std.proofs.lemmas.List.{get_or-take, length-take}
 use Rattle.std.proofs.lemmas.List.Elements.{All-from_get_or}
-use Rattle.std.proofs.lemmas.Str.Ascii.{IsAscii-cons, IsAscii-from_reads, IsAscii-nil}
 use Rattle.std.proofs.lemmas.Str.{chars-append, chars-IsAscii, chars-nil, chars_past_char, IsUtf8-append, IsUtf8-encode, IsUtf8-from_ascii, IsUtf8-nil}
+use Rattle.std.proofs.lemmas.Str.Ascii.{IsAscii-cons, IsAscii-from_reads, IsAscii-nil}
+use Rattle.vte_core.proofs.Common.{after, All, All-append, All-cons, All-nil, ap, append-nil, ArePrintedAscii, arith, Bool, chars, drop, encode, Event, false, from_to, get_or, get_or-drop, is_control_character, is_in, is_layout, IsAscii, IsPrintedAscii, IsRun, IsScalar, IsUtf8Run, length, List, map, nat_tests, Print, refl, rules, run_event, slice_index, StaysInRun, subst, sym, take, true, ℕ, [], ◌++◌, ◌+◌, ◌-◌, ◌<◌, ◌∙◌, ◌∷◌, ◌≡◌, ◌≤◌}
 use Rattle.vte_core.proofs.lemmas.bytes.Each.{one_byte, slice-then}
 
 -- ---- which characters stay in a run

@@ -1,9 +1,9 @@
 -- A search for the end of a run, or of other bytes, goes on where another ended. `scans-X`, `searches-X`: by X.
 use Rattle.vte_core.proofs.Common.{ArePrintedAscii, arith, Bool, drop, from_to, is_in, IsPrintedAscii, IsRun, length, List, looks_of, rules, Scans, slice_index, subst, take, true, ℕ, ◌*◌, ◌+◌, ◌<◌, ◌≡◌, ◌≤◌}
-use Rattle.vte_core.specs.private.Scans.{Each}
-use Rattle.vte_core.specs.declared.reader.Reader.{Reader}
 use Rattle.vte_core.proofs.lemmas.bytes.Each.{each-block, each-both, each-one}
 use Rattle.vte_core.proofs.lemmas.bytes.Runs.{printed-in_range, run-append, run-ascii}
+use Rattle.vte_core.specs.declared.reader.Reader.{Reader}
+use Rattle.vte_core.specs.private.Scans.{Each}
 
 -- ---- a search by blocks
 

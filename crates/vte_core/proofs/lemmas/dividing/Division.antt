@@ -1,10 +1,10 @@
 -- The division of a text is Unicode's: the longest segment at each place, and nothing lost. If the rows still allow
 -- a byte, a longer segment exists; if they don't, no longer one does.
+use Rattle.std.proofs.lemmas.List.{length-take}
 use Rattle.vte_core.proofs.Common.{allowed_length, ap, arith, Bool, cases_lt, concat, drop, drop-append_seam, false, false≢true, inl, inr, is_truncated, is_well_formed, length, length-append, length-drop, length-take-le, List, Range, refl, rows_after_byte, rows_after_bytes, rules, segments, segments_after, subst, suc, sym, take, take-append-drop, take-append_seam, trailing_count, true, utf8_rows, zero, ℕ, [], ◌++◌, ◌<◌, ◌∙◌, ◌∷◌, ◌≡◌, ◌≢◌, ◌≤◌}
-use Rattle.vte_core.specs.Division.{AreCorrectSegments, IsCorrectSegment, IsSegment, SegmentsJoin}
 use Rattle.vte_core.proofs.lemmas.bytes.Utf8.{allowed, allowed_length-none, neither_whole_nor_open, rows_after_bytes-none, some_open, some_whole, unwanted, wanted}
 use Rattle.vte_core.proofs.lemmas.shapes.FirstSegment.{not_well_formed-nothing, trailing_count-well_formed}
-use Rattle.std.proofs.lemmas.List.{length-take}
+use Rattle.vte_core.specs.Division.{AreCorrectSegments, IsCorrectSegment, IsSegment, SegmentsJoin}
 
 -- The segment that starts with b, followed by `bytes`, is the right one.
 pub record IsDividedRight (b : ℕ) (bytes : List ℕ) : Type 0 where

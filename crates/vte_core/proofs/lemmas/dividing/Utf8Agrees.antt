@@ -1,14 +1,14 @@
 -- The well-formed sequences are the encodings of characters, as the standard library has them: by the number of bytes,
 -- with division and remainder by 64 on both sides. So the library's texts are those without malformed segments, and a
 -- character that is no control is a run.
-use Rattle.vte_core.proofs.Common.{All, All-cons, All-head, All-nil, All-tail, and_from, and_parts, ap, append-nil, append_assoc, arith, Bool, cases_eq, character_event, chars, concat, cut_at_escape, drop, drop_more, encode, encodes, escape, false, false≢true, from_to, get_or, inl, inr, InScalarRange, is_control_character, is_in, is_well_formed, IsRun, IsScalar, IsUtf8, IsUtf8Run, length, List, map, nat_tests, ne_eqb, refl, report, rules, scalar, scalar_of, scalars, second_range, segments, slice_index, StaysInRun, subst, suc, sym, take, text_outcome, true, ℕ, [], ◌++◌, ◌+◌, ◌-◌, ◌<◌, ◌∙◌, ◌∷◌, ◌≡◌, ◌≢◌, ◌≤◌}
 use Rattle.std.proofs.lemmas.Str.{chars-encodes, encode_ascii, encodes-chars, IsUtf8-append, IsUtf8-encode, IsUtf8-nil, scalars-chars}
-use Rattle.vte_core.proofs.lemmas.dividing.Division.{all_divided}
-use Rattle.vte_core.proofs.lemmas.bytes.Utf8.{second_plain, tests-four, tests-three, tests-two}
-use Rattle.vte_core.proofs.lemmas.bytes.Scalars.{IsContinuation, SecondByte, sequence, well_formed_is_scalar, whole_four, whole_one, whole_three, whole_two}
-use Rattle.vte_core.proofs.lemmas.shapes.Outcomes.{report-append}
-use Rattle.vte_core.proofs.lemmas.shapes.FirstSegment.{not_well_formed-nothing, segments-first, text_outcome-well_formed, trailing_count-well_formed}
+use Rattle.vte_core.proofs.Common.{All, All-cons, All-head, All-nil, All-tail, and_from, and_parts, ap, append-nil, append_assoc, arith, Bool, cases_eq, character_event, chars, concat, cut_at_escape, drop, drop_more, encode, encodes, escape, false, false≢true, from_to, get_or, inl, inr, InScalarRange, is_control_character, is_in, is_well_formed, IsRun, IsScalar, IsUtf8, IsUtf8Run, length, List, map, nat_tests, ne_eqb, refl, report, rules, scalar, scalar_of, scalars, second_range, segments, slice_index, StaysInRun, subst, suc, sym, take, text_outcome, true, ℕ, [], ◌++◌, ◌+◌, ◌-◌, ◌<◌, ◌∙◌, ◌∷◌, ◌≡◌, ◌≢◌, ◌≤◌}
 use Rattle.vte_core.proofs.lemmas.bytes.Runs.{no_control-stays}
+use Rattle.vte_core.proofs.lemmas.bytes.Scalars.{IsContinuation, SecondByte, sequence, well_formed_is_scalar, whole_four, whole_one, whole_three, whole_two}
+use Rattle.vte_core.proofs.lemmas.bytes.Utf8.{second_plain, tests-four, tests-three, tests-two}
+use Rattle.vte_core.proofs.lemmas.dividing.Division.{all_divided}
+use Rattle.vte_core.proofs.lemmas.shapes.FirstSegment.{not_well_formed-nothing, segments-first, text_outcome-well_formed, trailing_count-well_formed}
+use Rattle.vte_core.proofs.lemmas.shapes.Outcomes.{report-append}
 
 -- ---- a well-formed sequence is the encoding of its character
 

@@ -1,10 +1,10 @@
 -- What is kept of the items of a command, and the pieces of what is kept. By induction over the items, with the piece
 -- that is open carried along.
-use Rattle.vte_core.proofs.Common.{All, All-push, ap, append_assoc, arith, Bool, Bor, cases_Bool, common_steps, concat, cut_data, drop, drop_all, ends_after, eqb, false, filter, FitsLimit, inl, inr, is_data_item, kept_after, kept_items, length, length-append, length-take, List, ltb-true, map, max_pieces, None, onto_first, Option, pieces_of, refl, rules, semicolon, set, slice_split, Some, suc, sym, take, take-append-drop, take_all, take_at, true, zero, ℕ, [], ◌++◌, ◌+◌, ◌<◌, ◌∙◌, ◌∷◌, ◌≡◌, ◌≤◌}
 use Rattle.std.proofs.Common.{append-nil, drop_at, ◌==◌}
+use Rattle.std.proofs.lemmas.List.{length-map, map_push, take_more_set}
 use Rattle.std.proofs.lemmas.List.Folds.{concat-append}
 use Rattle.std.proofs.lemmas.List.Splits.{length-slice_split, slice_split_at, slice_split_none}
-use Rattle.std.proofs.lemmas.List.{length-map, map_push, take_more_set}
+use Rattle.vte_core.proofs.Common.{All, All-push, ap, append_assoc, arith, Bool, Bor, cases_Bool, common_steps, concat, cut_data, drop, drop_all, ends_after, eqb, false, filter, FitsLimit, inl, inr, is_data_item, kept_after, kept_items, length, length-append, length-take, List, ltb-true, map, max_pieces, None, onto_first, Option, pieces_of, refl, rules, semicolon, set, slice_split, Some, suc, sym, take, take-append-drop, take_all, take_at, true, zero, ℕ, [], ◌++◌, ◌+◌, ◌<◌, ◌∙◌, ◌∷◌, ◌≡◌, ◌≤◌}
 
 -- ---- the pieces of a text are its data bytes, cut at each `;`
 

@@ -1,10 +1,10 @@
 -- What is known of a parser that is at a place, and that a clone of it, or one made of what was saved of it, is at the
 -- same: by cases of its state, to each of which belongs one kind of place.
 use Rattle.vte_core.proofs.Common.{ap, append-nil, arith, AtEscape, body_outcome, ControlSequence, default_limit, device_data_outcome, DeviceControl, DeviceData, Empty, Escape, EscapeIntermediate, events_from, executed_events, HasReadHead, HasReadWithLimit, HoldsIntermediates, HoldsItems, IgnoredString, InControlSequence, InDeviceControl, InDeviceData, InEscape, InIgnoredString, InSystemCommand, InText, is_truncated, IsAtPlace, IsPlaceOfState, IsSettledPlace, leaves, List, Machine, may_continue, open_at, open_bytes, Option, outcome_from, Place, refl, rest_outcome, rules, SameItems, State, StoredCommand, subst, SystemCommand, take, Text, text_outcome, to_close_at, true, ℕ, [], ◌++◌, ◌∷◌, ◌≡◌}
-use Rattle.vte_core.specs.IgnoredString.{ignored_string_outcome}
-use Rattle.vte_core.specs.private.Place.{control_sequence_from, device_control_from, escape_from, system_command_from}
 use Rattle.vte_core.proofs.lemmas.shapes.FirstSegment.{text_outcome-end, text_outcome-nothing}
 use Rattle.vte_core.specs.declared.parser.saved.Saved.{Saved}
+use Rattle.vte_core.specs.IgnoredString.{ignored_string_outcome}
+use Rattle.vte_core.specs.private.Place.{control_sequence_from, device_control_from, escape_from, system_command_from}
 use Rattle.vte_core.specs.private.SavedLayout.{flag_of, HasIntermediates, IsInHead, IsRestored, state_bytes}
 use Rattle.vte_core.specs.private.Store.{ArePieceEnds, AreRawParts}
 use Rattle.vte_core.specs.Saved.{HasReadSaved}

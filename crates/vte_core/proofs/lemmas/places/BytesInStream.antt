@@ -1,9 +1,9 @@
 -- What a byte does in its part, a text or a body, it does in the stream (`bytes_lead-byte`), since only ESC cuts; ESC
 -- closes the part (`bytes_lead-escape`). So places lead on in the stream, byte by byte (`bytes_lead-append`).
 use Rattle.vte_core.proofs.Common.{ap, append_assoc, arith, AtEscape, BytesLead, Cancel, class_of, closing_events_at, cut_at_escape, ends_sequence, eqb, escape, Event, events, events_from, false, InSystemCommand, InText, Leads, List, nat_tests, Option, outcome, outcome_from, Place, refl, report, rest_outcome, rules, with_bodies, ℕ, [], ◌++◌, ◌∷◌, ◌≡◌, ◌≤◌}
-use Rattle.vte_core.proofs.lemmas.shapes.Outcomes.{report-append, with_bodies-report}
 use Rattle.vte_core.proofs.lemmas.fields.PlaceOfState.{IsReachable, rest_outcome-nothing}
 use Rattle.vte_core.proofs.lemmas.places.PlaceLeads.{command-item}
+use Rattle.vte_core.proofs.lemmas.shapes.Outcomes.{report-append, with_bodies-report}
 
 -- The outcome of a stream is what its bytes give after nothing.
 pub outcome-after_nothing : (limit : Option ℕ) (stream : List ℕ)

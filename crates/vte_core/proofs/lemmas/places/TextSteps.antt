@@ -1,17 +1,17 @@
 -- A byte in a text, by whether it ends, continues or breaks the open character (`step-text`), and CAN and SUB at all
 -- places (`byte-cancels`).
 use Rattle.vte_core.proofs.Common.{ap, append-nil, AreBrief, arith, bell, body_outcome, Cancel, cases_Bool, character_event, class_of, closing_events_at, control_sequence_end, device_control_after_head, device_data_outcome, eqb, escape, Event, Execute, executed_events, false, false≢true, inl, inr, InSystemCommand, InText, is_control_character, is_truncated, is_well_formed, IsAtMostOneShort, Leads, List, may_continue, nat_tests, open_data_count, Option, Place, Print, refl, replacement, report, rules, sym, text_outcome, to_close_at, true, ℕ, [], ◌++◌, ◌<◌, ◌∙◌, ◌∷◌, ◌≡◌}
-use Rattle.vte_core.proofs.lemmas.shapes.FirstSegment.{text_outcome-broken, text_outcome-well_formed}
-use Rattle.vte_core.proofs.lemmas.shapes.BrokenCharacters.{breaks-broken}
-use Rattle.vte_core.proofs.lemmas.fields.PlaceOfState.{IsReachable, may_continue-truncated}
-use Rattle.vte_core.proofs.lemmas.places.PlaceLeads.{executed_low, one_short-append, one_short-from_one_byte, short-character, short-malformed, text-lone, text-unfinished, text-well_formed}
-use Rattle.vte_core.specs.IgnoredString.{ignored_string_outcome}
-use Rattle.vte_core.specs.private.Place.{control_sequence_from, device_control_from, escape_from, system_command_from}
 use Rattle.vte_core.proofs.lemmas.bytes.Classes.{spans}
 use Rattle.vte_core.proofs.lemmas.bytes.Utf8.{ascii-alone, ascii-breaks, Tests}
 use Rattle.vte_core.proofs.lemmas.fields.Pieces.{few_pieces, some_pieces}
+use Rattle.vte_core.proofs.lemmas.fields.PlaceOfState.{IsReachable, may_continue-truncated}
 use Rattle.vte_core.proofs.lemmas.places.BytesInStream.{bytes_lead-byte, waits-byte}
+use Rattle.vte_core.proofs.lemmas.places.PlaceLeads.{executed_low, one_short-append, one_short-from_one_byte, short-character, short-malformed, text-lone, text-unfinished, text-well_formed}
 use Rattle.vte_core.proofs.lemmas.places.Steps.{IsSilentOrSettles, OpenPiecesFit, Steps}
+use Rattle.vte_core.proofs.lemmas.shapes.BrokenCharacters.{breaks-broken}
+use Rattle.vte_core.proofs.lemmas.shapes.FirstSegment.{text_outcome-broken, text_outcome-well_formed}
+use Rattle.vte_core.specs.IgnoredString.{ignored_string_outcome}
+use Rattle.vte_core.specs.private.Place.{control_sequence_from, device_control_from, escape_from, system_command_from}
 
 -- ---- a byte in a text
 

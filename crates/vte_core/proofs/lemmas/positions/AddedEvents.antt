@@ -1,17 +1,17 @@
 -- What is reported from position to position. A call is followed with a performer that keeps all events; so what any
 -- performer receives is a function of the bytes, and a stretch that reports no run is known by its events.
 use Rattle.vte_core.proofs.Common.{added, AddsOutsideRuns, after, All, All-append, All-cons, All-drop, All-nil, ap, append-nil, append_assoc, arith, breaks_at, BytesLead, cases_Bool, chunk_call, ChunkCall, drop, Event, false, false≢true, HasReadWithLimit, inl, inr, IsAfter, IsAtPosition, IsInsidePosition, IsOutsideRuns, IsPlaceOfState, IsSettled, length, List, Machine, open_character, Option, Place, Print, PrintsNoAscii, refl, replacement, reported_before, ReportsOutsideRuns, resumed_stream, rules, slice_index, State, subst, sym, take, ℕ, [], ◌++◌, ◌+◌, ◌<◌, ◌∙◌, ◌∷◌, ◌≡◌}
-use Rattle.vte_core.specs.private.Progress.{AddsCharacter, HasProgress}
-use Rattle.vte_core.specs.private.ToRun.{IsOutsideRunsInState}
-use Rattle.vte_core.proofs.lemmas.positions.Progress.{stretch-added}
-use Rattle.vte_core.proofs.lemmas.positions.CallEnds.{starts-at}
+use Rattle.vte_core.proofs.lemmas.bytes.Each.{one_byte}
 use Rattle.vte_core.proofs.lemmas.fields.PlaceOfState.{IsReachable}
 use Rattle.vte_core.proofs.lemmas.places.PlaceSteps.{steps}
 use Rattle.vte_core.proofs.lemmas.places.Steps.{AreOutsideRuns, IsOutsideRunsAtPlace}
+use Rattle.vte_core.proofs.lemmas.positions.CallEnds.{starts-at}
+use Rattle.vte_core.proofs.lemmas.positions.Progress.{stretch-added}
 use Rattle.vte_core.proofs.lemmas.shapes.BrokenCharacters.{reported-broken, reported-settled}
-use Rattle.vte_core.proofs.lemmas.bytes.Each.{one_byte}
 use Rattle.vte_core.proofs.lemmas.streams.After.{added-leads, added-nothing}
 use Rattle.vte_core.proofs.lemmas.streams.StreamSteps.{prints_no_ascii, prints_no_ascii-all, prints_no_ascii-character}
+use Rattle.vte_core.specs.private.Progress.{AddsCharacter, HasProgress}
+use Rattle.vte_core.specs.private.ToRun.{IsOutsideRunsInState}
 
 -- ---- a performer that keeps all events
 

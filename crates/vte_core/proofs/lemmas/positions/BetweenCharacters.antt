@@ -2,20 +2,20 @@
 -- one (`advances-first`). What the code does is what `places/PlaceLeads` says of the byte, and the parser is at the
 -- next place. A control or malformed byte reports nothing that a run would, after a stretch (`advances-single`).
 use Rattle.vte_core.proofs.Common.{AddsOutsideRuns, Advances, All, AnyEvents, ap, arith, BytesLead, caller_looks, cases_lt, character_event, ChunkCall, drop, drop_more, Empty, escape, Event, Extends, false, false≢true, from_to, HasNoRunAt, inl, inr, InText, is_in, is_truncated, IsAfter, IsAtPlace, IsOutsideRuns, IsSettledPlace, Leads, length, List, lookahead, Machine, malformed_event, MayGoOn, nat_tests, One, Option, per_byte, Place, Print, refl, resumed_stream, rules, slice_index, SpendsWithin, subst, suc, sym, take, TakesBytes, Text, true, Unfinished, ℕ, [], ◌+◌, ◌<◌, ◌∙◌, ◌∷◌, ◌≡◌, ◌≢◌, ◌≤◌}
-use Rattle.vte_core.specs.declared.reader.Reader.{Reader}
-use Rattle.vte_core.specs.declared.utf8.Extension.TheVariants.{Truncated}
 use Rattle.vte_core.proofs.lemmas.bytes.Scalars.{begins_none, first_truncated}
 use Rattle.vte_core.proofs.lemmas.bytes.Utf8.{ascii-alone}
 use Rattle.vte_core.proofs.lemmas.fields.PlaceOfState.{is_at-by}
+use Rattle.vte_core.proofs.lemmas.places.BytesInStream.{bytes_lead-byte}
+use Rattle.vte_core.proofs.lemmas.places.PlaceLeads.{text-lone, text-unfinished, text-well_formed}
+use Rattle.vte_core.proofs.lemmas.positions.AddedEvents.{added-inside, adds-character, adds-leads, keep, keeping, recorded-at}
+use Rattle.vte_core.proofs.lemmas.positions.Characters.{in_text}
 use Rattle.vte_core.proofs.lemmas.positions.SettledStates.{place-settled_text, settled-same_state}
 use Rattle.vte_core.proofs.lemmas.positions.Stretches.{advances-byte, advances-reporting, advances-then, advances-without_promise, reads-byte_at}
 use Rattle.vte_core.proofs.lemmas.positions.TakenBytes.{not_escape, takes-byte, takes_bytes-begun}
-use Rattle.vte_core.specs.private.Prelude.{Completes, MayReadByte}
-use Rattle.vte_core.proofs.lemmas.places.PlaceLeads.{text-lone, text-unfinished, text-well_formed}
 use Rattle.vte_core.proofs.lemmas.streams.StreamSteps.{outside_runs-control}
-use Rattle.vte_core.proofs.lemmas.positions.AddedEvents.{added-inside, adds-character, adds-leads, keep, keeping, recorded-at}
-use Rattle.vte_core.proofs.lemmas.places.BytesInStream.{bytes_lead-byte}
-use Rattle.vte_core.proofs.lemmas.positions.Characters.{in_text}
+use Rattle.vte_core.specs.declared.reader.Reader.{Reader}
+use Rattle.vte_core.specs.declared.utf8.Extension.TheVariants.{Truncated}
+use Rattle.vte_core.specs.private.Prelude.{Completes, MayReadByte}
 
 character_event-printed : (b : ℕ) → is_in (from_to 0x20 0x7f) b ≡ true → character_event b ≡ Print b
 unfolding character_event

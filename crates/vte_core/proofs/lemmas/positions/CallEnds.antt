@@ -2,9 +2,9 @@
 -- character is open (`settles`).
 use Rattle.vte_core.proofs.Common.{added, after, arith, ChunkCall, ComesTo, HasReadWithLimit, IsAtPosition, IsInsidePosition, IsSettled, length, List, Machine, ReadsUpTo, resumed_stream, rules, StopsExactly, subst, true, ℕ, ◌++◌, ◌<◌, ◌≡◌, ◌≤◌}
 use Rattle.vte_core.proofs.lemmas.fields.PlaceOfState.{is_at-place}
-use Rattle.vte_core.proofs.lemmas.shapes.BrokenCharacters.{resumed_stream-all}
-use Rattle.vte_core.proofs.lemmas.positions.SettledStates.{settled-place}
 use Rattle.vte_core.proofs.lemmas.positions.Progress.{progress-all, progress-all_read, progress-comes, progress-nothing, progress-settled, progress-starts}
+use Rattle.vte_core.proofs.lemmas.positions.SettledStates.{settled-place}
+use Rattle.vte_core.proofs.lemmas.shapes.BrokenCharacters.{resumed_stream-all}
 
 -- A settled state has a settled place, so `progress-X` applies.
 

@@ -1,19 +1,19 @@
 -- A call inside a character, over any number of its bytes: it reports nothing while the character goes on (`GoesOn`),
 -- and then completes it (`completes-all`, `completes-well_formed`, `completes-malformed`), a byte at a time.
-use Rattle.vte_core.proofs.Common.{added, All-cons, All-nil, ap, append-nil, append_assoc, arith, bytes_of, character_event, ChunkCall, drop, drop_more, Empty, Event, Extends, from_to, HasReadWithLimit, inl, inr, InText, is_in, is_truncated, is_well_formed, IsAtPlace, IsAtPosition, IsInsidePosition, IsOutsideRuns, IsPlaceOfState, length, List, Machine, may_continue, One, open_character, Option, Place, Print, ProgressInside, refl, replacement, rules, scalar_of, second_range, slice_index, subst, sym, take, take-add, Text, Three, true, Two, Unfinished, ℕ, [], ◌++◌, ◌+◌, ◌<◌, ◌∙◌, ◌∷◌, ◌≡◌, ◌≢◌, ◌≤◌}
-use Rattle.vte_core.specs.declared.utf8.Extension.TheVariants.{Malformed, Truncated, WellFormed}
-use Rattle.vte_core.proofs.lemmas.fields.PlaceOfState.{is_at-by, is_at-in, is_at-place, may_continue-truncated}
-use Rattle.vte_core.proofs.lemmas.places.PlaceLeads.{text-unfinished, text-well_formed}
-use Rattle.vte_core.proofs.lemmas.streams.After.{after-open_character, extending_is_no_escape}
-use Rattle.vte_core.proofs.lemmas.shapes.BrokenCharacters.{breaks-broken, breaks-unfinished, breaks-well_formed}
-use Rattle.vte_core.proofs.lemmas.positions.Progress.{progress-broken, progress-extended, progress-settled}
-use Rattle.vte_core.proofs.lemmas.positions.CallEnds.{inside-all, inside-moved}
-use Rattle.vte_core.proofs.lemmas.places.BytesInStream.{bytes_lead-byte}
-use Rattle.vte_core.proofs.lemmas.bytes.Scalars.{second-open, third-open}
-use Rattle.vte_core.specs.private.Progress.{Completes}
-use Rattle.vte_core.proofs.lemmas.streams.StreamSteps.{length-longer}
-use Rattle.vte_core.proofs.lemmas.positions.AddedEvents.{added-inside, keeping, recorded-inside, reported-at}
 use Rattle.std.proofs.lemmas.List.{drop-drop}
+use Rattle.vte_core.proofs.Common.{added, All-cons, All-nil, ap, append-nil, append_assoc, arith, bytes_of, character_event, ChunkCall, drop, drop_more, Empty, Event, Extends, from_to, HasReadWithLimit, inl, inr, InText, is_in, is_truncated, is_well_formed, IsAtPlace, IsAtPosition, IsInsidePosition, IsOutsideRuns, IsPlaceOfState, length, List, Machine, may_continue, One, open_character, Option, Place, Print, ProgressInside, refl, replacement, rules, scalar_of, second_range, slice_index, subst, sym, take, take-add, Text, Three, true, Two, Unfinished, ℕ, [], ◌++◌, ◌+◌, ◌<◌, ◌∙◌, ◌∷◌, ◌≡◌, ◌≢◌, ◌≤◌}
+use Rattle.vte_core.proofs.lemmas.bytes.Scalars.{second-open, third-open}
+use Rattle.vte_core.proofs.lemmas.fields.PlaceOfState.{is_at-by, is_at-in, is_at-place, may_continue-truncated}
+use Rattle.vte_core.proofs.lemmas.places.BytesInStream.{bytes_lead-byte}
+use Rattle.vte_core.proofs.lemmas.places.PlaceLeads.{text-unfinished, text-well_formed}
+use Rattle.vte_core.proofs.lemmas.positions.AddedEvents.{added-inside, keeping, recorded-inside, reported-at}
+use Rattle.vte_core.proofs.lemmas.positions.CallEnds.{inside-all, inside-moved}
+use Rattle.vte_core.proofs.lemmas.positions.Progress.{progress-broken, progress-extended, progress-settled}
+use Rattle.vte_core.proofs.lemmas.shapes.BrokenCharacters.{breaks-broken, breaks-unfinished, breaks-well_formed}
+use Rattle.vte_core.proofs.lemmas.streams.After.{after-open_character, extending_is_no_escape}
+use Rattle.vte_core.proofs.lemmas.streams.StreamSteps.{length-longer}
+use Rattle.vte_core.specs.declared.utf8.Extension.TheVariants.{Malformed, Truncated, WellFormed}
+use Rattle.vte_core.specs.private.Progress.{Completes}
 
 -- ---- a byte
 

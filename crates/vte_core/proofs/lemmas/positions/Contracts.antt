@@ -1,21 +1,21 @@
 -- What a call ensures: the facts of `drive`, put into the contract of each call, of both parsers.
 use Rattle.vte_core.proofs.Common.{arith, Bool, chunk_call, ChunkCall, Err, Event, false, IfErr, IfOk, length, List, Machine, None, Ok, per_byte, read_count, ReadsUntilRefused, ReadsUpTo, refl, Refused, ReportsOutsideRuns, Result, rules, true, ℕ, ◌+◌, ◌≡◌}
-use Rattle.vte_core.specs.private.Costs.{Costs}
-use Rattle.vte_core.specs.declared.reader.run.Run.{Run}
-use Rattle.vte_core.specs.declared.reader.run.RunRange.{RunRange}
-use Rattle.vte_core.specs.Advance.{ReadsBytes, ReadsUntilTerminated}
-use Rattle.vte_core.specs.AdvanceToRun.{ReadsToRun}
-use Rattle.vte_core.specs.EarlyStop.{NeverStopsBefore}
-use Rattle.vte_core.specs.LongParserCalls.{IsRefusedMemory, ReadsLong}
-use Rattle.vte_core.specs.private.ToRun.{bytes_at, ComesToRun, IsTaken}
-use Rattle.vte_core.proofs.lemmas.positions.ToRun.{reads-run, returns-run}
-use Rattle.vte_core.specs.declared.parser.long_parser.LongParser.{LongParser}
-use Rattle.vte_core.specs.LongParser.{HasReadLong}
-use Rattle.vte_core.specs.Looks.{total_looks}
-use Rattle.vte_core.specs.Parser.{machine_facts}
+use Rattle.vte_core.proofs.lemmas.positions.CallEnds.{call_ends-performs, call_ends-reads, call_ends-reads_all, call_ends-stops}
 use Rattle.vte_core.proofs.lemmas.positions.Open.{inside-reads, lacks_all, meets_data, refuses-inside, stores_pieces}
 use Rattle.vte_core.proofs.lemmas.positions.SettledStates.{all_read-unless_asked}
-use Rattle.vte_core.proofs.lemmas.positions.CallEnds.{call_ends-performs, call_ends-reads, call_ends-reads_all, call_ends-stops}
+use Rattle.vte_core.proofs.lemmas.positions.ToRun.{reads-run, returns-run}
+use Rattle.vte_core.specs.Advance.{ReadsBytes, ReadsUntilTerminated}
+use Rattle.vte_core.specs.AdvanceToRun.{ReadsToRun}
+use Rattle.vte_core.specs.declared.parser.long_parser.LongParser.{LongParser}
+use Rattle.vte_core.specs.declared.reader.run.Run.{Run}
+use Rattle.vte_core.specs.declared.reader.run.RunRange.{RunRange}
+use Rattle.vte_core.specs.EarlyStop.{NeverStopsBefore}
+use Rattle.vte_core.specs.LongParser.{HasReadLong}
+use Rattle.vte_core.specs.LongParserCalls.{IsRefusedMemory, ReadsLong}
+use Rattle.vte_core.specs.Looks.{total_looks}
+use Rattle.vte_core.specs.Parser.{machine_facts}
+use Rattle.vte_core.specs.private.Costs.{Costs}
+use Rattle.vte_core.specs.private.ToRun.{bytes_at, ComesToRun, IsTaken}
 
 -- ---- looks
 

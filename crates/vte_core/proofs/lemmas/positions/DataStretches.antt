@@ -1,16 +1,16 @@
 -- Stretches of data: `advances-items`: data bytes of a command, which are stored; `advances-put`, `advances-data`: a
 -- byte and bytes of a device control string, which are put.
-use Rattle.vte_core.specs.declared.reader.Reader.{Reader}
-use Rattle.vte_core.specs.private.Prelude.{FindsEnd, IsCommandData, MayReadAt, SameItems, StoredCommand}
 use Rattle.vte_core.proofs.Common.{Advances, after, AnyEvents, ArePut, arith, ChunkCall, class_of, DeviceData, drop, drop_more, false, false≢true, HoldsItems, InSystemCommand, is_device_data, IsAtPosition, IsDeviceData, length, List, Machine, map, MayGoOn, ProgressAt, Put, refl, rules, slice_index, subst, suc, sym, SystemCommand, take, true, zero, ℕ, [], ◌++◌, ◌+◌, ◌-◌, ◌<◌, ◌∙◌, ◌∷◌, ◌≡◌, ◌≤◌}
-use Rattle.vte_core.proofs.lemmas.positions.SettledStates.{settled-same_state}
-use Rattle.vte_core.proofs.lemmas.positions.Progress.{progress-items}
-use Rattle.vte_core.proofs.lemmas.positions.AddedEvents.{adds-same, recorded-at, reported-at}
-use Rattle.vte_core.proofs.lemmas.fields.PlaceOfState.{holds_items-same, in_command, is_at-by}
 use Rattle.vte_core.proofs.lemmas.bytes.Classes.{data_ends_nothing}
+use Rattle.vte_core.proofs.lemmas.fields.PlaceOfState.{holds_items-same, in_command, is_at-by}
 use Rattle.vte_core.proofs.lemmas.places.PlaceLeads.{data-put}
+use Rattle.vte_core.proofs.lemmas.positions.AddedEvents.{adds-same, recorded-at, reported-at}
+use Rattle.vte_core.proofs.lemmas.positions.Progress.{progress-items}
+use Rattle.vte_core.proofs.lemmas.positions.SettledStates.{settled-same_state}
 use Rattle.vte_core.proofs.lemmas.positions.Stretches.{advances-nothing, advances-then, advances-to_same, advances-without_promise}
 use Rattle.vte_core.proofs.lemmas.positions.TakenBytes.{advances-in, takes-byte, takes-in_data}
+use Rattle.vte_core.specs.declared.reader.Reader.{Reader}
+use Rattle.vte_core.specs.private.Prelude.{FindsEnd, IsCommandData, MayReadAt, SameItems, StoredCommand}
 
 -- ---- data bytes of a command
 

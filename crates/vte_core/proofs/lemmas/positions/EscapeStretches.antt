@@ -1,10 +1,10 @@
 -- Bytes after ESC that begin no string: ESC once more (`advances-again`) and dropped bytes (`takes_bytes-dropped`)
 -- leave the place as it is, and `[` leads to an empty head (`advances-bracket`).
 use Rattle.vte_core.proofs.Common.{Advances, AtEscape, ChunkCall, class_of, ControlSequence, ends_sequence, Entry, Escape, Event, false, HoldsHead, HoldsIntermediates, InControlSequence, is_final, is_head_byte, is_plain_control, IsAtPlace, IsPlaceOfState, IsSettledPlace, length, Machine, MayGoOn, Option, Place, refl, sequence_kind, slice_index, TakesBytes, ℕ, [], ◌+◌, ◌<◌, ◌∷◌, ◌≡◌}
-use Rattle.vte_core.proofs.lemmas.positions.SettledStates.{settled-same_state}
-use Rattle.vte_core.proofs.lemmas.fields.PlaceOfState.{is_at-by, is_at-in}
 use Rattle.vte_core.proofs.lemmas.bytes.Classes.{other_is_dropped}
+use Rattle.vte_core.proofs.lemmas.fields.PlaceOfState.{is_at-by, is_at-in}
 use Rattle.vte_core.proofs.lemmas.places.PlaceLeads.{byte-dropped, escape-key}
+use Rattle.vte_core.proofs.lemmas.positions.SettledStates.{settled-same_state}
 use Rattle.vte_core.proofs.lemmas.positions.Stretches.{advances-byte, advances-given}
 use Rattle.vte_core.proofs.lemmas.positions.TakenBytes.{advances-in, takes-at_escape, takes-byte, takes_bytes-escape, takes_bytes-in}
 

@@ -1,22 +1,22 @@
 -- The bytes of a head, and the byte that ends it. A function that reads several of them goes on by each; `ReadsHead`
 -- says which, without the performer, which learns of a head only at its end. So both shapes, a control sequence's and
 -- a device control string's, share it (`advances-head`, `advances-past_head`).
+use Rattle.vte_core.proofs.Common.{Advances, append-nil, append_assoc, AreInClass, arith, ChunkCall, class_of, CollectedHead, ControlSequence, CountsNumbers, DeviceControl, drop, drop_more, ends_sequence, Entry, Event, false, false≢true, HasReadHead, HeadProgress, InControlSequence, InDeviceControl, is_final, is_head_byte, is_parameter_byte, IsAtPlace, IsAtPosition, IsPlaceOfState, IsSettled, IsSettledPlace, Leads, length, List, Machine, MatchOption, MayGoOn, None, Option, Parameters, Place, progress_after, ProgressAt, ReadsHead, refl, rules, SameIntermediates, slice_index, Some, State, subst, suc, sym, take, TakesByte, TakesBytes, true, zero, ℕ, [], ◌++◌, ◌+◌, ◌-◌, ◌<◌, ◌∷◌, ◌≡◌, ◌≤◌, ◌⊎◌}
+use Rattle.vte_core.proofs.lemmas.bytes.Classes.{AreInClass-append, final_ends_nothing, head_ends_nothing, parameter_is_head}
+use Rattle.vte_core.proofs.lemmas.bytes.Each.{one_byte, slice-then}
+use Rattle.vte_core.proofs.lemmas.fields.Heads.{holds-parameter}
+use Rattle.vte_core.proofs.lemmas.fields.PlaceOfState.{is_at-in, IsReachable}
+use Rattle.vte_core.proofs.lemmas.places.BytesInStream.{bytes_lead-byte, no_escape}
+use Rattle.vte_core.proofs.lemmas.places.PlaceLeads.{control-head, device-head}
+use Rattle.vte_core.proofs.lemmas.positions.AddedEvents.{adds-same, recorded-at, reported-at}
+use Rattle.vte_core.proofs.lemmas.positions.Progress.{progress-byte, progress-settled}
+use Rattle.vte_core.proofs.lemmas.positions.SettledStates.{settled-same_state}
+use Rattle.vte_core.proofs.lemmas.positions.Stretches.{advances-byte, advances-given, advances-then, advances-to_same}
+use Rattle.vte_core.proofs.lemmas.positions.TakenBytes.{takes_bytes-in}
 use Rattle.vte_core.specs.declared.head.HeadEnd.{HeadEnd}
 use Rattle.vte_core.specs.private.HeldHead.{ReadsHeadUpTo}
 use Rattle.vte_core.specs.private.Progress.{MayRead}
 use Rattle.vte_core.specs.private.ToRun.{IsOutsideRunsInState}
-use Rattle.vte_core.proofs.Common.{Advances, append-nil, append_assoc, AreInClass, arith, ChunkCall, class_of, CollectedHead, ControlSequence, CountsNumbers, DeviceControl, drop, drop_more, ends_sequence, Entry, Event, false, false≢true, HasReadHead, HeadProgress, InControlSequence, InDeviceControl, is_final, is_head_byte, is_parameter_byte, IsAtPlace, IsAtPosition, IsPlaceOfState, IsSettled, IsSettledPlace, Leads, length, List, Machine, MatchOption, MayGoOn, None, Option, Parameters, Place, progress_after, ProgressAt, ReadsHead, refl, rules, SameIntermediates, slice_index, Some, State, subst, suc, sym, take, TakesByte, TakesBytes, true, zero, ℕ, [], ◌++◌, ◌+◌, ◌-◌, ◌<◌, ◌∷◌, ◌≡◌, ◌≤◌, ◌⊎◌}
-use Rattle.vte_core.proofs.lemmas.bytes.Classes.{AreInClass-append, final_ends_nothing, head_ends_nothing, parameter_is_head}
-use Rattle.vte_core.proofs.lemmas.positions.SettledStates.{settled-same_state}
-use Rattle.vte_core.proofs.lemmas.positions.Progress.{progress-byte, progress-settled}
-use Rattle.vte_core.proofs.lemmas.positions.Stretches.{advances-byte, advances-given, advances-then, advances-to_same}
-use Rattle.vte_core.proofs.lemmas.positions.TakenBytes.{takes_bytes-in}
-use Rattle.vte_core.proofs.lemmas.fields.Heads.{holds-parameter}
-use Rattle.vte_core.proofs.lemmas.fields.PlaceOfState.{is_at-in, IsReachable}
-use Rattle.vte_core.proofs.lemmas.places.PlaceLeads.{control-head, device-head}
-use Rattle.vte_core.proofs.lemmas.positions.AddedEvents.{adds-same, recorded-at, reported-at}
-use Rattle.vte_core.proofs.lemmas.bytes.Each.{one_byte, slice-then}
-use Rattle.vte_core.proofs.lemmas.places.BytesInStream.{bytes_lead-byte, no_escape}
 
 -- ---- `ReadsHead` of no bytes, of two stretches, of a byte
 

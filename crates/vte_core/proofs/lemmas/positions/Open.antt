@@ -3,20 +3,20 @@
 use Rattle.vte_core.proofs.Common.{added, ap, arith, AtEscape, Bool, ChunkCall, class_of, CommandToClose, concat, Digit, eqb, escape, EscapeSequence, Event, events_from, false, HasReadWithLimit, InControlSequence, InDeviceControl, InDeviceData, InEscape, InIgnoredString, InSystemCommand, InText, is_truncated, IsAfter, IsAtPlace, IsDataOfOpenCommand, IsInsidePosition, IsPlaceOfState, IsRefusedInCommand, Leads, length, length-take, List, loses_data, Machine, None, open_command_size, open_data_count, Option, outcome, Place, Print, ProgressAt, ReadsUntilRefused, refl, replacement, rules, sequence_kind, slice_index, State, subst, sym, SystemCommand, take, Text, to_close_at, ToClose, true, ℕ, [], ◌++◌, ◌+◌, ◌<◌, ◌∙◌, ◌∷◌, ◌≡◌, ◌≢◌, ◌≤◌}
 use Rattle.vte_core.proofs.lemmas.bytes.Utf8.{ascii-breaks}
 use Rattle.vte_core.proofs.lemmas.fields.PlaceOfState.{in_command, is_at-by, is_at-place, IsReachable}
+use Rattle.vte_core.proofs.lemmas.fields.Stores.{open_for, pieces_stored}
+use Rattle.vte_core.proofs.lemmas.places.BytesInStream.{bytes_lead-byte, bytes_lead-item, waits-byte}
 use Rattle.vte_core.proofs.lemmas.places.PlaceLeads.{command-item, control-head, data-put, device-head, escape-end, ignored-more, intermediate-end}
+use Rattle.vte_core.proofs.lemmas.positions.Progress.{progress-command}
+use Rattle.vte_core.proofs.lemmas.positions.SettledStates.{place-settled_text}
+use Rattle.vte_core.proofs.lemmas.positions.ToRun.{reads-again}
 use Rattle.vte_core.proofs.lemmas.shapes.FirstSegment.{text_outcome-broken}
 use Rattle.vte_core.proofs.lemmas.streams.After.{added-after, added-leads, after-events, after-leads, after-nothing, after-to_close, events-empty, open_at_end-any}
-use Rattle.vte_core.proofs.lemmas.places.BytesInStream.{bytes_lead-byte, bytes_lead-item, waits-byte}
-use Rattle.vte_core.proofs.lemmas.positions.SettledStates.{place-settled_text}
-use Rattle.vte_core.proofs.lemmas.positions.Progress.{progress-command}
-use Rattle.vte_core.proofs.lemmas.positions.ToRun.{reads-again}
-use Rattle.vte_core.specs.Open.{kind_to_close, open_at_end}
-use Rattle.vte_core.specs.Stream.{IsFinished, IsUnfinished}
+use Rattle.vte_core.proofs.lemmas.streams.StreamSteps.{counts_data}
 use Rattle.vte_core.specs.declared.parser.open.Open.TheVariants as kind
 use Rattle.vte_core.specs.declared.utf8.Unfinished.TheVariants.{Empty}
+use Rattle.vte_core.specs.Open.{kind_to_close, open_at_end}
 use Rattle.vte_core.specs.private.AtPlace.{open_in}
-use Rattle.vte_core.proofs.lemmas.fields.Stores.{open_for, pieces_stored}
-use Rattle.vte_core.proofs.lemmas.streams.StreamSteps.{counts_data}
+use Rattle.vte_core.specs.Stream.{IsFinished, IsUnfinished}
 
 -- ---- what is open
 

@@ -9,14 +9,14 @@
 -- stretch reports.
 --
 -- Other files have an `advances-X` for each X that a function reads, such as `advances-text` and `advances-head`.
-use Rattle.vte_core.specs.private.Prelude.{IsOutsideRunsInState}
 use Rattle.vte_core.proofs.Common.{AddsOutsideRuns, Advances, All-nil, AnyEvents, arith, ChunkCall, Empty, escape, IsAfter, IsAtPlace, IsAtPosition, IsInsidePosition, IsOutsideRuns, IsSettled, IsSettledPlace, length, List, Machine, MayGoOn, Place, refl, resumed_stream, rules, slice_index, subst, sym, TakesBytes, Text, ℕ, [], ◌+◌, ◌<◌, ◌∷◌, ◌≡◌}
-use Rattle.vte_core.proofs.lemmas.positions.SettledStates.{place-settled_text}
-use Rattle.vte_core.proofs.lemmas.positions.Progress.{progress-byte}
-use Rattle.vte_core.proofs.lemmas.positions.CallEnds.{settles}
+use Rattle.vte_core.proofs.lemmas.fields.PlaceOfState.{is_at-place}
 use Rattle.vte_core.proofs.lemmas.places.BytesInStream.{bytes_lead-escape}
 use Rattle.vte_core.proofs.lemmas.positions.AddedEvents.{adds-leads, adds-outside_runs, adds-then, outside_runs-place}
-use Rattle.vte_core.proofs.lemmas.fields.PlaceOfState.{is_at-place}
+use Rattle.vte_core.proofs.lemmas.positions.CallEnds.{settles}
+use Rattle.vte_core.proofs.lemmas.positions.Progress.{progress-byte}
+use Rattle.vte_core.proofs.lemmas.positions.SettledStates.{place-settled_text}
+use Rattle.vte_core.specs.private.Prelude.{IsOutsideRunsInState}
 
 module _ {V B : Type 0} {call : ChunkCall V} where
   pub advances-nothing : {outside : Type 0} {value : V} {i : ℕ} {parser : Machine B}

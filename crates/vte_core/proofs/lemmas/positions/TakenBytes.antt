@@ -1,12 +1,12 @@
 -- A byte that a state's function reads. The state says at which place the parser is, so what the byte does after that
 -- place is what the function must have done (`takes-X`, `takes_bytes-X`); `advances-in`: then the call goes on past it.
-use Rattle.vte_core.specs.private.Prelude.{IsOutsideRunsInState}
 use Rattle.vte_core.proofs.Common.{Advances, after, arith, AtEscape, BytesLead, ChunkCall, class_of, closing_events_at, DeviceData, Empty, ends_sequence, eqb, Escape, escape, EscapeIntermediate, Event, false, HoldsIntermediates, HoldsItems, IgnoredString, InDeviceData, InEscape, InIgnoredString, InSystemCommand, InText, IsAtPlace, IsPlaceOfState, IsSettled, IsSettledPlace, Leads, length, List, Machine, MayGoOn, nat_tests, Option, Place, rules, slice_index, State, subst, sym, SystemCommand, TakesByte, TakesBytes, Text, ℕ, [], ◌+◌, ◌<◌, ◌∷◌, ◌≡◌, ◌≢◌}
-use Rattle.vte_core.proofs.lemmas.positions.SettledStates.{place-settled_text}
-use Rattle.vte_core.proofs.lemmas.places.BytesInStream.{bytes_lead-escape, no_escape}
-use Rattle.vte_core.proofs.lemmas.streams.After.{takes_bytes-one}
 use Rattle.vte_core.proofs.lemmas.fields.PlaceOfState.{is_at-by, is_at-in, is_at-place}
+use Rattle.vte_core.proofs.lemmas.places.BytesInStream.{bytes_lead-escape, no_escape}
+use Rattle.vte_core.proofs.lemmas.positions.SettledStates.{place-settled_text}
 use Rattle.vte_core.proofs.lemmas.positions.Stretches.{advances-byte, advances-weaker}
+use Rattle.vte_core.proofs.lemmas.streams.After.{takes_bytes-one}
+use Rattle.vte_core.specs.private.Prelude.{IsOutsideRunsInState}
 
 -- ---- a byte between characters of a text, other than ESC
 

@@ -1,18 +1,18 @@
 -- What a run of text does to a call's progress: its characters one by one do the same. By induction over the
 -- characters, and for the performer by its contract over the whole run.
-use Rattle.vte_core.proofs.Common.{added, Advances, after, All, All-append, All-head, All-nil, All-tail, AnyEvents, ap, append-nil, arith, Bool, breaks_at, BytesLead, cases_Bool, character_event, chars, ChunkCall, cut_at_escape, drop, Empty, encode, encodes, escape, Event, events, false, inl, inr, InText, is_control_character, IsAtPlace, IsAtPosition, IsInsidePosition, IsPrintedAscii, IsUtf8, IsUtf8Run, length, List, Machine, malformed_event, map, MayGoOn, nat_tests, NoCharacterStops, Option, outcome_from, Print, PrintsRun, ProgressAt, refl, replacement, reported_before, resumed_stream, rules, run_event, slice_index, StaysInRun, subst, sym, take, take-append-drop, Text, text_outcome, true, with_bodies, ℕ, [], ◌++◌, ◌+◌, ◌-◌, ◌<◌, ◌∙◌, ◌∷◌, ◌≡◌, ◌≢◌, ◌≤◌}
 use Rattle.std.proofs.lemmas.List.{take-take}
 use Rattle.std.proofs.lemmas.Str.{encodes-chars, scalars-chars}
+use Rattle.vte_core.proofs.Common.{added, Advances, after, All, All-append, All-head, All-nil, All-tail, AnyEvents, ap, append-nil, arith, Bool, breaks_at, BytesLead, cases_Bool, character_event, chars, ChunkCall, cut_at_escape, drop, Empty, encode, encodes, escape, Event, events, false, inl, inr, InText, is_control_character, IsAtPlace, IsAtPosition, IsInsidePosition, IsPrintedAscii, IsUtf8, IsUtf8Run, length, List, Machine, malformed_event, map, MayGoOn, nat_tests, NoCharacterStops, Option, outcome_from, Print, PrintsRun, ProgressAt, refl, replacement, reported_before, resumed_stream, rules, run_event, slice_index, StaysInRun, subst, sym, take, take-append-drop, Text, text_outcome, true, with_bodies, ℕ, [], ◌++◌, ◌+◌, ◌-◌, ◌<◌, ◌∙◌, ◌∷◌, ◌≡◌, ◌≢◌, ◌≤◌}
 use Rattle.vte_core.proofs.lemmas.bytes.Each.{each-one}
 use Rattle.vte_core.proofs.lemmas.bytes.Runs.{chars-one, layout-is_control_character, run-ascii, run_event-no_control, run_event-printed}
 use Rattle.vte_core.proofs.lemmas.dividing.Utf8Agrees.{cut-text, text_outcome-encodes}
-use Rattle.vte_core.proofs.lemmas.positions.SettledStates.{place-settled_text, settled-same_state}
-use Rattle.vte_core.proofs.lemmas.positions.Progress.{progress-further, stretch-added}
-use Rattle.vte_core.proofs.lemmas.positions.CallEnds.{settles}
-use Rattle.vte_core.proofs.lemmas.streams.After.{added-leads, after_events-append}
-use Rattle.vte_core.proofs.lemmas.shapes.Outcomes.{with_bodies-report}
-use Rattle.vte_core.proofs.lemmas.shapes.BrokenCharacters.{reported-broken, reported-settled}
 use Rattle.vte_core.proofs.lemmas.EarlyStops.{added-append}
+use Rattle.vte_core.proofs.lemmas.positions.CallEnds.{settles}
+use Rattle.vte_core.proofs.lemmas.positions.Progress.{progress-further, stretch-added}
+use Rattle.vte_core.proofs.lemmas.positions.SettledStates.{place-settled_text, settled-same_state}
+use Rattle.vte_core.proofs.lemmas.shapes.BrokenCharacters.{reported-broken, reported-settled}
+use Rattle.vte_core.proofs.lemmas.shapes.Outcomes.{with_bodies-report}
+use Rattle.vte_core.proofs.lemmas.streams.After.{added-leads, after_events-append}
 use Rattle.vte_core.proofs.lemmas.streams.StreamSteps.{reported_by_stream}
 
 -- ---- what a text gives, and a run

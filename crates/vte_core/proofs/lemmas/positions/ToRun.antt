@@ -1,22 +1,22 @@
 -- Runs that a caller takes from its own input: bytes that lead from the parser's place back to it, so the parser
 -- needn't change, and that no further printed character or data byte follows.
 use Rattle.vte_core.proofs.Common.{append-nil, ArePositions, arith, BytesLead, ChunkCall, class_of, DeviceData, drop, drop_more, Empty, false, HasNoRunAt, HasReadWithLimit, InDeviceData, IsAtPlace, IsAtPosition, IsPlaceOfState, IsRun, IsSettled, length, length-drop, length-take, List, Machine, map, Option, Place, Put, refl, resumed_stream, rules, slice_index, State, subst, suc, sym, take, Text, true, Unfinished, zero, ℕ, [], ◌++◌, ◌+◌, ◌-◌, ◌<◌, ◌≡◌, ◌≤◌}
-use Rattle.vte_core.specs.private.Prelude.{AreOfKind, ArePut, ComesToRun, IsDeviceData, IsOutsideTextAndData, IsTaken}
-use Rattle.vte_core.specs.private.ToRun.{bytes_at, HasRun, IsWholeAt, kind_events}
+use Rattle.vte_core.proofs.lemmas.bytes.Classes.{data_ends_nothing}
+use Rattle.vte_core.proofs.lemmas.fields.PlaceOfState.{is_at-in, IsReachable}
+use Rattle.vte_core.proofs.lemmas.places.BytesInStream.{bytes_lead-append, bytes_lead-byte, bytes_lead-nothing, no_escape}
+use Rattle.vte_core.proofs.lemmas.places.PlaceLeads.{data-put}
+use Rattle.vte_core.proofs.lemmas.positions.CallEnds.{call_ends-comes, call_ends-reads}
+use Rattle.vte_core.proofs.lemmas.positions.SettledStates.{place-settled_text}
+use Rattle.vte_core.proofs.lemmas.positions.TextRuns.{bytes_lead-text}
+use Rattle.vte_core.proofs.lemmas.streams.After.{added-leads, added-nothing, after-leads, after-nothing}
 use Rattle.vte_core.specs.AdvanceToRun.{IsLongestRun, IsRunIn, ReturnsRun, run_bytes, taken_bytes, taken_events}
 use Rattle.vte_core.specs.declared.reader.run.Run.{Run}
 use Rattle.vte_core.specs.declared.reader.run.RunKind.{RunKind}
 use Rattle.vte_core.specs.declared.reader.run.RunKind.TheVariants.{Data as DataKind, NoRun, Text as TextKind}
 use Rattle.vte_core.specs.declared.reader.run.RunRange.{RunRange}
 use Rattle.vte_core.specs.declared.reader.run.Taken.{Taken}
-use Rattle.vte_core.proofs.lemmas.bytes.Classes.{data_ends_nothing}
-use Rattle.vte_core.proofs.lemmas.positions.SettledStates.{place-settled_text}
-use Rattle.vte_core.proofs.lemmas.positions.CallEnds.{call_ends-comes, call_ends-reads}
-use Rattle.vte_core.proofs.lemmas.positions.TextRuns.{bytes_lead-text}
-use Rattle.vte_core.proofs.lemmas.fields.PlaceOfState.{is_at-in, IsReachable}
-use Rattle.vte_core.proofs.lemmas.places.PlaceLeads.{data-put}
-use Rattle.vte_core.proofs.lemmas.streams.After.{added-leads, added-nothing, after-leads, after-nothing}
-use Rattle.vte_core.proofs.lemmas.places.BytesInStream.{bytes_lead-append, bytes_lead-byte, bytes_lead-nothing, no_escape}
+use Rattle.vte_core.specs.private.Prelude.{AreOfKind, ArePut, ComesToRun, IsDeviceData, IsOutsideTextAndData, IsTaken}
+use Rattle.vte_core.specs.private.ToRun.{bytes_at, HasRun, IsWholeAt, kind_events}
 
 -- ---- no run
 

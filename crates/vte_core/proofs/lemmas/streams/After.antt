@@ -2,13 +2,13 @@
 -- another place, that one is after the longer stream, and their events are added (`after-leads`).
 --
 -- `added-X` says what `added` is in the case X, and `after-X` what `IsAfter` says of X.
-use Rattle.vte_core.proofs.Common.{added, after, ap, append-nil, append_assoc, arith, AtEscape, body_outcome, body_rest, Bool, BytesLead, cases_Bool, class_of, closing_events_at, CommandToClose, cut_at_escape, drop-append_seam, drop_all, eqb, escape, Event, events, events_from, false, from_first, HasReadWithLimit, inl, inr, InText, is_cancel, is_key, is_truncated, is_well_formed, IsAfter, IsAtPlace, List, Machine, None, open_at, open_bytes, open_character, Option, Outcome, outcome, outcome_from, Place, Print, refl, replacement, report, rules, sequence_kind, sequence_outcome, SequenceKind, sym, system_command_outcome, TakesByte, TakesBytes, text_outcome, to_close_at, ToClose, true, with_bodies, ℕ, [], ◌++◌, ◌∙◌, ◌∷◌, ◌≡◌, ◌⊎◌}
 use Rattle.std.proofs.Common.{eqb-true}
+use Rattle.vte_core.proofs.Common.{added, after, ap, append-nil, append_assoc, arith, AtEscape, body_outcome, body_rest, Bool, BytesLead, cases_Bool, class_of, closing_events_at, CommandToClose, cut_at_escape, drop-append_seam, drop_all, eqb, escape, Event, events, events_from, false, from_first, HasReadWithLimit, inl, inr, InText, is_cancel, is_key, is_truncated, is_well_formed, IsAfter, IsAtPlace, List, Machine, None, open_at, open_bytes, open_character, Option, Outcome, outcome, outcome_from, Place, Print, refl, replacement, report, rules, sequence_kind, sequence_outcome, SequenceKind, sym, system_command_outcome, TakesByte, TakesBytes, text_outcome, to_close_at, ToClose, true, with_bodies, ℕ, [], ◌++◌, ◌∙◌, ◌∷◌, ◌≡◌, ◌⊎◌}
 use Rattle.vte_core.proofs.lemmas.bytes.Utf8.{ascii-breaks, Tests}
-use Rattle.vte_core.proofs.lemmas.shapes.Outcomes.{report-append}
-use Rattle.vte_core.proofs.lemmas.shapes.FirstSegment.{text_outcome-broken}
 use Rattle.vte_core.proofs.lemmas.fields.PlaceOfState.{events_from-nothing, IsReachable, may_continue-truncated, open_bytes-at, outcome_from-nothing}
 use Rattle.vte_core.proofs.lemmas.places.BytesInStream.{bytes_lead-byte, events-after_nothing, outcome_from-escape, waits-byte}
+use Rattle.vte_core.proofs.lemmas.shapes.FirstSegment.{text_outcome-broken}
+use Rattle.vte_core.proofs.lemmas.shapes.Outcomes.{report-append}
 use Rattle.vte_core.specs.Open.{kind_to_close, open_at_end}
 
 -- ---- from a byte to bytes, and from a place to what a parser has read

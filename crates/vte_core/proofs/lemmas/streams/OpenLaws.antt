@@ -1,6 +1,12 @@
 -- What is open at the end of a stream: nothing before the last ESC has a say in it, and an open character is the last
 -- bytes of the stream. By the definitions, part by part.
 use Rattle.vte_core.proofs.Common.{All, ap, append-nil, append_assoc, arith, body_outcome, body_rest, Bool, cases_Bool, class_of, concat, control_sequence_outcome, cut_at_escape, device_control_after_head, device_control_outcome, device_data_outcome, ends_device_data, ends_head, ends_system_command, eqb-true, escape, escape_outcome, EscapeSequence, from_first, inl, inr, is_cancel, is_key, length, List, None, open_at, open_bytes, open_character, Option, Outcome, outcome, Place, refl, rules, segments, segments_outcome, sequence_kind, sequence_outcome, SequenceKind, subst, sym, system_command_outcome, system_command_rest, text_outcome, with_bodies, ℕ, [], ◌++◌, ◌∙◌, ◌∷◌, ◌≡◌, ◌≢◌, ◌≤◌, ◌⊎◌}
+use Rattle.vte_core.proofs.lemmas.bytes.Utf8.{truncated-long}
+use Rattle.vte_core.proofs.lemmas.dividing.Division.{all_divided}
+use Rattle.vte_core.proofs.lemmas.dividing.Utf8Agrees.{cut-text}
+use Rattle.vte_core.proofs.lemmas.fields.PlaceOfState.{IsReachable}
+use Rattle.vte_core.proofs.lemmas.streams.After.{after-open_character}
+use Rattle.vte_core.proofs.lemmas.streams.StreamSteps.{leads_to}
 use Rattle.vte_core.specs.Class.{ends_escape}
 use Rattle.vte_core.specs.ControlSequence.{control_sequence_rest}
 use Rattle.vte_core.specs.declared.parser.open.Open.TheVariants as kind
@@ -10,12 +16,6 @@ use Rattle.vte_core.specs.IgnoredString.{ignored_string_outcome, ignored_string_
 use Rattle.vte_core.specs.Laws.{OpensLate}
 use Rattle.vte_core.specs.Open.{kind_to_close, open_at_end}
 use Rattle.vte_core.specs.SequenceKind.{ControlSequence, DeviceControl, IgnoredString, SystemCommand}
-use Rattle.vte_core.proofs.lemmas.bytes.Utf8.{truncated-long}
-use Rattle.vte_core.proofs.lemmas.dividing.Division.{all_divided}
-use Rattle.vte_core.proofs.lemmas.dividing.Utf8Agrees.{cut-text}
-use Rattle.vte_core.proofs.lemmas.fields.PlaceOfState.{IsReachable}
-use Rattle.vte_core.proofs.lemmas.streams.After.{after-open_character}
-use Rattle.vte_core.proofs.lemmas.streams.StreamSteps.{leads_to}
 
 -- ---- some bytes are the last of others (`Ends`)
 

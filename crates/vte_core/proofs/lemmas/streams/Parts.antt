@@ -1,17 +1,17 @@
 -- Parts give the events of their stream, because it begins again at each ESC (`resynchronises`); so it does at a byte
 -- that breaks a character.
-use Rattle.memchr.specs.Find.{is_byte, NoneBefore, Nowhere, Passes}
 use Rattle.std.proofs.lemmas.List.Sums.{passes_at_first, position_or_len_is}
 use Rattle.std.specs.List.{position_or_len}
-use Rattle.vte_core.specs.Parts.{AreCuts, EndsWithEscape, GiveEvents, next_escape, parts_after, parts_at, parts_from, parts_of}
+use Rattle.memchr.specs.Find.{is_byte, NoneBefore, Nowhere, Passes}
 use Rattle.vte_core.proofs.Common.{added, and_parts, ap, append-nil, append_assoc, arith, Bool, breaks, cases_lt, drop, drop-append_seam, drop-drop, drop_all, drop_more, eqb-true, escape, events, false, false≢true, flat_map, get_or-drop, inl, inr, InText, IsAfter, length, length-drop, List, min, not-true, open_at, open_character, Option, outcome, outcome_from, Place, Print, refl, replacement, report, rules, slice_index, slice_range, suc, sym, take, take-append-drop, take_all, take_more, take_rest, true, zero, ℕ, [], ◌++◌, ◌+◌, ◌-◌, ◌<◌, ◌∙◌, ◌∷◌, ◌≡◌}
-use Rattle.vte_core.specs.Outcome.{closing_events}
-use Rattle.vte_core.proofs.lemmas.streams.After.{added-leads, after-open_character, after-to_close, events-empty, events-reported, waits-broken}
-use Rattle.vte_core.proofs.lemmas.places.BytesInStream.{bytes_lead-escape, outcome-after_nothing}
-use Rattle.vte_core.proofs.lemmas.streams.StreamSteps.{events_grow, leads_to, LeadsTo, resynchronises}
 use Rattle.vte_core.proofs.lemmas.fields.PlaceOfState.{IsReachable}
-use Rattle.vte_core.proofs.lemmas.shapes.Outcomes.{report-append}
+use Rattle.vte_core.proofs.lemmas.places.BytesInStream.{bytes_lead-escape, outcome-after_nothing}
 use Rattle.vte_core.proofs.lemmas.shapes.BrokenCharacters.{breaks-no_byte}
+use Rattle.vte_core.proofs.lemmas.shapes.Outcomes.{report-append}
+use Rattle.vte_core.proofs.lemmas.streams.After.{added-leads, after-open_character, after-to_close, events-empty, events-reported, waits-broken}
+use Rattle.vte_core.proofs.lemmas.streams.StreamSteps.{events_grow, leads_to, LeadsTo, resynchronises}
+use Rattle.vte_core.specs.Outcome.{closing_events}
+use Rattle.vte_core.specs.Parts.{AreCuts, EndsWithEscape, GiveEvents, next_escape, parts_after, parts_at, parts_from, parts_of}
 
 -- ---- an ESC cuts a stream
 

@@ -1,16 +1,16 @@
 -- A stream of any bytes, from its prefix: each byte leads from a place to a place (`arrives`), so what a stream gives
 -- stays as it is whatever follows, and it begins again when all places lead to the same.
-use Rattle.vte_core.specs.Laws.{Grows, OpensSilently, Resyncs, ResyncsAfter}
+use Rattle.std.proofs.lemmas.Str.{length-encode}
 use Rattle.vte_core.proofs.Common.{added, All, All-append, All-nil, ap, append_assoc, AreBrief, arith, AtEscape, BytesLead, Cancel, cases_lt, character_event, class_of, CommandToClose, CountsData, drop, escape, Event, events, events_from, inl, inr, InSystemCommand, InText, is_control_character, is_well_formed, IsAfter, IsBounded, IsOutsideRuns, length, length-append, List, nat_tests, None, open_at, open_character, open_data_count, Option, Place, PrintsNoAscii, refl, rules, scalar_of, Some, sym, to_close_at, ToClose, true, ℕ, [], ◌++◌, ◌+◌, ◌<◌, ◌∙◌, ◌∷◌, ◌≡◌, ◌≢◌, ◌≤◌}
+use Rattle.vte_core.proofs.lemmas.dividing.Utf8Agrees.{well_formed_is_encoded}
+use Rattle.vte_core.proofs.lemmas.fields.Pieces.{pieces_fit}
+use Rattle.vte_core.proofs.lemmas.fields.PlaceOfState.{IsReachable}
 use Rattle.vte_core.proofs.lemmas.places.BytesInStream.{bytes_lead-append, bytes_lead-byte, bytes_lead-escape, bytes_lead-nothing, cancel_is_no_escape, events-after_nothing, outcome_from-escape}
+use Rattle.vte_core.proofs.lemmas.places.PlaceSteps.{steps}
 use Rattle.vte_core.proofs.lemmas.places.Steps.{OpenPiecesFit, Steps}
 use Rattle.vte_core.proofs.lemmas.places.TextSteps.{byte-cancels}
 use Rattle.vte_core.proofs.lemmas.streams.After.{added-after, added-leads, after-events, after-leads, after-nothing, after-open_character, after-to_close, events-empty}
-use Rattle.vte_core.proofs.lemmas.places.PlaceSteps.{steps}
-use Rattle.vte_core.proofs.lemmas.fields.PlaceOfState.{IsReachable}
-use Rattle.vte_core.proofs.lemmas.fields.Pieces.{pieces_fit}
-use Rattle.std.proofs.lemmas.Str.{length-encode}
-use Rattle.vte_core.proofs.lemmas.dividing.Utf8Agrees.{well_formed_is_encoded}
+use Rattle.vte_core.specs.Laws.{Grows, OpensSilently, Resyncs, ResyncsAfter}
 
 to_close-fits : (limit : Option ℕ) (place : Place) → OpenPiecesFit limit (to_close_at limit place)
 to_close-fits limit (InText []) = tt

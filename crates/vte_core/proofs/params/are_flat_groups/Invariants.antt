@@ -1,6 +1,6 @@
 -- The lengths so far and what is left are all numbers, and no length is 0.
-use Rattle.vte_core.proofs.Common.{length, sum, take, ◌+◌, ◌<◌, ◌≡◌}
 use Rattle.std.proofs.Common.{All}
+use Rattle.vte_core.proofs.Common.{length, sum, take, ◌+◌, ◌<◌, ◌≡◌}
 use Rattle.vte_core.proofs.params.are_flat_groups.Given as goal
 
 abbrev pub invariant-loop-length : goal.invariant-loop-length

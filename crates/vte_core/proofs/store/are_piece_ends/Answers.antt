@@ -1,6 +1,6 @@
 -- The ends are sorted if std says so, and otherwise two that follow each other are not in order.
-use Rattle.vte_core.proofs.Common.{arith, rules, ◌+◌}
 use Rattle.std.proofs.lemmas.List.Sorted.{non_decreasing_from_is_sorted}
+use Rattle.vte_core.proofs.Common.{arith, rules, ◌+◌}
 use Rattle.vte_core.proofs.store.are_piece_ends.Goals as goal
 
 pub returns-then-is_sorted : goal.returns-then-is_sorted

@@ -1,7 +1,7 @@
 -- The text is this row's keyword, or is looked up in the rows that follow (`entry-from_row`).
 use Rattle.std.proofs.Common.{sym, ◌∙◌}
-use Rattle.vte_types.proofs.lemmas.Words.{entry-from_row}
 use Rattle.vte_types.proofs.cursor_icon.find_icon.Goals as goal
+use Rattle.vte_types.proofs.lemmas.Words.{entry-from_row}
 
 pub loop-keyword-preserved : goal.loop-keyword-preserved
 loop-keyword-preserved c =

@@ -1,7 +1,7 @@
 -- The text of a chunk has at most eight bytes for each of its own, so there is room for all of it (`text-kept`).
 use Rattle.event_log.proofs.Common.{ap, arith, default_limit, HeldText, length, rules, sym, take-append-drop, ◌<◌, ◌∙◌}
-use Rattle.event_log.proofs.lemmas.Lengths.{text-kept}
 use Rattle.event_log.proofs.lemmas.HeldTexts.{room-for_unit}
+use Rattle.event_log.proofs.lemmas.Lengths.{text-kept}
 use Rattle.event_log.proofs.plain.PlainCollector.collect.Goals as goal
 
 pub loop-self-preserved : goal.loop-self-preserved

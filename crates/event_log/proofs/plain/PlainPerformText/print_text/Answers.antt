@@ -1,8 +1,8 @@
 -- A run that fits is taken at once (`run-taken`). Otherwise its characters are, one by one: the iterator yields all.
-use Rattle.event_log.proofs.Common.{after, ap, arith, held_text_of, held_with_event, held_with_text, map, plain_text_of, run_event, sym, true, ◌∙◌}
 use Rattle.std.proofs.lemmas.Iterator.{YieldsList-from_chars}
 use Rattle.std.proofs.lemmas.Iterator.Consumers.{YieldsList-end}
 use Rattle.std.proofs.lemmas.List.{map-id}
+use Rattle.event_log.proofs.Common.{after, ap, arith, held_text_of, held_with_event, held_with_text, map, plain_text_of, run_event, sym, true, ◌∙◌}
 use Rattle.event_log.proofs.lemmas.Lengths.{after-more, run-taken, text_of-character}
 use Rattle.event_log.proofs.plain.PlainPerformText.print_text.Goals as goal
 

@@ -3,10 +3,10 @@ use Rattle.std.proofs.Common.{ap, false, map, sym, ◌∙◌}
 use Rattle.std.proofs.lemmas.Iterator.{YieldsList-from_chars}
 use Rattle.std.proofs.lemmas.Iterator.Consumers.{YieldsList-end}
 use Rattle.std.proofs.lemmas.List.{map-id}
+use Rattle.test_lines.proofs.event_lines.EventLinesPerformText.print_text.Goals as goal
 use Rattle.test_lines.specs.Stop.{stop_after}
 use Rattle.vte_core.specs.Event.{after}
 use Rattle.vte_core.specs.Text.{run_event}
-use Rattle.test_lines.proofs.event_lines.EventLinesPerformText.print_text.Goals as goal
 
 pub returns : goal.returns
 returns c =

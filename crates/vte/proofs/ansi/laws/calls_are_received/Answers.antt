@@ -1,6 +1,6 @@
 -- Each law is a lemma on lists of calls.
-use Rattle.vte.proofs.lemmas.replays.ReplayedSteps.{refused_delivered, replay-append, replay-invariant, replay-only_one, steps_delivered}
 use Rattle.vte.proofs.ansi.laws.calls_are_received.Goals as goal
+use Rattle.vte.proofs.lemmas.replays.ReplayedSteps.{refused_delivered, replay-append, replay-invariant, replay-only_one, steps_delivered}
 
 pub returns-clause-calls : goal.returns-clause-calls
 returns-clause-calls g c = λ limit. steps_delivered _

@@ -1,19 +1,19 @@
 -- The worked examples: the definitions compute.
-use Rattle.vte.proofs.Common.{all_reset, chars, digits, events, is_utf8, outcome, refl, trim_end, trim_start}
 use Rattle.std.specs.Char.{encode_utf8}
+use Rattle.vte.proofs.ansi.laws.worked_examples.Goals as goal
+use Rattle.vte.proofs.Common.{all_reset, chars, digits, events, is_utf8, outcome, refl, trim_end, trim_start}
+use Rattle.vte.specs.ControlSequenceCalls.{table_without_intermediates}
 use Rattle.vte_core.specs.Body.{body_outcome}
 use Rattle.vte_core.specs.Class.{class_of}
 use Rattle.vte_core.specs.ControlSequence.{control_sequence_end, control_sequence_outcome}
 use Rattle.vte_core.specs.Escape.{escape_outcome}
 use Rattle.vte_core.specs.Head.{head_of, is_well_shaped, sequence_event}
-use Rattle.vte_core.specs.SequenceKind.{sequence_kind}
 use Rattle.vte_core.specs.Parameters.{groups_of, has_too_many_numbers, numbers}
+use Rattle.vte_core.specs.SequenceKind.{sequence_kind}
 use Rattle.vte_core.specs.SystemCommand.{kept_items, pieces_of, system_command_outcome}
 use Rattle.vte_core.specs.Text.{character_event, executed_events, malformed_event, segment_event, text_outcome}
 use Rattle.vte_core.specs.Utf8.{is_truncated, is_well_formed, trailing_count, utf8_rows}
 use Rattle.vte_types.specs.NamedColor.{number_of_color}
-use Rattle.vte.specs.ControlSequenceCalls.{table_without_intermediates}
-use Rattle.vte.proofs.ansi.laws.worked_examples.Goals as goal
 
 pub returns : goal.returns
 unfolding events outcome text_outcome segment_event character_event malformed_event utf8_rows is_well_formed

@@ -1,7 +1,7 @@
 -- The size of the data is its end minus its start. The end may saturate, but then the size is above 1,024 in any case
 -- (`size-without_saturation`).
-use Rattle.vte_c.proofs.Common.{ap, arith, Buffers, flat_map, is_at_limit, length, length-map, map, min, nat_le, nat_tests, paused_if, piece_bytes, sym, ℕ, ◌+◌, ◌-◌, ◌<◌, ◌∙◌, ◌≡◌}
 use Rattle.std.specs.Prelude.{◌^◌}
+use Rattle.vte_c.proofs.Common.{ap, arith, Buffers, flat_map, is_at_limit, length, length-map, map, min, nat_le, nat_tests, paused_if, piece_bytes, sym, ℕ, ◌+◌, ◌-◌, ◌<◌, ◌∙◌, ◌≡◌}
 use Rattle.vte_c.proofs.events.EventWriter.write_command.Goals as goal
 
 size-without_saturation : (used size : ℕ) → used < 2 ^ 32

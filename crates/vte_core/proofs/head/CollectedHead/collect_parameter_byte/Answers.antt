@@ -1,7 +1,7 @@
 -- A digit makes the open number longer; a separator stores it and opens another.
 use Rattle.vte_core.proofs.Common.{arith, Bool, false, refl, rules, true, ◌≡◌}
-use Rattle.vte_core.proofs.lemmas.fields.Heads.{counts-digit, counts-separator}
 use Rattle.vte_core.proofs.head.CollectedHead.collect_parameter_byte.Goals as goal
+use Rattle.vte_core.proofs.lemmas.fields.Heads.{counts-digit, counts-separator}
 
 pub returns-in-Some-clause-counts : goal.returns-in-Some-clause-counts
 returns-in-Some-clause-counts c = search (rules, arith, counts-digit)

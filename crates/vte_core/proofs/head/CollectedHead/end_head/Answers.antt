@@ -1,7 +1,7 @@
 -- The last number is stored, so what is held is the whole head: whether too many numbers were given or not.
 use Rattle.vte_core.proofs.Common.{refl}
-use Rattle.vte_core.proofs.lemmas.fields.Heads.{head-whole}
 use Rattle.vte_core.proofs.head.CollectedHead.end_head.Goals as goal
+use Rattle.vte_core.proofs.lemmas.fields.Heads.{head-whole}
 
 pub returns-then-self : goal.returns-then-self
 returns-then-self c =

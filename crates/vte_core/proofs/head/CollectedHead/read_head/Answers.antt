@@ -1,7 +1,7 @@
 -- Each round reads one byte of the head, and what was read adds up (`reads_head-then`).
 use Rattle.vte_core.proofs.Common.{arith, refl, rules, sym, ◌∙◌}
-use Rattle.vte_core.proofs.lemmas.positions.HeadStretches.{reads_head-byte, reads_head-nothing, reads_head-then}
 use Rattle.vte_core.proofs.head.CollectedHead.read_head.Goals as goal
+use Rattle.vte_core.proofs.lemmas.positions.HeadStretches.{reads_head-byte, reads_head-nothing, reads_head-then}
 
 pub loop-position-init : goal.loop-position-init
 loop-position-init c = record { reads = reads_head-nothing c.requires; looks = omega arith; no_next = refl }

@@ -1,10 +1,10 @@
 -- A digit makes the open number longer, a separator stores it and opens another: so the head is read byte by byte. At
 -- the end either no byte was read, and the part of the head is the old one, or it is that of parameters.
 use Rattle.vte_core.proofs.Common.{arith, class_of, refl, rules, ◌∙◌, ◌≡◌}
-use Rattle.vte_core.proofs.lemmas.positions.HeadStretches.{progress_after-more, progress_after-none, reads_head-nothing, reads_head-parameter}
-use Rattle.vte_core.proofs.lemmas.fields.Heads.{counts-digit, counts-separator}
 use Rattle.vte_core.proofs.head.CollectedHead.read_numbers.Goals.{in-Some, in_default+then-reads_separators+then-byte-eq59}
 use Rattle.vte_core.proofs.head.CollectedHead.read_numbers.Goals as goal
+use Rattle.vte_core.proofs.lemmas.fields.Heads.{counts-digit, counts-separator}
+use Rattle.vte_core.proofs.lemmas.positions.HeadStretches.{progress_after-more, progress_after-none, reads_head-nothing, reads_head-parameter}
 
 -- At first, no byte is read.
 pub loop-position-init : goal.loop-position-init

@@ -1,8 +1,8 @@
 -- The numbers are read up to this position; the last one is open, in a local variable. One look for each byte.
 use Rattle.vte_core.proofs.Common.{length, looks_of, None, progress_after, ReadsHead, ◌+◌, ◌-◌, ◌≡◌, ◌≤◌}
+use Rattle.vte_core.proofs.head.CollectedHead.read_numbers.Given as goal
 use Rattle.vte_core.specs.Parameters.{max_value}
 use Rattle.vte_core.specs.private.HeldHead.{with_open_number}
-use Rattle.vte_core.proofs.head.CollectedHead.read_numbers.Given as goal
 
 abbrev pub invariant-loop-position : goal.invariant-loop-position
 invariant-loop-position l = record {

@@ -1,8 +1,8 @@
 -- The first length is cut off with its numbers, and the other lengths fit the rest.
 use Rattle.vte_core.proofs.Common.{List, subst, ℕ}
-use Rattle.vte_core.specs.private.Store.{AreLengths}
 use Rattle.vte_core.proofs.lemmas.fields.Numbers.{AreLengths-rest}
 use Rattle.vte_core.proofs.params.ParamsIterIterator.next.Goals as goal
+use Rattle.vte_core.specs.private.Store.{AreLengths}
 
 pub invariant_of-self : goal.invariant_of-self
 invariant_of-self c = rw c.split_at.ensures.back

@@ -2,8 +2,8 @@
 -- (`run-*`), or it ends. It ends (`ends-*`) if the byte is single, the bytes end too soon, or a byte does not fit: each
 -- test that fails excludes the character that would be there.
 use Rattle.vte_core.proofs.Common.{ap, arith, false≢true, from_to, is_in, refl, rules, sym, ◌∙◌}
-use Rattle.vte_core.proofs.lemmas.bytes.Runs.{run-layout}
 use Rattle.vte_core.proofs.lemmas.bytes.NoRuns.{no_run-four, no_run-long, no_run-single, no_run-three, no_run-two}
+use Rattle.vte_core.proofs.lemmas.bytes.Runs.{run-layout}
 use Rattle.vte_core.proofs.lemmas.bytes.Scalars.{in_range-bounds}
 use Rattle.vte_core.proofs.lemmas.dividing.Utf8Agrees.{run-four, run-three, run-two}
 use Rattle.vte_core.proofs.reader.Reader.find_non_ascii_end.Goals.{else-may_begin_four-via-then-may_begin_four+in_ok-get_byte-2+then-is_continuation-2+in_ok-get_byte-3+else-is_continuation-3 as fourth-misfits}

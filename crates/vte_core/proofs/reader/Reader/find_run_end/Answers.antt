@@ -1,7 +1,7 @@
 -- A short search first. If the run goes on where that ends, the long one continues it.
 use Rattle.vte_core.proofs.Common.{arith, eqb-true, rules}
-use Rattle.vte_core.proofs.lemmas.bytes.Scans.{scans-run}
 use Rattle.vte_core.proofs.lemmas.bytes.NoRuns.{no_run-all}
+use Rattle.vte_core.proofs.lemmas.bytes.Scans.{scans-run}
 use Rattle.vte_core.proofs.reader.Reader.find_run_end.Goals as goal
 
 pub returns-else-end-len-clause-scans : goal.returns-else-end-len-clause-scans

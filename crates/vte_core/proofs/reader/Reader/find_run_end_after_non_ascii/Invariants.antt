@@ -1,8 +1,8 @@
 -- All bytes so far are a run, with one look for each before the first ASCII.
 use Rattle.vte_core.proofs.Common.{length, looks_of, ◌+◌, ◌-◌, ◌<◌, ◌≤◌}
-use Rattle.vte_core.specs.declared.reader.run_end.TheConstants.{SHORT_NON_ASCII_RUN, SHORT_RUN}
 use Rattle.vte_core.proofs.lemmas.bytes.Scans.{SearchesRun}
 use Rattle.vte_core.proofs.reader.Reader.find_run_end_after_non_ascii.Given as goal
+use Rattle.vte_core.specs.declared.reader.run_end.TheConstants.{SHORT_NON_ASCII_RUN, SHORT_RUN}
 
 abbrev pub invariant-loop-end : goal.invariant-loop-end
 invariant-loop-end g l = record {

@@ -1,7 +1,7 @@
 -- Whole blocks first, then the bytes after them: together they are one run.
 use Rattle.vte_core.proofs.Common.{arith, rules}
-use Rattle.vte_core.proofs.lemmas.bytes.Scans.{scans-run}
 use Rattle.vte_core.proofs.lemmas.bytes.NoRuns.{no_run-all}
+use Rattle.vte_core.proofs.lemmas.bytes.Scans.{scans-run}
 use Rattle.vte_core.proofs.reader.Reader.find_run_end_by_blocks.Goals as goal
 
 pub returns-clause-scans : goal.returns-clause-scans

@@ -1,6 +1,6 @@
 -- Each block is the prefix of the bytes from its place on.
-use Rattle.vte_core.proofs.Common.{ap, arith, drop, drop-drop, List, take, ℕ, ◌+◌, ◌∙◌, ◌≡◌, ◌≤◌}
 use Rattle.std.proofs.lemmas.List.{drop-take, take-take}
+use Rattle.vte_core.proofs.Common.{ap, arith, drop, drop-drop, List, take, ℕ, ◌+◌, ◌∙◌, ◌≡◌, ◌≤◌}
 use Rattle.vte_core.proofs.lemmas.bytes.Each.{prefix-block}
 use Rattle.vte_core.proofs.reader.Reader.get_window.Goals as goal
 

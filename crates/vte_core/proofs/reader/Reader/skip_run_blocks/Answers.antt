@@ -1,11 +1,11 @@
 -- A block whose bytes all fit is skipped. The run ends before the character that the last bytes leave open.
 use Rattle.vte_core.proofs.Common.{arith, cases_lt, drop, false, false≢true, get_or-drop, inl, inr, looks_of, rules, subst, sym, ◌+◌, ◌-◌, ◌<◌, ◌∙◌, ◌≡◌, ◌≤◌}
-use Rattle.vte_core.specs.private.Scans.{Each}
-use Rattle.vte_core.proofs.lemmas.bytes.Runs.{run-none}
 use Rattle.vte_core.proofs.lemmas.automaton_states.Scanned.{run-kept}
 use Rattle.vte_core.proofs.lemmas.automaton_states.Windows.{above-window, allowed-ascii, leads-window, run-before-open}
+use Rattle.vte_core.proofs.lemmas.bytes.Runs.{run-none}
 use Rattle.vte_core.proofs.reader.Reader.skip_run_blocks.Goals.{else-is_ascii, else-layout, Joined-is_ascii, then-is_ascii, then-layout}
 use Rattle.vte_core.proofs.reader.Reader.skip_run_blocks.Goals as goal
+use Rattle.vte_core.specs.private.Scans.{Each}
 
 pub returns-then-count_open_bytes-gt0-clause-scans : goal.returns-then-count_open_bytes-gt0-clause-scans
 returns-then-count_open_bytes-gt0-clause-scans c = search (rules, arith, run-none)

@@ -3,9 +3,9 @@
 -- first block (`no_looks`), and what they save pays for a wasted one (`looks_at_most`). Blocks of ASCII are counted
 -- without overflow (`blocks_fit`), and the larger ones aren't the first (`early`).
 use Rattle.vte_core.proofs.Common.{false, length, looks_of, ◌*◌, ◌+◌, ◌-◌, ◌<◌, ◌≡◌, ◌≤◌}
-use Rattle.vte_core.specs.private.Scans.{Each}
 use Rattle.vte_core.proofs.lemmas.automaton_states.Windows.{IsAllowedAt}
 use Rattle.vte_core.proofs.reader.Reader.skip_run_blocks.Given as goal
+use Rattle.vte_core.specs.private.Scans.{Each}
 
 abbrev pub invariant-loop-window : goal.invariant-loop-window
 invariant-loop-window l = record {

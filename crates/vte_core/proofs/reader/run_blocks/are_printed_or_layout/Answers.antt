@@ -1,8 +1,8 @@
 -- A byte that passes joins those before it (`each-next`).
 use Rattle.vte_core.proofs.Common.{and_parts, arith, nat_tests, refl, slice_index, ℕ, ◌||◌}
-use Rattle.vte_core.specs.private.Automaton.{StaysBetweenCharacters}
 use Rattle.vte_core.proofs.lemmas.bytes.Each.{each-next}
 use Rattle.vte_core.proofs.reader.run_blocks.are_printed_or_layout.Goals as goal
+use Rattle.vte_core.specs.private.Automaton.{StaysBetweenCharacters}
 
 pub loop-byte-preserved : goal.loop-byte-preserved
 loop-byte-preserved c = λ all.

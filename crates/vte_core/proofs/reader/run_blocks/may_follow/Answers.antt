@@ -1,9 +1,9 @@
 -- A byte that passes the tests of the code fits after the three before it (`Fits`), so it leads on from each state that
 -- they allow (`allowed-after`).
-use Rattle.vte_core.proofs.Common.{and_parts, arith, Bool, false, nat_le, nat_tests, not, not-true, refl, sym, true, ℕ, ◌&&◌, ◌||◌, ◌≡◌}
 use Rattle.std.proofs.Common.{nat_eq, nat_lt}
 use Rattle.std.proofs.lemmas.Bool.{or_parts}
 use Rattle.std.proofs.Math.Bool.{beq}
+use Rattle.vte_core.proofs.Common.{and_parts, arith, Bool, false, nat_le, nat_tests, not, not-true, refl, sym, true, ℕ, ◌&&◌, ◌||◌, ◌≡◌}
 use Rattle.vte_core.proofs.lemmas.automaton_states.Windows.{allowed-after}
 use Rattle.vte_core.proofs.reader.run_blocks.may_follow.Goals as goal
 

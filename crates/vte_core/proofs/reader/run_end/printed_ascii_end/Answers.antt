@@ -1,7 +1,7 @@
 -- No mark: all eight bytes are printed. Otherwise the lowest mark is at the first that is not (`bytes/EightBytes`).
-use Rattle.vte_core.proofs.Common.{rules}
 use Rattle.std.proofs.Common.{arith, w64}
 use Rattle.std.proofs.lemmas.Nat.Bits.{bit_at-trailing_zeros, bit_at-zero}
+use Rattle.vte_core.proofs.Common.{rules}
 use Rattle.vte_core.proofs.lemmas.bytes.EightBytes.{marks-fit, prefix-printed}
 use Rattle.vte_core.proofs.reader.run_end.printed_ascii_end.Goals as goal
 

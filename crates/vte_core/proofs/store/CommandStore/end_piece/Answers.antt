@@ -2,8 +2,8 @@
 use Rattle.std.proofs.lemmas.Bool.{not-false}
 use Rattle.vte_core.proofs.Common.{arith, eqb-false, eqb-true, HoldsItems, not-true, refl, subst, sym, [], ◌++◌, ◌∙◌, ◌∷◌}
 use Rattle.vte_core.proofs.lemmas.fields.Stores.{done-complete, holds_items-done, holds_items-end, pieces_from-full}
-use Rattle.vte_core.proofs.store.CommandStore.end_piece.Goals as goal
 use Rattle.vte_core.proofs.store.CommandStore.end_piece.Goals.{else-not-is_full-via-else-not-is_full, else-not-is_full-via-then-not-is_full+else-not-is_full-2}
+use Rattle.vte_core.proofs.store.CommandStore.end_piece.Goals as goal
 
 pub returns-then-not-is_full-2-clause-holds : goal.returns-then-not-is_full-2-clause-holds
 returns-then-not-is_full-2-clause-holds g c = λ items keeps.

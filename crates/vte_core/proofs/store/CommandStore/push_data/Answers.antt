@@ -1,8 +1,8 @@
 -- Data are kept as far as there is room. Once there are 16 ends they only count as dropped.
 use Rattle.vte_core.proofs.Common.{arith, drop, eqb-false, eqb-true, HoldsItems, length, length-drop, length-take, refl, subst, sym, take, ℕ, ◌-◌, ◌∙◌, ◌≡◌}
 use Rattle.vte_core.proofs.lemmas.fields.Stores.{holds_items-later, holds_items-run}
-use Rattle.vte_core.proofs.store.CommandStore.push_data.Goals as goal
 use Rattle.vte_core.proofs.store.CommandStore.push_data.Goals.{else-not-is_full, then-not-is_full}
+use Rattle.vte_core.proofs.store.CommandStore.push_data.Goals as goal
 
 pub returns-clause-holds : goal.returns-clause-holds
 returns-clause-holds g c = λ items keeps.

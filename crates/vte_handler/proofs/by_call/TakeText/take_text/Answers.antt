@@ -3,9 +3,9 @@ use Rattle.std.proofs.Common.{ap, map, sym, ◌∙◌}
 use Rattle.std.proofs.lemmas.Iterator.{YieldsList-from_chars}
 use Rattle.std.proofs.lemmas.Iterator.Consumers.{YieldsList-end}
 use Rattle.std.proofs.lemmas.List.{map-id}
+use Rattle.vte_handler.proofs.by_call.TakeText.take_text.Goals as goal
 use Rattle.vte_handler.specs.Call.{Input}
 use Rattle.vte_handler.specs.Handler.{after}
-use Rattle.vte_handler.proofs.by_call.TakeText.take_text.Goals as goal
 
 pub returns : goal.returns
 returns g c =

@@ -1,8 +1,8 @@
 -- The characters so far are taken.
 use Rattle.std.proofs.Common.{map, ◌≡◌}
+use Rattle.vte_handler.proofs.by_call.TakeText.take_text.Given as goal
 use Rattle.vte_handler.specs.Call.{Input}
 use Rattle.vte_handler.specs.Handler.{after}
-use Rattle.vte_handler.proofs.by_call.TakeText.take_text.Given as goal
 
 abbrev pub invariant-loop-c : goal.invariant-loop-c
 invariant-loop-c g l =

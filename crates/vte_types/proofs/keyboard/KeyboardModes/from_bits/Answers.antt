@@ -4,10 +4,10 @@ use Rattle.std.proofs.lemmas.Bool.Decides.{nat_tests}
 use Rattle.std.specs.Int.RustNames.{bit_and}
 use Rattle.std.specs.Prelude.{IfSome, if◌then◌else◌, IsNone, IsSome}
 use Rattle.bitflags.proofs.OnLiterals.{bitflags_on_literals}
-use Rattle.vte_types.proofs.lemmas.Bits.{bits-parts}
 use Rattle.vte_types.proofs.keyboard.KeyboardModes.from_bits.Goals as goal
-use Rattle.vte_types.specs.Keyboard.{bits_of, modes_of_bits}
+use Rattle.vte_types.proofs.lemmas.Bits.{bits-parts}
 use Rattle.vte_types.specs.declared.keyboard.KeyboardModes.{KeyboardModes}
+use Rattle.vte_types.specs.Keyboard.{bits_of, modes_of_bits}
 
 -- The answer depends on whether another bit is set.
 by_others : (bits others flags : ℕ) (result : Option KeyboardModes) → others + flags ≡ bits

@@ -2,8 +2,8 @@
 use Rattle.std.proofs.Common.{sym, ◌∙◌}
 use Rattle.std.proofs.lemmas.Bool.Decides.{Decides-eqb}
 use Rattle.bitflags.proofs.OnLiterals.{bitflags_on_literals}
-use Rattle.vte_types.proofs.lemmas.Bits.{all_set, set_all}
 use Rattle.vte_types.proofs.keyboard.KeyboardModes.is_all.Goals as goal
+use Rattle.vte_types.proofs.lemmas.Bits.{all_set, set_all}
 use Rattle.vte_types.specs.Keyboard.{bits_of}
 
 pub returns : goal.returns

@@ -22,14 +22,14 @@ impl<B: Buffer> Machine<B> {
     ) -> Result<usize, Refused> {
         if let State::Text(begun) = self.state {
             if begun.is_empty() {
-                return Ok(self.read_last_of_text(reader, performer, input, 0));
+                return Ok(self.read_last_of_text(reader, performer, input));
             }
             return Ok(self.read_continuing_byte(reader, performer, begun, input));
         }
         if let State::ControlSequence(reached) = self.state {
-            return Ok(self.read_parameter_byte(reader, performer, input, reached, 0));
+            return Ok(self.read_parameter_byte(reader, performer, input, reached));
         }
-        self.read_outside_text(reader, performer, input, 0)
+        self.read_outside_text(reader, performer, input)
     }
 
     /// Reads the last byte of a call in a text.
@@ -39,14 +39,13 @@ impl<B: Buffer> Machine<B> {
         reader: Reader,
         performer: &mut P,
         input: &[u8],
-        from: usize,
     ) -> usize {
-        let byte = reader.byte_at(input, from);
+        let byte = reader.byte_at(input, 0);
         if is_printed_ascii(byte) {
             performer.print_char(reader, char::from(byte));
-            return from + 1;
+            return 1;
         }
-        self.read_last_control_or_non_ascii(reader, performer, input, from, byte)
+        self.read_last_control_or_non_ascii(reader, performer, input, byte)
     }
 
     /// Reads the last byte of a call in a text, if it isn't printed ASCII.
@@ -56,18 +55,17 @@ impl<B: Buffer> Machine<B> {
         reader: Reader,
         performer: &mut P,
         input: &[u8],
-        from: usize,
         byte: u8,
     ) -> usize {
         if byte == ESCAPE {
-            return self.read_escape_in_text::<P, G, false>(reader, performer, input, from);
+            return self.read_escape_in_text::<P, G, false>(reader, performer, input, 0);
         }
         if is_lead(byte) {
             self.state = State::Text(Unfinished::One(byte));
         } else {
             reader.report_lone_byte(performer, byte);
         }
-        from + 1
+        1
     }
 
     /// Reads the one byte of a call after those that began a character.
@@ -107,7 +105,7 @@ impl<B: Buffer> Machine<B> {
         input: &[u8],
     ) -> usize {
         performer.print_char(reader, char::REPLACEMENT_CHARACTER);
-        self.read_last_of_text(reader, performer, input, 0)
+        self.read_last_of_text(reader, performer, input)
     }
 
     /// Reads a byte of the head of a control sequence: of its parameters, like most, or another.
@@ -118,17 +116,16 @@ impl<B: Buffer> Machine<B> {
         performer: &mut P,
         input: &[u8],
         reached: HeadProgress,
-        from: usize,
     ) -> usize {
         if reached.may_have_parameters() {
-            let byte = reader.byte_at(input, from);
+            let byte = reader.byte_at(input, 0);
             if is_parameter_byte(byte) {
                 self.collected.collect_parameter_byte(byte);
                 self.state = State::ControlSequence(HeadProgress::Parameters);
-                return from + 1;
+                return 1;
             }
         }
-        self.read_rest_of_head::<P, G, false>(reader, performer, input, reached, from)
+        self.read_rest_of_head::<P, G, false>(reader, performer, input, reached, 0)
     }
 
     /// Reads a byte of the data of a device control string, or the byte that ends it.
@@ -138,14 +135,13 @@ impl<B: Buffer> Machine<B> {
         reader: Reader,
         performer: &mut P,
         input: &[u8],
-        from: usize,
     ) -> usize {
-        let byte = reader.byte_at(input, from);
+        let byte = reader.byte_at(input, 0);
         if is_device_data(byte) {
             performer.put_byte(reader, byte);
-            return from + 1;
+            return 1;
         }
-        self.end_data_or_drop_byte::<P, G, false>(reader, performer, input, from, byte)
+        self.end_data_or_drop_byte::<P, G, false>(reader, performer, input, 0, byte)
     }
 
     /// Reads a byte outside text and control sequences, or none if memory is refused for it.
@@ -155,27 +151,26 @@ impl<B: Buffer> Machine<B> {
         reader: Reader,
         performer: &mut P,
         input: &[u8],
-        from: usize,
     ) -> Result<usize, Refused> {
         Ok(match self.state {
             // Never: `drive_one` reads text. A panic would stay in the program.
-            State::Text(_) => from,
-            State::Escape => self.read_after_escape::<P, G, false>(reader, performer, input, from),
+            State::Text(_) => 0,
+            State::Escape => self.read_after_escape::<P, G, false>(reader, performer, input, 0),
             State::EscapeIntermediate => {
-                self.read_intermediates::<P, G, false>(reader, performer, input, from)
+                self.read_intermediates::<P, G, false>(reader, performer, input, 0)
             }
             State::ControlSequence(reached) => {
-                self.read_rest_of_head::<P, G, false>(reader, performer, input, reached, from)
+                self.read_rest_of_head::<P, G, false>(reader, performer, input, reached, 0)
             }
             State::DeviceControl(reached) => {
-                self.read_device_control::<P, G, false>(reader, performer, input, reached, from)
+                self.read_device_control::<P, G, false>(reader, performer, input, reached, 0)
             }
-            State::DeviceData => self.read_data_byte(reader, performer, input, from),
+            State::DeviceData => self.read_data_byte(reader, performer, input),
             State::SystemCommand => {
-                self.read_system_command::<P, G, false>(reader, performer, input, from)?
+                self.read_system_command::<P, G, false>(reader, performer, input, 0)?
             }
             State::IgnoredString => {
-                self.read_ignored_string::<P, G, false>(reader, performer, input, from)
+                self.read_ignored_string::<P, G, false>(reader, performer, input, 0)
             }
         })
     }

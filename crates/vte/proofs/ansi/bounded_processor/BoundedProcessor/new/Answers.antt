@@ -1,8 +1,8 @@
 -- The parser has read nothing, and the memory that it was given stays with the engine.
-use Rattle.vte.proofs.Common.{ap, Err, HasTextMemory, rules, subst, sym, [], ◌∙◌}
 use Rattle.std.proofs.lemmas.Result.{err_from_is_err_and}
-use Rattle.vte.proofs.lemmas.replays.ProcessorAndEngine.{with_memory}
 use Rattle.vte.proofs.ansi.bounded_processor.BoundedProcessor.new.Goals as goal
+use Rattle.vte.proofs.Common.{ap, Err, HasTextMemory, rules, subst, sym, [], ◌∙◌}
+use Rattle.vte.proofs.lemmas.replays.ProcessorAndEngine.{with_memory}
 
 pub new-requires : goal.new-requires
 new-requires g c = record { parser_is_new = c.reserve.ensures.reads [] c.new_with_size-parser.ensures }

@@ -1,7 +1,7 @@
 -- Three digits at most give a small number, so nothing overflows.
+use Rattle.vte.proofs.ansi.calls.color_text.read_hex.Goals as goal
 use Rattle.vte.proofs.Common.{arith, rules}
 use Rattle.vte.proofs.lemmas.calls.Colors.{few_hex_digits}
-use Rattle.vte.proofs.ansi.calls.color_text.read_hex.Goals as goal
 
 pub overflow_mul-number : goal.overflow_mul-number
 overflow_mul-number c =

@@ -1,7 +1,7 @@
 -- The digits that are left give what all give.
+use Rattle.vte.proofs.ansi.calls.color_text.read_hex.Given as goal
 use Rattle.vte.proofs.Common.{drop, ◌<◌, ◌^◌, ◌≡◌}
 use Rattle.vte_types.specs.Rgb.{hex_from, hex_number}
-use Rattle.vte.proofs.ansi.calls.color_text.read_hex.Given as goal
 
 abbrev pub invariant-loop-byte : goal.invariant-loop-byte
 invariant-loop-byte l =

@@ -1,8 +1,8 @@
 -- The text that is looked up is the name itself.
-use Rattle.vte.proofs.Common.{ap, None, ok_or, Option, refl, rules, Some, ◌∙◌, ◌≡◌}
 use Rattle.std.specs.Result.{result_ok}
-use Rattle.vte_types.specs.CursorIcon.{icon_of}
 use Rattle.vte.proofs.ansi.calls.command.find_icon.Goals as goal
+use Rattle.vte.proofs.Common.{ap, None, ok_or, Option, refl, rules, Some, ◌∙◌, ◌≡◌}
+use Rattle.vte_types.specs.CursorIcon.{icon_of}
 
 -- `ok_or` keeps what was found, whatever the error.
 ok_or-found : {A E : Type 0} (found : Option A) (error : E) → result_ok (ok_or found error) ≡ found

@@ -1,6 +1,6 @@
 -- The numbers that are left give what all give.
-use Rattle.vte.proofs.Common.{after, all_reset, map, range_with_len, ResetColor, ◌-◌, ◌≡◌}
 use Rattle.vte.proofs.ansi.calls.command.reset_all.Given as goal
+use Rattle.vte.proofs.Common.{after, all_reset, map, range_with_len, ResetColor, ◌-◌, ◌≡◌}
 
 abbrev pub invariant-loop-index : goal.invariant-loop-index
 invariant-loop-index g l =

@@ -1,6 +1,6 @@
 -- The numbers that are left give what all give.
-use Rattle.vte.proofs.Common.{after, decimal_number, drop, filter_map, map, ResetColor, ◌≡◌}
 use Rattle.vte.proofs.ansi.calls.command.reset_colors.Given as goal
+use Rattle.vte.proofs.Common.{after, decimal_number, drop, filter_map, map, ResetColor, ◌≡◌}
 
 abbrev pub invariant-loop-text : goal.invariant-loop-text
 invariant-loop-text g l =

@@ -1,6 +1,6 @@
 -- The texts that are left give what all give.
-use Rattle.vte.proofs.Common.{after, drop, dynamic_calls, map, ◌+◌, ◌≡◌}
 use Rattle.vte.proofs.ansi.calls.command.set_dynamic_colors.Given as goal
+use Rattle.vte.proofs.Common.{after, drop, dynamic_calls, map, ◌+◌, ◌≡◌}
 
 abbrev pub invariant-loop-text : goal.invariant-loop-text
 invariant-loop-text g l =

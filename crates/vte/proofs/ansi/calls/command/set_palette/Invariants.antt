@@ -1,6 +1,6 @@
 -- The entries that are left give what all give.
-use Rattle.vte.proofs.Common.{after, length, map, palette_entries_calls, ◌≡◌}
 use Rattle.vte.proofs.ansi.calls.command.set_palette.Given as goal
+use Rattle.vte.proofs.Common.{after, length, map, palette_entries_calls, ◌≡◌}
 
 abbrev pub invariant-loop-left : goal.invariant-loop-left
 invariant-loop-left g l =

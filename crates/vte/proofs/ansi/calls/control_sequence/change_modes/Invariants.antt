@@ -1,6 +1,6 @@
 -- What is left to change gives what all gives.
-use Rattle.vte.proofs.Common.{after, change_calls, first_numbers, ◌≡◌}
 use Rattle.vte.proofs.ansi.calls.control_sequence.change_modes.Given as goal
+use Rattle.vte.proofs.Common.{after, change_calls, first_numbers, ◌≡◌}
 
 abbrev pub invariant-loop-group : goal.invariant-loop-group
 invariant-loop-group g l =

@@ -1,6 +1,6 @@
 -- What is left to hand over gives what all gives.
-use Rattle.vte.proofs.Common.{after, Input, replicate, ◌-◌, ◌≡◌}
 use Rattle.vte.proofs.ansi.calls.control_sequence.repeat.Given as goal
+use Rattle.vte.proofs.Common.{after, Input, replicate, ◌-◌, ◌≡◌}
 
 abbrev pub invariant-loop : goal.invariant-loop
 invariant-loop g l =

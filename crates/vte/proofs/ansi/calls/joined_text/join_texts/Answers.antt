@@ -1,8 +1,8 @@
 -- One more text is joined, which fits (`Joins`), or one that is left out changes nothing.
+use Rattle.vte.proofs.ansi.calls.joined_text.join_texts.Goals.{in-Some, in_default}
+use Rattle.vte.proofs.ansi.calls.joined_text.join_texts.Goals as goal
 use Rattle.vte.proofs.Common.{ap, arith, ◌∙◌}
 use Rattle.vte.proofs.lemmas.calls.JoinedTexts.{joins-begin, joins-fits, joins-more, joins-same}
-use Rattle.vte.proofs.ansi.calls.joined_text.join_texts.Goals as goal
-use Rattle.vte.proofs.ansi.calls.joined_text.join_texts.Goals.{in-Some, in_default}
 
 pub loop-piece-init : goal.loop-piece-init
 loop-piece-init g c = record {

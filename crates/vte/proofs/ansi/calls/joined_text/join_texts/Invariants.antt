@@ -1,7 +1,7 @@
 -- The texts so far are joined, and the size is the same.
+use Rattle.vte.proofs.ansi.calls.joined_text.join_texts.Given as goal
 use Rattle.vte.proofs.Common.{drop, map, ◌≡◌}
 use Rattle.vte.proofs.lemmas.calls.JoinedTexts.{Joins}
-use Rattle.vte.proofs.ansi.calls.joined_text.join_texts.Given as goal
 
 abbrev pub invariant-loop-piece : goal.invariant-loop-piece
 invariant-loop-piece g l = record {

@@ -1,7 +1,7 @@
 -- The digits of a tenth, and then the last one, are those of the number.
-use Rattle.vte.proofs.Common.{ap, append_assoc, arith, decimal, length, length-append, [], ◌%◌, ◌+◌, ◌/◌, ◌∙◌, ◌∷◌}
 use Rattle.std.proofs.lemmas.Fmt.{decimal_step}
 use Rattle.vte.proofs.ansi.calls.numbers.+push_number.Goals as goal
+use Rattle.vte.proofs.Common.{ap, append_assoc, arith, decimal, length, length-append, [], ◌%◌, ◌+◌, ◌/◌, ◌∙◌, ◌∷◌}
 
 pub push-requires-else-number-lt10-clause-fits : goal.push-requires-else-number-lt10-clause-fits
 push-requires-else-number-lt10-clause-fits g t c =

@@ -1,10 +1,10 @@
 -- A number beyond 255 stays so, whatever digits follow.
+use Rattle.std.proofs.Common.{◌*◌}
 use Rattle.std.specs.Char.{digit_value}
 use Rattle.std.specs.Str.Parse.{digits_value_after}
-use Rattle.std.proofs.Common.{◌*◌}
-use Rattle.vte.proofs.Common.{and-false, arith, decimal_number, drop, drop_all, drop_more, false, get_or, length, List, nat_lt, nat_tests, None, refl, rules, Some, sym, true, ℕ, [], ◌+◌, ◌<◌, ◌∙◌, ◌∷◌, ◌≡◌, ◌≤◌}
-use Rattle.vte.proofs.ansi.calls.numbers.parse_number.Invariants.{number_after}
 use Rattle.vte.proofs.ansi.calls.numbers.parse_number.Goals as goal
+use Rattle.vte.proofs.ansi.calls.numbers.parse_number.Invariants.{number_after}
+use Rattle.vte.proofs.Common.{and-false, arith, decimal_number, drop, drop_all, drop_more, false, get_or, length, List, nat_lt, nat_tests, None, refl, rules, Some, sym, true, ℕ, [], ◌+◌, ◌<◌, ◌∙◌, ◌∷◌, ◌≡◌, ◌≤◌}
 
 digits_value_after-grows : (number : ℕ) (digits : List ℕ) → number ≤ digits_value_after 10 number digits
 digits_value_after-grows number [] = omega arith

@@ -1,9 +1,9 @@
 -- The digits that are left, after those of the number, give what all give.
+use Rattle.std.specs.Prelude.{if◌then◌else◌, ◌&&◌}
 use Rattle.std.specs.Str.{all_ascii_digits}
 use Rattle.std.specs.Str.Parse.{digits_value_after}
-use Rattle.vte.proofs.Common.{decimal_number, drop, List, nat_lt, None, Option, Some, ℕ, ◌<◌, ◌≡◌}
-use Rattle.std.specs.Prelude.{if◌then◌else◌, ◌&&◌}
 use Rattle.vte.proofs.ansi.calls.numbers.parse_number.Given as goal
+use Rattle.vte.proofs.Common.{decimal_number, drop, List, nat_lt, None, Option, Some, ℕ, ◌<◌, ◌≡◌}
 
 -- The number that further digits write after `number`, if all are digits and it is below 256.
 abbrev pub number_after : ℕ → List ℕ → Option ℕ

@@ -1,6 +1,6 @@
 -- What is left to call gives what all calls give.
-use Rattle.vte.proofs.Common.{after, attribute_calls, length, ◌≡◌}
 use Rattle.vte.proofs.ansi.calls.rendition.perform_attributes.Given as goal
+use Rattle.vte.proofs.Common.{after, attribute_calls, length, ◌≡◌}
 
 abbrev pub invariant-loop-group : goal.invariant-loop-group
 invariant-loop-group g l =

@@ -1,7 +1,7 @@
 -- The parts that are left have the first that all have.
+use Rattle.vte.proofs.ansi.calls.split.link_id.Given as goal
 use Rattle.vte.proofs.Common.{codes, first_after, parts_left, split_by, ◌≡◌}
 use Rattle.vte.proofs.lemmas.calls.SplitTexts.{left_size}
-use Rattle.vte.proofs.ansi.calls.split.link_id.Given as goal
 
 abbrev pub invariant-loop-left : goal.invariant-loop-left
 invariant-loop-left l =

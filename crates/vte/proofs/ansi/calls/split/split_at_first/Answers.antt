@@ -1,7 +1,7 @@
 -- The first separator parts the text; without one the text is a part of its own.
+use Rattle.vte.proofs.ansi.calls.split.split_at_first.Goals as goal
 use Rattle.vte.proofs.Common.{arith, length, position_or_len_is, rules, take_rest, ℕ, ◌+◌, ◌==◌}
 use Rattle.vte.proofs.lemmas.calls.SplitTexts.{split-first, split-whole}
-use Rattle.vte.proofs.ansi.calls.split.split_at_first.Goals as goal
 
 pub returns-in-Some-clause-parts : goal.returns-in-Some-clause-parts
 returns-in-Some-clause-parts c =

@@ -1,7 +1,7 @@
 -- The word is stripped if the text begins with it.
-use Rattle.vte.proofs.Common.{arith, Decides-eqb}
 use Rattle.std.proofs.lemmas.Slice.Eq.{strip_prefix_is}
 use Rattle.vte.proofs.ansi.calls.split.strip_word.Goals as goal
+use Rattle.vte.proofs.Common.{arith, Decides-eqb}
 
 pub returns : goal.returns
 returns c =

@@ -1,9 +1,9 @@
 -- A call is one more step of the list, by what it ensures; and so is a stop.
-use Rattle.vte.proofs.Common.{refl, take_all}
-use Rattle.vte.proofs.lemmas.replays.WithoutUpdates.{replays_all}
-use Rattle.vte.proofs.lemmas.replays.ReplayedSteps.{advance_taken, has_replayed, stop_taken}
-use Rattle.vte.proofs.ansi.laws.replays.replay.Goals as goal
 use Rattle.vte.proofs.ansi.laws.replays.replay.Goals.{in-Advance, in-StopSync}
+use Rattle.vte.proofs.ansi.laws.replays.replay.Goals as goal
+use Rattle.vte.proofs.Common.{refl, take_all}
+use Rattle.vte.proofs.lemmas.replays.ReplayedSteps.{advance_taken, has_replayed, stop_taken}
+use Rattle.vte.proofs.lemmas.replays.WithoutUpdates.{replays_all}
 
 pub loop-step-init : goal.loop-step-init
 loop-step-init g c = λ state is_at. has_replayed _ state refl is_at

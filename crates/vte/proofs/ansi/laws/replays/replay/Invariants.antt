@@ -1,6 +1,6 @@
 -- After some of the steps, these lead to where the processor is.
-use Rattle.vte.proofs.Common.{default_limit, HasReplayed, IsAt, processor_facts, processor_meaning, State, take}
 use Rattle.vte.proofs.ansi.laws.replays.replay.Given as goal
+use Rattle.vte.proofs.Common.{default_limit, HasReplayed, IsAt, processor_facts, processor_meaning, State, take}
 
 abbrev pub invariant-loop-step : goal.invariant-loop-step
 invariant-loop-step g l =

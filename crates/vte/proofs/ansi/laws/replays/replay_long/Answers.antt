@@ -1,9 +1,9 @@
 -- As for `replay`; a call that is refused memory ends the list where it is, and says what it lacks.
-use Rattle.vte.proofs.Common.{long_facts, ProcessorLacksMemory, refl, take_all}
-use Rattle.vte.proofs.lemmas.replays.WithoutUpdates.{replays_all}
-use Rattle.vte.proofs.lemmas.replays.ReplayedSteps.{advance_refused, advance_taken, first_lacks, has_replayed, stop_taken}
-use Rattle.vte.proofs.ansi.laws.replays.replay_long.Goals as goal
 use Rattle.vte.proofs.ansi.laws.replays.replay_long.Goals.{in-Advance+in_default, in-StopSync}
+use Rattle.vte.proofs.ansi.laws.replays.replay_long.Goals as goal
+use Rattle.vte.proofs.Common.{long_facts, ProcessorLacksMemory, refl, take_all}
+use Rattle.vte.proofs.lemmas.replays.ReplayedSteps.{advance_refused, advance_taken, first_lacks, has_replayed, stop_taken}
+use Rattle.vte.proofs.lemmas.replays.WithoutUpdates.{replays_all}
 
 pub loop-index-init : goal.loop-index-init
 loop-index-init g c = λ state is_at. has_replayed _ state refl is_at

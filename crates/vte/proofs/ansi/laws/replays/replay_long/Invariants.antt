@@ -1,6 +1,6 @@
 -- As for `replay`, without a limit.
-use Rattle.vte.proofs.Common.{HasReplayed, IsAt, long_facts, None, processor_meaning, State, take}
 use Rattle.vte.proofs.ansi.laws.replays.replay_long.Given as goal
+use Rattle.vte.proofs.Common.{HasReplayed, IsAt, long_facts, None, processor_meaning, State, take}
 
 abbrev pub invariant-loop-index : goal.invariant-loop-index
 invariant-loop-index g l =

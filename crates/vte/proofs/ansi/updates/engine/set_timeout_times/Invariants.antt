@@ -1,6 +1,6 @@
 -- The timeout was set this many times.
-use Rattle.vte.proofs.Common.{timeout_meaning, timeout_set_times, ◌≡◌}
 use Rattle.vte.proofs.ansi.updates.engine.set_timeout_times.Given as goal
+use Rattle.vte.proofs.Common.{timeout_meaning, timeout_set_times, ◌≡◌}
 
 abbrev pub invariant-loop-time : goal.invariant-loop-time
 invariant-loop-time g l =

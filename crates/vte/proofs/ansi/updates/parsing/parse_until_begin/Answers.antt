@@ -1,10 +1,10 @@
 -- An early stop reads the prefix up to the begin of an update (`updates/Prefixes`), and what was lent comes back with
 -- its calls.
-use Rattle.vte.proofs.Common.{drop, length, prefix_to_begin, processor_meaning, refl}
-use Rattle.vte.proofs.lemmas.PerformedEvents.{performer-given_back, stop_performs, stop_stream, stop_terminated, stops_at_prefix}
-use Rattle.vte.proofs.lemmas.EnoughMemory.{prefix_fits}
-use Rattle.vte.proofs.lemmas.turns.EachOnce.{prefix-rest}
 use Rattle.vte.proofs.ansi.updates.parsing.parse_until_begin.Goals as goal
+use Rattle.vte.proofs.Common.{drop, length, prefix_to_begin, processor_meaning, refl}
+use Rattle.vte.proofs.lemmas.EnoughMemory.{prefix_fits}
+use Rattle.vte.proofs.lemmas.PerformedEvents.{performer-given_back, stop_performs, stop_stream, stop_terminated, stops_at_prefix}
+use Rattle.vte.proofs.lemmas.turns.EachOnce.{prefix-rest}
 
 pub returns-clause-parses_prefix : goal.returns-clause-parses_prefix
 returns-clause-parses_prefix g c = λ state spare ready.

@@ -1,8 +1,8 @@
 -- From the end back, from ESC to ESC: a begin counts, an end is the last one and ends the search, and any other
 -- sequence changes nothing (`updates/Seen`).
+use Rattle.vte.proofs.ansi.updates.release.find_release.Goals as goal
 use Rattle.vte.proofs.Common.{arith, length, length-append, sym, ◌∙◌, ◌≤◌}
 use Rattle.vte.proofs.lemmas.updates.Seen.{last_escape, seen-all, seen-begin_before, seen-end, seen-nothing, seen-other_before, seen-round, seen-skipped, tail-sequence, unread-decreases}
-use Rattle.vte.proofs.ansi.updates.release.find_release.Goals as goal
 
 -- Nothing is seen yet.
 pub loop-position-init : goal.loop-position-init

@@ -1,7 +1,7 @@
 -- The search has come back to this position, and what it has seen decides what the whole text does (`HasSeen`).
+use Rattle.vte.proofs.ansi.updates.release.find_release.Given as goal
 use Rattle.vte.proofs.Common.{IsHeldTail, length, List, ℕ, ◌++◌, ◌+◌, ◌≤◌}
 use Rattle.vte.proofs.lemmas.updates.Seen.{HasSeen}
-use Rattle.vte.proofs.ansi.updates.release.find_release.Given as goal
 
 abbrev pub invariant-loop-position : goal.invariant-loop-position
 invariant-loop-position l = record {

@@ -1,7 +1,7 @@
 -- A block in which neither sequence begins is added whole.
+use Rattle.vte.proofs.ansi.updates.release.skip_blocks.Goals as goal
 use Rattle.vte.proofs.Common.{ap, arith, cases_lt, drop, inl, inr, length, length-drop, take, take_all, ◌-◌, ◌∙◌, ◌≡◌}
 use Rattle.vte.proofs.lemmas.updates.Seen.{neither-block}
-use Rattle.vte.proofs.ansi.updates.release.skip_blocks.Goals as goal
 
 pub loop-unread-preserved : goal.loop-unread-preserved
 loop-unread-preserved c =

@@ -1,7 +1,7 @@
 -- Neither sequence begins in the blocks so far.
 use Rattle.std.proofs.Common.{◌≤◌}
-use Rattle.vte.specs.private.Hold.{HasNoSequenceBetween}
 use Rattle.vte.proofs.ansi.updates.release.skip_blocks.Given as goal
+use Rattle.vte.specs.private.Hold.{HasNoSequenceBetween}
 
 abbrev pub invariant-loop-unread : goal.invariant-loop-unread
 invariant-loop-unread l = record {

@@ -1,7 +1,7 @@
 -- The bytes that are stored are those of the open command (`forget_ended_command`), and taking memory leaves them.
 use Rattle.vte_core.proofs.Common.{arith, rules}
-use Rattle.vte_core.proofs.lemmas.positions.Open.{open_is_stored}
 use Rattle.vte_core.proofs.lemmas.fields.PlaceOfState.{reads_cloned}
+use Rattle.vte_core.proofs.lemmas.positions.Open.{open_is_stored}
 use Rattle.vte_core.proofs.parser.long_parser.LongParser.reserve.Goals as goal
 
 pub returns-clause-has_room : goal.returns-clause-has_room

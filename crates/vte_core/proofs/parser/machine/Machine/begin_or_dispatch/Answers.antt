@@ -1,13 +1,13 @@
 -- By the key after ESC: `P`, `]`, that of an ignored string, or any other, which dispatches. The place after it is that
 -- shape with nothing read.
 use Rattle.vte_core.proofs.Common.{arith, refl, rules, sequence_kind, ◌∙◌}
-use Rattle.vte_core.specs.SequenceKind.{DeviceControl, IgnoredString, SystemCommand}
 use Rattle.vte_core.proofs.lemmas.bytes.Classes.{class-final, other_key}
-use Rattle.vte_core.proofs.lemmas.positions.TakenBytes.{takes-byte}
-use Rattle.vte_core.proofs.lemmas.positions.SettledStates.{settled-same_state}
 use Rattle.vte_core.proofs.lemmas.fields.PlaceOfState.{is_at-escape, is_at-text_begun}
 use Rattle.vte_core.proofs.lemmas.places.PlaceLeads.{escape-end, escape-key}
+use Rattle.vte_core.proofs.lemmas.positions.SettledStates.{settled-same_state}
+use Rattle.vte_core.proofs.lemmas.positions.TakenBytes.{takes-byte}
 use Rattle.vte_core.proofs.parser.machine.Machine.begin_or_dispatch.Goals as goal
+use Rattle.vte_core.specs.SequenceKind.{DeviceControl, IgnoredString, SystemCommand}
 
 -- `P` begins a device control string.
 pub returns-then-byte-eq80-clause-takes : goal.returns-then-byte-eq80-clause-takes

@@ -2,15 +2,15 @@
 -- before. The lemmas `goes_on-*` say how far the call has gone from the second byte on, and `completes-*` how the
 -- character ends there; `advances-four` leads from the first byte. A run that it begins is reported as a text.
 use Rattle.vte_core.proofs.Common.{Advances, ap, arith, ChunkCall, Empty, false, false≢true, HasNoRunAt, IsRun, length, Machine, One, slice_index, subst, sym, Text, ℕ, ◌+◌, ◌<◌, ◌∙◌, ◌≡◌, ◌≤◌}
-use Rattle.vte_core.specs.private.Prelude.{BeginsFour, Completes, MayReadByte}
-use Rattle.vte_core.proofs.lemmas.bytes.Scalars.{fourth-broken, second-broken, spells-four, third-broken}
 use Rattle.vte_core.proofs.lemmas.bytes.Runs.{run-append}
-use Rattle.vte_core.proofs.lemmas.positions.Characters.{completes-malformed, completes-then, completes-well_formed, goes_on-nowhere, goes_on-second, goes_on-third, unfinished-some}
+use Rattle.vte_core.proofs.lemmas.bytes.Scalars.{fourth-broken, second-broken, spells-four, third-broken}
+use Rattle.vte_core.proofs.lemmas.dividing.Utf8Agrees.{run-four}
 use Rattle.vte_core.proofs.lemmas.positions.BetweenCharacters.{advances-first}
+use Rattle.vte_core.proofs.lemmas.positions.Characters.{completes-malformed, completes-then, completes-well_formed, goes_on-nowhere, goes_on-second, goes_on-third, unfinished-some}
 use Rattle.vte_core.proofs.lemmas.positions.Stretches.{advances-weaker}
 use Rattle.vte_core.proofs.lemmas.positions.TextRuns.{advances-text}
-use Rattle.vte_core.proofs.lemmas.dividing.Utf8Agrees.{run-four}
 use Rattle.vte_core.proofs.parser.machine.Machine.complete_four.Goals as goal
+use Rattle.vte_core.specs.private.Prelude.{BeginsFour, Completes, MayReadByte}
 
 -- `omega` proves these over plain numbers, so that it has little to read.
 lead_of_three : (first : ℕ) → 0xf0 ≤ first → 0xe0 ≤ first

@@ -1,8 +1,8 @@
 -- Stretches add up: what leads from a position to the next leads from the start. The call ends at a stop, with all
 -- bytes, or when memory is refused.
 use Rattle.vte_core.proofs.Common.{ap, arith, Err, err_from_is_err_and, rules, ◌∙◌}
-use Rattle.vte_core.proofs.lemmas.positions.SettledStates.{may_stop-some}
 use Rattle.vte_core.proofs.lemmas.positions.CallEnds.{call_ends-at_stop, call_ends-with_all}
+use Rattle.vte_core.proofs.lemmas.positions.SettledStates.{may_stop-some}
 use Rattle.vte_core.proofs.parser.machine.Machine.drive_loop.Goals as goal
 
 -- The loop begins where the open character was completed.

@@ -1,11 +1,11 @@
 -- From the start of the call the byte leads to its end, unless memory is refused for it.
-use Rattle.vte_core.specs.declared.parser.refused.Refused.{Refused}
-use Rattle.vte_core.specs.declared.reader.Reader.{Reader}
-use Rattle.vte_core.specs.private.Prelude.{caller_looks, IsRefusedAt, per_byte, read_count, ReadsCall, ReadsWithin}
 use Rattle.vte_core.proofs.Common.{Advances, arith, ChunkCall, Err, IfErr, IfOk, IsSettled, length, looks_of, Machine, Ok, Result, ℕ, ◌≡◌}
 use Rattle.vte_core.proofs.lemmas.positions.CallEnds.{call_ends-with_all, starts-at}
 use Rattle.vte_core.proofs.lemmas.positions.SettledStates.{settled-nothing, settled-outside, settled-same_state}
 use Rattle.vte_core.proofs.parser.machine.Machine.drive_one.Goals as goal
+use Rattle.vte_core.specs.declared.parser.refused.Refused.{Refused}
+use Rattle.vte_core.specs.declared.reader.Reader.{Reader}
+use Rattle.vte_core.specs.private.Prelude.{caller_looks, IsRefusedAt, per_byte, read_count, ReadsCall, ReadsWithin}
 
 -- If no character is open, a stretch of one byte is the call.
 reads_call-one : {V B outside : Type 0} {call : ChunkCall V} {old new : V} {before next : Machine B}

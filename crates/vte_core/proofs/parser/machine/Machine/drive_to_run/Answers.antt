@@ -1,11 +1,11 @@
 -- As for `drive`, a stretch at a time. A run is found in a text or in data, and is returned unread: the bytes before it
 -- have reported nothing of a run (`reports-more`).
 use Rattle.vte_core.proofs.Common.{Advances, ap, arith, ChunkCall, Err, err_from_is_err_and, Machine, rules, sym, ℕ, ◌∙◌}
-use Rattle.vte_core.proofs.lemmas.positions.ToRun.{comes-nowhere, comes-to_run, has-data, has-text, outside-text_and_data, settled-text}
 use Rattle.vte_core.proofs.lemmas.positions.AddedEvents.{reports-more}
-use Rattle.vte_core.proofs.parser.machine.Machine.drive_to_run.Invariants.{IsBeforeRun}
+use Rattle.vte_core.proofs.lemmas.positions.ToRun.{comes-nowhere, comes-to_run, has-data, has-text, outside-text_and_data, settled-text}
 use Rattle.vte_core.proofs.parser.machine.Machine.drive_to_run.Goals.{else-loop-position-test, then-loop-position-test+else-not-terminated}
 use Rattle.vte_core.proofs.parser.machine.Machine.drive_to_run.Goals as goal
+use Rattle.vte_core.proofs.parser.machine.Machine.drive_to_run.Invariants.{IsBeforeRun}
 
 -- A stretch that reports no run leads from one position before a run to another.
 before_run-then : {V B known : Type 0} {call : ChunkCall V} {first value new : V} {i j : ℕ}

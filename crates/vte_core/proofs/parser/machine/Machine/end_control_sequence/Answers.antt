@@ -1,10 +1,10 @@
 -- An ill-shaped head reports nothing. Any other is whole once the last number is settled, and is dispatched.
 use Rattle.vte_core.proofs.Common.{ap, arith, CsiDispatch, head_of, InText, refl, rules, sequence_event, [], ◌∙◌, ◌∷◌}
 use Rattle.vte_core.proofs.lemmas.bytes.Classes.{class-final}
-use Rattle.vte_core.proofs.lemmas.positions.SettledStates.{settled-same_state}
 use Rattle.vte_core.proofs.lemmas.fields.Heads.{dispatched-ready, head-holds, ill_shaped-now}
-use Rattle.vte_core.proofs.lemmas.places.PlaceLeads.{control-dispatched, control-silent}
 use Rattle.vte_core.proofs.lemmas.fields.PlaceOfState.{is_at-text_begun}
+use Rattle.vte_core.proofs.lemmas.places.PlaceLeads.{control-dispatched, control-silent}
+use Rattle.vte_core.proofs.lemmas.positions.SettledStates.{settled-same_state}
 use Rattle.vte_core.proofs.parser.machine.Machine.end_control_sequence.Goals as goal
 
 -- An ill-shaped head reports nothing.

@@ -1,11 +1,11 @@
 -- ST unhooks and leads to a text; any other byte that is no data and ends nothing is dropped.
 use Rattle.vte_core.proofs.Common.{refl, sym, ◌∙◌}
 use Rattle.vte_core.proofs.lemmas.bytes.Classes.{ends_no_data, terminator_is_high}
+use Rattle.vte_core.proofs.lemmas.fields.PlaceOfState.{is_at-by}
+use Rattle.vte_core.proofs.lemmas.places.PlaceLeads.{data-dropped, data-terminator}
+use Rattle.vte_core.proofs.lemmas.positions.SettledStates.{settled-same_state}
 use Rattle.vte_core.proofs.lemmas.positions.Stretches.{advances-given}
 use Rattle.vte_core.proofs.lemmas.positions.TakenBytes.{advances-in, takes-byte, takes-in_data}
-use Rattle.vte_core.proofs.lemmas.fields.PlaceOfState.{is_at-by}
-use Rattle.vte_core.proofs.lemmas.positions.SettledStates.{settled-same_state}
-use Rattle.vte_core.proofs.lemmas.places.PlaceLeads.{data-dropped, data-terminator}
 use Rattle.vte_core.proofs.parser.machine.Machine.end_data_or_drop_byte.Goals.{else-byte-eq-STRING_TERMINATOR, then-byte-eq-STRING_TERMINATOR}
 use Rattle.vte_core.proofs.parser.machine.Machine.end_data_or_drop_byte.Goals as goal
 

@@ -1,11 +1,11 @@
 -- What is open is reported first. Then ESC leads to after ESC, and CAN or SUB is executed and leads to a text.
 use Rattle.vte_core.proofs.Common.{ap, arith, closing_events_at, Execute, refl, rules, sym, [], ◌∙◌, ◌∷◌}
 use Rattle.vte_core.proofs.lemmas.bytes.Classes.{ends_by_cancel}
-use Rattle.vte_core.proofs.lemmas.positions.TakenBytes.{takes-byte, takes_bytes-escape}
 use Rattle.vte_core.proofs.lemmas.fields.PlaceOfState.{is_at-place}
-use Rattle.vte_core.proofs.lemmas.streams.After.{after_events-append, takes_bytes-one}
 use Rattle.vte_core.proofs.lemmas.places.BytesInStream.{cancel_is_no_escape}
 use Rattle.vte_core.proofs.lemmas.places.TextSteps.{byte-cancels}
+use Rattle.vte_core.proofs.lemmas.positions.TakenBytes.{takes-byte, takes_bytes-escape}
+use Rattle.vte_core.proofs.lemmas.streams.After.{after_events-append, takes_bytes-one}
 use Rattle.vte_core.proofs.parser.machine.Machine.end_sequence.Goals as goal
 
 pub returns-then-byte-eq-ESCAPE-clause-takes : goal.returns-then-byte-eq-ESCAPE-clause-takes

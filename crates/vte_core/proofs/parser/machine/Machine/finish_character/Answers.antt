@@ -1,9 +1,9 @@
 -- Without an open character the call is at its start. With one it is where that is completed.
 use Rattle.vte_core.proofs.Common.{arith, false≢true, rules, sym, ◌∙◌}
-use Rattle.vte_core.proofs.lemmas.positions.Characters.{opens-text}
 use Rattle.vte_core.proofs.lemmas.positions.AddedEvents.{reports-nothing, reports-open}
-use Rattle.vte_core.proofs.lemmas.positions.SettledStates.{settled-nothing, settled-outside, settled-same_state}
 use Rattle.vte_core.proofs.lemmas.positions.CallEnds.{starts-at, starts-inside}
+use Rattle.vte_core.proofs.lemmas.positions.Characters.{opens-text}
+use Rattle.vte_core.proofs.lemmas.positions.SettledStates.{settled-nothing, settled-outside, settled-same_state}
 use Rattle.vte_core.proofs.parser.machine.Machine.finish_character.Goals as goal
 
 -- A text without an open character.

@@ -1,7 +1,7 @@
 -- Something is open unless `open` answers `Nothing`.
 use Rattle.vte_core.proofs.Common.{ap, false≢true, not, sym, ◌∙◌}
-use Rattle.vte_core.proofs.parser.machine.Machine.is_open.Goals as goal
 use Rattle.vte_core.proofs.parser.machine.Machine.is_open.Goals.{in-Nothing, in_default}
+use Rattle.vte_core.proofs.parser.machine.Machine.is_open.Goals as goal
 
 pub returns : goal.returns
 returns g c = record {

@@ -1,8 +1,8 @@
 -- ESC once more changes nothing. `[` leads to a head, which is read on; any other byte is one step.
 use Rattle.vte_core.proofs.Common.{arith, refl, rules}
+use Rattle.vte_core.proofs.lemmas.positions.EscapeStretches.{advances-again, advances-bracket}
 use Rattle.vte_core.proofs.lemmas.positions.SettledStates.{settled-same_state}
 use Rattle.vte_core.proofs.lemmas.positions.Stretches.{advances-byte, advances-given, advances-nothing, advances-then, advances-to_same}
-use Rattle.vte_core.proofs.lemmas.positions.EscapeStretches.{advances-again, advances-bracket}
 use Rattle.vte_core.proofs.parser.machine.Machine.read_after_escape.Goals as goal
 
 pub loop-position-init : goal.loop-position-init

@@ -2,11 +2,11 @@
 -- dropped. In each case the state is that of the place to which the byte leads.
 use Rattle.vte_core.proofs.Common.{arith, class_of, refl, rules, sym, [], ◌∙◌}
 use Rattle.vte_core.proofs.lemmas.bytes.Classes.{below_final, below_finals, class-control, class-intermediate, final_ends_nothing, head_ends_nothing, other_dispatches}
-use Rattle.vte_core.proofs.lemmas.positions.TakenBytes.{takes-at_escape, takes-byte, takes_bytes-in}
-use Rattle.vte_core.proofs.lemmas.positions.EscapeStretches.{takes_bytes-dropped}
-use Rattle.vte_core.proofs.lemmas.positions.SettledStates.{settled-same_state}
 use Rattle.vte_core.proofs.lemmas.fields.PlaceOfState.{is_at-by, is_at-text_begun}
 use Rattle.vte_core.proofs.lemmas.places.PlaceLeads.{byte-executed, escape-end, escape-intermediate}
+use Rattle.vte_core.proofs.lemmas.positions.EscapeStretches.{takes_bytes-dropped}
+use Rattle.vte_core.proofs.lemmas.positions.SettledStates.{settled-same_state}
+use Rattle.vte_core.proofs.lemmas.positions.TakenBytes.{takes-at_escape, takes-byte, takes_bytes-in}
 use Rattle.vte_core.proofs.parser.machine.Machine.read_byte_after_escape.Goals as goal
 
 -- A final byte is a key: what it begins is `begin_or_dispatch`'s.

@@ -2,8 +2,8 @@
 -- here, or three bytes in a function of their own; that for four says the same as this one.
 use Rattle.vte_core.proofs.Common.{arith, refl, sym, ◌∙◌}
 use Rattle.vte_core.proofs.lemmas.bytes.Scalars.{second-broken, second-lone, spells-two}
-use Rattle.vte_core.proofs.lemmas.positions.Characters.{completes-all, completes-malformed, completes-well_formed, goes_on-nowhere, unfinished-some}
 use Rattle.vte_core.proofs.lemmas.positions.BetweenCharacters.{advances-first}
+use Rattle.vte_core.proofs.lemmas.positions.Characters.{completes-all, completes-malformed, completes-well_formed, goes_on-nowhere, unfinished-some}
 use Rattle.vte_core.proofs.parser.machine.Machine.read_character.Goals as goal
 
 -- The call ends after the first byte: the character stays open.

@@ -1,7 +1,7 @@
 -- The call is before this byte of a text. A byte has three looks at most, and one more if it is searched.
 use Rattle.vte_core.proofs.Common.{Advances, AnyEvents, chunk_call, ChunkCall, Empty, false, length, List, looks_of, slice_index, Text, ℕ, ◌*◌, ◌+◌, ◌-◌, ◌<◌, ◌≡◌, ◌≤◌}
-use Rattle.vte_core.specs.private.Prelude.{MayReadByte}
 use Rattle.vte_core.proofs.parser.machine.Machine.read_characters.Given as goal
+use Rattle.vte_core.specs.private.Prelude.{MayReadByte}
 
 -- The call that reads these bytes.
 abbrev pub call_at : (g : goal.Over) → List ℕ → ChunkCall g.P.CountedPerform.Value

@@ -1,10 +1,10 @@
 -- The head first. Then nothing is left, or the next byte hooks, ends the string, or is dropped, by its class.
 use Rattle.vte_core.proofs.Common.{class_of, refl, rules, sym, ◌∙◌}
 use Rattle.vte_core.proofs.lemmas.bytes.Classes.{final_ends_nothing, other_in_head}
-use Rattle.vte_core.proofs.lemmas.positions.TakenBytes.{takes-byte}
-use Rattle.vte_core.proofs.lemmas.positions.HeadStretches.{advances-head, advances-past_head, DeviceHead, match-none, takes_bytes-head}
 use Rattle.vte_core.proofs.lemmas.fields.PlaceOfState.{is_at-by}
 use Rattle.vte_core.proofs.lemmas.places.PlaceLeads.{device-dropped}
+use Rattle.vte_core.proofs.lemmas.positions.HeadStretches.{advances-head, advances-past_head, DeviceHead, match-none, takes_bytes-head}
+use Rattle.vte_core.proofs.lemmas.positions.TakenBytes.{takes-byte}
 use Rattle.vte_core.proofs.parser.machine.Machine.read_device_control.Goals.{else-is_final+else-ends_sequence, else-is_final+then-ends_sequence, then-is_final}
 use Rattle.vte_core.proofs.parser.machine.Machine.read_device_control.Goals as goal
 

@@ -1,8 +1,8 @@
 -- A call that asks goes on by one data byte; one that doesn't takes all up to the next byte that isn't put.
 use Rattle.vte_core.proofs.Common.{arith, refl, rules, sym, ◌∙◌}
-use Rattle.vte_core.proofs.lemmas.positions.Stretches.{advances-nothing, advances-then, advances-to_same, advances-without_promise}
 use Rattle.vte_core.proofs.lemmas.positions.DataStretches.{advances-data, advances-put, first-put}
 use Rattle.vte_core.proofs.lemmas.positions.SettledStates.{may_stop-none, settled-same_state}
+use Rattle.vte_core.proofs.lemmas.positions.Stretches.{advances-nothing, advances-then, advances-to_same, advances-without_promise}
 use Rattle.vte_core.proofs.parser.machine.Machine.read_device_data.Goals.{else-this-ne0-via-else-this-ne0, else-this-ne0-via-then-this-ne0+else-terminated}
 use Rattle.vte_core.proofs.parser.machine.Machine.read_device_data.Goals as goal
 

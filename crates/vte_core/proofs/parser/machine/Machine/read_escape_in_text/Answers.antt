@@ -1,9 +1,9 @@
 -- ESC in a text, and `[` after it, are two steps of one byte; then the call goes on with the head, or after ESC.
 use Rattle.vte_core.proofs.Common.{arith, CollectedHead, Escape, Machine, refl}
+use Rattle.vte_core.proofs.lemmas.positions.EscapeStretches.{advances-bracket}
 use Rattle.vte_core.proofs.lemmas.positions.SettledStates.{place-settled_text}
 use Rattle.vte_core.proofs.lemmas.positions.Stretches.{advances-byte, advances-escape, advances-then}
 use Rattle.vte_core.proofs.lemmas.positions.TakenBytes.{takes_bytes-escape}
-use Rattle.vte_core.proofs.lemmas.positions.EscapeStretches.{advances-bracket}
 use Rattle.vte_core.proofs.parser.machine.Machine.read_escape_in_text.Goals as goal
 
 -- The machine after the ESC.

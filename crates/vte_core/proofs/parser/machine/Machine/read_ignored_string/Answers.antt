@@ -1,11 +1,11 @@
 -- Bytes of an ignored string lead back to it, one by one (`advances-by`); then it ends, or the bytes do.
 use Rattle.vte_core.proofs.Common.{Advances, AreIgnored, arith, ChunkCall, IgnoredString, length, Machine, MayGoOn, refl, rules, suc, zero, ℕ, ◌+◌, ◌-◌, ◌≡◌, ◌≤◌}
 use Rattle.vte_core.proofs.lemmas.bytes.Classes.{ends_not_cancel}
-use Rattle.vte_core.proofs.lemmas.positions.Stretches.{advances-given, advances-nothing, advances-then, advances-to_same}
-use Rattle.vte_core.proofs.lemmas.positions.TakenBytes.{advances-in, takes-byte, takes-in_ignored}
-use Rattle.vte_core.proofs.lemmas.positions.SettledStates.{settled-same_state}
 use Rattle.vte_core.proofs.lemmas.fields.PlaceOfState.{is_at-by}
 use Rattle.vte_core.proofs.lemmas.places.PlaceLeads.{ignored-more}
+use Rattle.vte_core.proofs.lemmas.positions.SettledStates.{settled-same_state}
+use Rattle.vte_core.proofs.lemmas.positions.Stretches.{advances-given, advances-nothing, advances-then, advances-to_same}
+use Rattle.vte_core.proofs.lemmas.positions.TakenBytes.{advances-in, takes-byte, takes-in_ignored}
 use Rattle.vte_core.proofs.parser.machine.Machine.read_ignored_string.Goals as goal
 
 -- A call reads n ignored bytes, which report nothing.

@@ -2,11 +2,11 @@
 -- a control, or one that is dropped. In each case the machine is at the place to which the byte leads.
 use Rattle.vte_core.proofs.Common.{arith, class_of, refl, rules, sym, ◌∙◌}
 use Rattle.vte_core.proofs.lemmas.bytes.Classes.{class-control, class-intermediate, dispatch_ends_nothing, other_than_intermediate}
-use Rattle.vte_core.proofs.lemmas.positions.Stretches.{advances-byte, advances-given, advances-nothing, advances-then}
-use Rattle.vte_core.proofs.lemmas.positions.TakenBytes.{advances-in, takes-byte, takes-in_escape}
-use Rattle.vte_core.proofs.lemmas.positions.SettledStates.{settled-same_state}
 use Rattle.vte_core.proofs.lemmas.fields.PlaceOfState.{is_at-by, is_at-text_begun}
 use Rattle.vte_core.proofs.lemmas.places.PlaceLeads.{byte-dropped, byte-executed, intermediate-end, intermediate-more}
+use Rattle.vte_core.proofs.lemmas.positions.SettledStates.{settled-same_state}
+use Rattle.vte_core.proofs.lemmas.positions.Stretches.{advances-byte, advances-given, advances-nothing, advances-then}
+use Rattle.vte_core.proofs.lemmas.positions.TakenBytes.{advances-in, takes-byte, takes-in_escape}
 use Rattle.vte_core.proofs.parser.machine.Machine.read_intermediates.Goals.{else-is_intermediate+else-dispatches_escape+else-ends_sequence+else-is_plain_control, then-is_intermediate}
 use Rattle.vte_core.proofs.parser.machine.Machine.read_intermediates.Goals as goal
 

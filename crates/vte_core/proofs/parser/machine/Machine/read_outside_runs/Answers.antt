@@ -1,10 +1,10 @@
 -- A longer character is read as one. Otherwise each byte is single (`advances-single`), up to ESC, the end, a stop or a
 -- byte that may begin a run.
 use Rattle.vte_core.proofs.Common.{arith, refl, rules, sym, ◌∙◌}
+use Rattle.vte_core.proofs.lemmas.bytes.NoRuns.{no_run-unprinted}
+use Rattle.vte_core.proofs.lemmas.positions.BetweenCharacters.{advances-single}
 use Rattle.vte_core.proofs.lemmas.positions.SettledStates.{settled-same_state}
 use Rattle.vte_core.proofs.lemmas.positions.Stretches.{advances-given, advances-nothing, advances-then}
-use Rattle.vte_core.proofs.lemmas.positions.BetweenCharacters.{advances-single}
-use Rattle.vte_core.proofs.lemmas.bytes.NoRuns.{no_run-unprinted}
 use Rattle.vte_core.proofs.parser.machine.Machine.read_outside_runs.Goals as goal
 
 -- A byte that begins a longer one: no run begins here, so the character is none that is printed.

@@ -1,7 +1,7 @@
 -- The call is before this byte, which neither is printed nor begins a longer character, and has reported no run.
 use Rattle.vte_core.proofs.Common.{Advances, caller_looks, chunk_call, Empty, EventsOutsideRuns, false, from_to, is_in, length, lookahead, looks_of, per_byte, SpendsWithin, Text, true, ◌+◌, ◌-◌, ◌≡◌, ◌≤◌}
-use Rattle.vte_core.specs.private.Prelude.{MayReadByte}
 use Rattle.vte_core.proofs.parser.machine.Machine.read_outside_runs.Given as goal
+use Rattle.vte_core.specs.private.Prelude.{MayReadByte}
 
 abbrev pub invariant-loop-byte : goal.invariant-loop-byte
 invariant-loop-byte g l = record {

@@ -2,10 +2,10 @@
 -- dropped, by its class.
 use Rattle.vte_core.proofs.Common.{class_of, refl, rules, sym, ◌∙◌}
 use Rattle.vte_core.proofs.lemmas.bytes.Classes.{class-control, other_is_dropped}
-use Rattle.vte_core.proofs.lemmas.positions.TakenBytes.{takes-byte}
-use Rattle.vte_core.proofs.lemmas.positions.HeadStretches.{advances-final_byte, advances-head, advances-past_head, ControlHead, takes_bytes-head}
 use Rattle.vte_core.proofs.lemmas.fields.PlaceOfState.{is_at-by}
 use Rattle.vte_core.proofs.lemmas.places.PlaceLeads.{byte-dropped, byte-executed}
+use Rattle.vte_core.proofs.lemmas.positions.HeadStretches.{advances-final_byte, advances-head, advances-past_head, ControlHead, takes_bytes-head}
+use Rattle.vte_core.proofs.lemmas.positions.TakenBytes.{takes-byte}
 use Rattle.vte_core.proofs.parser.machine.Machine.read_rest_of_head.Goals.{else-ends_sequence+else-is_plain_control, else-ends_sequence+then-is_plain_control, then-ends_sequence}
 use Rattle.vte_core.proofs.parser.machine.Machine.read_rest_of_head.Goals as goal
 

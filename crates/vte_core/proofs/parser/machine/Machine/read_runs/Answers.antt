@@ -1,14 +1,14 @@
 -- In a round the call may first print a run of ASCII (`advances-ascii`). Then it is before a byte (`may_read-next`),
 -- which it reads by one of three branches, of which two join (`advances-next`).
 use Rattle.vte_core.proofs.Common.{Advances, AnyEvents, arith, Empty, length, rules, sym, Text, ◌<◌, ◌∙◌}
-use Rattle.vte_core.specs.private.Prelude.{MayReadByte}
+use Rattle.vte_core.proofs.lemmas.positions.BetweenCharacters.{advances-lone}
 use Rattle.vte_core.proofs.lemmas.positions.Stretches.{advances-then, advances-without_promise}
 use Rattle.vte_core.proofs.lemmas.positions.TextRuns.{advances-text, may_go_on-malformed, may_go_on-text}
-use Rattle.vte_core.proofs.lemmas.positions.BetweenCharacters.{advances-lone}
 use Rattle.vte_core.proofs.parser.machine.Machine.read_runs.Given.{Over}
-use Rattle.vte_core.proofs.parser.machine.Machine.read_runs.Invariants.{call_at}
 use Rattle.vte_core.proofs.parser.machine.Machine.read_runs.Goals.{else-byte-lt160+then-is_lead, else-is_printed_ascii, Joined-byte-lt160, Joined-is_printed_ascii, then-byte-lt160+else-byte-eq-ESCAPE, then-is_printed_ascii+in-Some}
 use Rattle.vte_core.proofs.parser.machine.Machine.read_runs.Goals as goal
+use Rattle.vte_core.proofs.parser.machine.Machine.read_runs.Invariants.{call_at}
+use Rattle.vte_core.specs.private.Prelude.{MayReadByte}
 
 -- The call has come past the run of ASCII, if there was one.
 advances-ascii : (g : Over) (c : Joined-is_printed_ascii g)

@@ -1,8 +1,8 @@
 -- A number first, then a final byte at once, `;` and more numbers, or the rest of the head.
 use Rattle.vte_core.proofs.Common.{class_of, refl, rules, sym, ◌∙◌, ◌≡◌}
+use Rattle.vte_core.proofs.lemmas.fields.Heads.{holds-parameter}
 use Rattle.vte_core.proofs.lemmas.positions.HeadStretches.{advances-final_byte, advances-head, ControlHead, reads_head-byte, reads_head-then}
 use Rattle.vte_core.proofs.lemmas.positions.Stretches.{advances-then}
-use Rattle.vte_core.proofs.lemmas.fields.Heads.{holds-parameter}
 use Rattle.vte_core.proofs.parser.machine.Machine.read_short_head.Goals as goal
 
 -- After the number comes a final byte.

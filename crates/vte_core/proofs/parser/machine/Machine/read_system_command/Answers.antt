@@ -2,13 +2,13 @@
 -- would have been read.
 use Rattle.vte_core.proofs.Common.{arith, HoldsItems, IsCommandData, length, Machine, ne_eqb, refl, rules, subst, sym, [], ◌++◌, ◌<◌, ◌∙◌, ◌∷◌, ◌≡◌}
 use Rattle.vte_core.proofs.lemmas.bytes.Classes.{other_is_control}
-use Rattle.vte_core.proofs.lemmas.positions.Stretches.{advances-given, advances-then}
-use Rattle.vte_core.proofs.lemmas.positions.TakenBytes.{advances-in, takes-byte, takes-in_system_command}
-use Rattle.vte_core.proofs.lemmas.positions.DataStretches.{advances-items}
 use Rattle.vte_core.proofs.lemmas.fields.PlaceOfState.{is_at-by}
 use Rattle.vte_core.proofs.lemmas.fields.Stores.{pieces_held}
-use Rattle.vte_core.proofs.lemmas.positions.SettledStates.{settled-same_state}
 use Rattle.vte_core.proofs.lemmas.places.PlaceLeads.{command-bell, command-control, command-item}
+use Rattle.vte_core.proofs.lemmas.positions.DataStretches.{advances-items}
+use Rattle.vte_core.proofs.lemmas.positions.SettledStates.{settled-same_state}
+use Rattle.vte_core.proofs.lemmas.positions.Stretches.{advances-given, advances-then}
+use Rattle.vte_core.proofs.lemmas.positions.TakenBytes.{advances-in, takes-byte, takes-in_system_command}
 use Rattle.vte_core.proofs.parser.machine.Machine.read_system_command.Goals.{else-byte-eq59+else-byte-eq-BELL, else-byte-eq59+then-byte-eq-BELL, then-byte-eq59}
 use Rattle.vte_core.proofs.parser.machine.Machine.read_system_command.Goals as goal
 

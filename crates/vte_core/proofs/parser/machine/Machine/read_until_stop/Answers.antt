@@ -1,13 +1,13 @@
 -- A round reads the byte before which the call is: what begins with a lead byte by a branch of its own, and a
 -- character, a control or malformed byte alone by two that join.
 use Rattle.vte_core.proofs.Common.{Advances, AnyEvents, arith, Empty, length, rules, sym, Text, ◌+◌, ◌<◌, ◌∙◌}
-use Rattle.vte_core.specs.private.Prelude.{MayReadByte}
-use Rattle.vte_core.proofs.lemmas.positions.Stretches.{advances-then, advances-without_promise}
 use Rattle.vte_core.proofs.lemmas.positions.BetweenCharacters.{advances-lone, advances-printed}
+use Rattle.vte_core.proofs.lemmas.positions.Stretches.{advances-then, advances-without_promise}
 use Rattle.vte_core.proofs.parser.machine.Machine.read_until_stop.Given.{Over}
-use Rattle.vte_core.proofs.parser.machine.Machine.read_until_stop.Invariants.{call_at}
 use Rattle.vte_core.proofs.parser.machine.Machine.read_until_stop.Goals.{else-is_printed_ascii+else-is_lead+else-byte-eq-ESCAPE, Joined-is_printed_ascii, then-is_printed_ascii}
 use Rattle.vte_core.proofs.parser.machine.Machine.read_until_stop.Goals as goal
+use Rattle.vte_core.proofs.parser.machine.Machine.read_until_stop.Invariants.{call_at}
+use Rattle.vte_core.specs.private.Prelude.{MayReadByte}
 
 advances-single : (g : Over) (c : Joined-is_printed_ascii g)
     → Advances AnyEvents (call_at g c.args.input.bytes.now) (g.P.CountedPerform.value_of c.args.performer.now)

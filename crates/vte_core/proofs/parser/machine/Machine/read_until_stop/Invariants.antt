@@ -1,9 +1,9 @@
 -- The call is at this position, between characters if bytes are left. A byte of the text has three looks at most,
 -- and one more if it is searched: a call that may stop searches no further than it has read. Both loops keep that.
 use Rattle.vte_core.proofs.Common.{chunk_call, ChunkCall, length, List, looks_of, Machine, slice_index, true, ℕ, ◌*◌, ◌+◌, ◌-◌, ◌<◌, ◌≡◌, ◌≤◌}
-use Rattle.vte_core.specs.declared.reader.Reader.{Reader}
 use Rattle.vte_core.proofs.lemmas.positions.BetweenCharacters.{ReadsOn}
 use Rattle.vte_core.proofs.parser.machine.Machine.read_until_stop.Given as goal
+use Rattle.vte_core.specs.declared.reader.Reader.{Reader}
 
 -- The call that reads these bytes.
 abbrev pub call_at : (g : goal.Over) → List ℕ → ChunkCall g.P.CountedPerform.Value

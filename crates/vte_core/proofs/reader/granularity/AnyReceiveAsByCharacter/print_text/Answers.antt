@@ -1,8 +1,8 @@
 -- The iterator yields all characters of the text.
-use Rattle.vte_core.proofs.Common.{after, ap, map, Print, sym, ◌∙◌}
 use Rattle.std.proofs.lemmas.Iterator.{YieldsList-from_chars}
 use Rattle.std.proofs.lemmas.Iterator.Consumers.{YieldsList-end}
 use Rattle.std.proofs.lemmas.List.{map-id}
+use Rattle.vte_core.proofs.Common.{after, ap, map, Print, sym, ◌∙◌}
 use Rattle.vte_core.proofs.reader.granularity.AnyReceiveAsByCharacter.print_text.Goals as goal
 
 pub returns : goal.returns

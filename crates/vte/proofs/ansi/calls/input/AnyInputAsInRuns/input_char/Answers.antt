@@ -1,9 +1,9 @@
 -- A character is a text of one, of which it is the only input.
-use Rattle.vte.proofs.Common.{after, All, ap, arith, chars, false, Input, map, nat_tests, subst, sym, [], ◌∙◌, ◌∷◌, ◌≡◌}
 use Rattle.std.proofs.lemmas.List.Elements.{All-cons, All-nil}
-use Rattle.vte_core.specs.Text.{is_control_character}
-use Rattle.vte_core.proofs.lemmas.bytes.Runs.{chars-encode}
 use Rattle.vte.proofs.ansi.calls.input.AnyInputAsInRuns.input_char.Goals as goal
+use Rattle.vte.proofs.Common.{after, All, ap, arith, chars, false, Input, map, nat_tests, subst, sym, [], ◌∙◌, ◌∷◌, ◌≡◌}
+use Rattle.vte_core.proofs.lemmas.bytes.Runs.{chars-encode}
+use Rattle.vte_core.specs.Text.{is_control_character}
 
 pub input_text-requires-clause-shown : goal.input_text-requires-clause-shown
 input_text-requires-clause-shown g c =

@@ -1,6 +1,6 @@
 -- The groups that are left give what all give.
-use Rattle.vte.proofs.Common.{performer_value, timeout_meaning, with_private_modes, ◌≡◌}
 use Rattle.vte.proofs.ansi.calls.performer.Performer.set_private_modes.Given as goal
+use Rattle.vte.proofs.Common.{performer_value, timeout_meaning, with_private_modes, ◌≡◌}
 
 abbrev pub invariant-loop-group : goal.invariant-loop-group
 invariant-loop-group g l =

@@ -1,7 +1,7 @@
 -- A turn more leads on (`reaches-more`), until all bytes are read or a turn is refused memory.
+use Rattle.vte.proofs.ansi.updates.engine.Engine.advance.Goals as goal
 use Rattle.vte.proofs.Common.{arith, drop, length, take, ◌+◌, ◌-◌, ◌≡◌}
 use Rattle.vte.proofs.lemmas.turns.EngineTurns.{engine_reads-all, engine_reads-until, keeping_memory-same, reached-refused, reaches-more, reaches-nothing, rest-size}
-use Rattle.vte.proofs.ansi.updates.engine.Engine.advance.Goals as goal
 
 -- Before the first turn, nothing is read.
 pub loop-turn-init : goal.loop-turn-init

@@ -1,7 +1,7 @@
 -- The turns so far have led to a state in which the processor is. Each reads a byte or more.
+use Rattle.vte.proofs.ansi.updates.engine.Engine.advance.Given as goal
 use Rattle.vte.proofs.Common.{engine_facts, engine_view, IsAt, IsAtKeepingMemory, length, processor_meaning, State, ◌<◌, ◌≤◌}
 use Rattle.vte.proofs.lemmas.turns.EngineTurns.{HasReached}
-use Rattle.vte.proofs.ansi.updates.engine.Engine.advance.Given as goal
 
 abbrev pub invariant-loop-turn : goal.invariant-loop-turn
 invariant-loop-turn g l =

@@ -1,7 +1,7 @@
 -- What the hold releases is parsed: all of it with a stop if nothing stays held, otherwise a prefix of it.
+use Rattle.vte.proofs.ansi.updates.engine.Engine.hold_bytes.Goals as goal
 use Rattle.vte.proofs.Common.{arith, processor_meaning, sym, ◌∙◌}
 use Rattle.vte.proofs.lemmas.turns.HoldTurns.{turned_cut, turned_stop}
-use Rattle.vte.proofs.ansi.updates.engine.Engine.hold_bytes.Goals as goal
 
 pub returns-then-len-eq0 : goal.returns-then-len-eq0
 returns-then-len-eq0 g c = λ state is_at memory.

@@ -1,6 +1,6 @@
 -- What the parser reserves: the parsed and held bytes stay as they were, and there is memory for as many more.
-use Rattle.vte.proofs.Common.{length}
 use Rattle.vte.proofs.ansi.updates.engine.Engine.reserve.Goals as goal
+use Rattle.vte.proofs.Common.{length}
 
 pub returns-clause-reserved : goal.returns-clause-reserved
 returns-clause-reserved g c = record {

@@ -1,7 +1,7 @@
 -- All held bytes are released and parsed, and then the update ends.
+use Rattle.vte.proofs.ansi.updates.engine.Engine.stop.Goals as goal
 use Rattle.vte.proofs.Common.{add-zero, ◌∙◌}
 use Rattle.vte.proofs.lemmas.turns.EngineTurns.{parts-at, stops_update}
-use Rattle.vte.proofs.ansi.updates.engine.Engine.stop.Goals as goal
 
 pub returns-clause-stopped : goal.returns-clause-stopped
 returns-clause-stopped g c = stops_update (λ state is_at.

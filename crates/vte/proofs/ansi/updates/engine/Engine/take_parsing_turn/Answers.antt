@@ -1,10 +1,10 @@
 -- Slices in which no update begins add up to a longer prefix (`parsing-more`). The turn ends with the slice in which
 -- one begins, with the last byte, or when memory is refused.
-use Rattle.vte.proofs.Common.{arith, refl, sym, ◌∙◌}
-use Rattle.vte.proofs.lemmas.turns.Slices.{count-whole, parsing-all, parsing-ends, parsing-more, parsing-nothing, slice-size}
-use Rattle.vte.proofs.lemmas.turns.EngineTurns.{keeping_memory-reserved, keeping_memory-same, slice-parsed}
-use Rattle.vte.proofs.ansi.updates.engine.Engine.take_parsing_turn.Goals as goal
 use Rattle.vte.proofs.ansi.updates.engine.Engine.take_parsing_turn.Goals.{then-begins-via-else-begins+then-read-bytes, then-begins-via-then-begins}
+use Rattle.vte.proofs.ansi.updates.engine.Engine.take_parsing_turn.Goals as goal
+use Rattle.vte.proofs.Common.{arith, refl, sym, ◌∙◌}
+use Rattle.vte.proofs.lemmas.turns.EngineTurns.{keeping_memory-reserved, keeping_memory-same, slice-parsed}
+use Rattle.vte.proofs.lemmas.turns.Slices.{count-whole, parsing-all, parsing-ends, parsing-more, parsing-nothing, slice-size}
 
 -- Before the first slice, nothing is read.
 pub loop-slice-init : goal.loop-slice-init

@@ -1,6 +1,6 @@
 -- The slices so far begin no update, and are parsed. Each has at least one byte, so the loop reads all.
-use Rattle.vte.proofs.Common.{engine_facts, engine_view, HasParsedWithoutBegin, IsAt, IsAtKeepingMemory, length, processor_meaning, State, ◌<◌, ◌≤◌}
 use Rattle.vte.proofs.ansi.updates.engine.Engine.take_parsing_turn.Given as goal
+use Rattle.vte.proofs.Common.{engine_facts, engine_view, HasParsedWithoutBegin, IsAt, IsAtKeepingMemory, length, processor_meaning, State, ◌<◌, ◌≤◌}
 
 abbrev pub invariant-loop-slice : goal.invariant-loop-slice
 invariant-loop-slice g l =

@@ -9,7 +9,7 @@ use crate::reader::{Input, Reader};
 use arrayvec::ArrayVec;
 
 /// How many intermediates of a sequence are kept, a marker among them.
-const MAX_INTERMEDIATES: usize = 2;
+pub(crate) const MAX_INTERMEDIATES: usize = 2;
 
 /// How far a head has been read.
 #[derive(Clone, Copy)]
@@ -183,10 +183,10 @@ impl CollectedHead {
     pub(crate) fn read_numbers(
         &mut self,
         reader: &mut Reader,
-        reached: HeadProgress,
-        reads_separators: bool,
         input: Input<'_>,
         from: usize,
+        reached: HeadProgress,
+        reads_separators: bool,
     ) -> HeadEnd
         requires within { from ≤ length input.bytes.now }
         requires may_have_parameters { reached ≡ HeadProgress.Entry
@@ -236,9 +236,9 @@ impl CollectedHead {
     pub(crate) fn read_head(
         &mut self,
         reader: &mut Reader,
-        reached: HeadProgress,
         input: Input<'_>,
         from: usize,
+        reached: HeadProgress,
     ) -> HeadEnd
         requires { from ≤ length input.bytes.now }
         ensures reads { ReadsHeadUpTo input.entry.bytes.now from reached result self.old self.new }

@@ -13,7 +13,7 @@ use std::iter::FusedIterator;
 use std::marker::Model;
 
 /// How many numbers of a sequence are kept.
-const MAX_NUMBERS: usize = 32;
+pub(crate) const MAX_NUMBERS: usize = 32;
 
 /// The numbers of a sequence, in groups that are never empty.
 #[derive(Clone, Drop)]

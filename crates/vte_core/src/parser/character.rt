@@ -59,9 +59,9 @@ impl<B: Buffer> Machine<B> {
             return next + 1;
         }
         if first < 0xf0 {
-            self.complete_three::<P, G, MAY_STOP>(reader, performer, first, second, input, next)
+            self.complete_three::<P, G, MAY_STOP>(reader, performer, input, next, first, second)
         } else {
-            self.complete_four::<P, G, MAY_STOP>(reader, performer, first, second, input, from)
+            self.complete_four::<P, G, MAY_STOP>(reader, performer, input, from, first, second)
         }
     }
 
@@ -71,10 +71,10 @@ impl<B: Buffer> Machine<B> {
         &mut self,
         reader: &mut Reader,
         performer: &mut P,
-        first: u8,
-        second: u8,
         input: Input<'_>,
         second_position: usize,
+        first: u8,
+        second: u8,
     ) -> usize
         requires may_read { MayReadByte
             (chunk_call MAY_STOP P.step P.is_terminated B.limit input.bytes.now)
@@ -112,10 +112,10 @@ impl<B: Buffer> Machine<B> {
         &mut self,
         reader: &mut Reader,
         performer: &mut P,
-        first: u8,
-        second: u8,
         input: Input<'_>,
         from: usize,
+        first: u8,
+        second: u8,
     ) -> usize
         requires may_read { MayReadByte
             (chunk_call MAY_STOP P.step P.is_terminated B.limit input.bytes.now)
@@ -147,9 +147,9 @@ impl<B: Buffer> Machine<B> {
             return self.continue_near_end::<P, G, MAY_STOP>(
                 reader,
                 performer,
-                Unfinished::Two(first, second),
                 input,
                 next + 1,
+                Unfinished::Two(first, second),
             );
         }
         let third = reader.byte_at(input, next + 1);
@@ -181,9 +181,9 @@ impl<B: Buffer> Machine<B> {
         &mut self,
         reader: &mut Reader,
         performer: &mut P,
-        begun: Unfinished,
         input: Input<'_>,
         from: usize,
+        begun: Unfinished,
     ) -> usize
         requires within { from ≤ length input.bytes.now }
         requires some_open { bytes_of begun ≢ [] }
@@ -193,7 +193,7 @@ impl<B: Buffer> Machine<B> {
         ensures spends { SpendsWithin (per_byte 2) (caller_looks 0) (lookahead 2)
             input.entry.bytes.now from result self.old self.new reader.old reader.new }
     {
-        self.continue_character::<P, G, MAY_STOP>(reader, performer, begun, input, from)
+        self.continue_character::<P, G, MAY_STOP>(reader, performer, input, from, begun)
     }
 
     /// Reads the bytes that continue an unfinished character. A byte that breaks it is left unread,
@@ -203,9 +203,9 @@ impl<B: Buffer> Machine<B> {
         &mut self,
         reader: &mut Reader,
         performer: &mut P,
-        begun: Unfinished,
         input: Input<'_>,
         from: usize,
+        begun: Unfinished,
     ) -> usize
         requires within { from ≤ length input.bytes.now }
         requires some_open { bytes_of begun ≢ [] }

@@ -35,7 +35,7 @@ impl<B: Buffer> Machine<B> {
     {
         let head = self
             .collected
-            .read_numbers(reader, HeadProgress::Entry, false, input, from);
+            .read_numbers(reader, input, from, HeadProgress::Entry, false);
         if let Some(byte) = head.next_byte {
             if is_final(byte) {
                 return self.end_control_sequence(reader, performer, head, false, byte);
@@ -47,8 +47,8 @@ impl<B: Buffer> Machine<B> {
                     reader,
                     performer,
                     input,
-                    HeadProgress::Parameters,
                     head.position + 1,
+                    HeadProgress::Parameters,
                 );
             }
         }
@@ -57,8 +57,8 @@ impl<B: Buffer> Machine<B> {
             reader,
             performer,
             input,
-            head.progress,
             head.position,
+            head.progress,
         )
     }
 
@@ -69,8 +69,8 @@ impl<B: Buffer> Machine<B> {
         reader: &mut Reader,
         performer: &mut P,
         input: Input<'_>,
-        reached: HeadProgress,
         from: usize,
+        reached: HeadProgress,
     ) -> usize
         requires { MayRead (chunk_call MAY_STOP P.step P.is_terminated B.limit input.bytes.now)
             (P.value_of performer.old) (State.ControlSequence reached) self.old from }
@@ -80,7 +80,7 @@ impl<B: Buffer> Machine<B> {
         ensures reads_within { ReadsWithin (per_byte 4) (caller_looks 0)
             input.entry.bytes.now from result self.old self.new reader.old reader.new }
     {
-        self.read_numbers_and_rest::<P, G, MAY_STOP>(reader, performer, input, reached, from)
+        self.read_numbers_and_rest::<P, G, MAY_STOP>(reader, performer, input, from, reached)
     }
 
     /// Continues a control sequence, whose head was read as far as `reached`. There is a short path
@@ -92,8 +92,8 @@ impl<B: Buffer> Machine<B> {
         reader: &mut Reader,
         performer: &mut P,
         input: Input<'_>,
-        reached: HeadProgress,
         from: usize,
+        reached: HeadProgress,
     ) -> usize
         requires { MayRead (chunk_call MAY_STOP P.step P.is_terminated B.limit input.bytes.now)
             (P.value_of performer.old) (State.ControlSequence reached) self.old from }
@@ -105,12 +105,12 @@ impl<B: Buffer> Machine<B> {
     {
         if !reached.may_have_parameters() || self.collected.joined {
             return self.read_rest_of_head::<P, G, MAY_STOP>(
-                reader, performer, input, reached, from,
+                reader, performer, input, from, reached,
             );
         }
         let head = self
             .collected
-            .read_numbers(reader, reached, true, input, from);
+            .read_numbers(reader, input, from, reached, true);
         if let Some(byte) = head.next_byte {
             if is_final(byte) {
                 return self.end_control_sequence(reader, performer, head, false, byte);
@@ -124,8 +124,8 @@ impl<B: Buffer> Machine<B> {
             reader,
             performer,
             input,
-            head.progress,
             head.position,
+            head.progress,
         )
     }
 
@@ -136,8 +136,8 @@ impl<B: Buffer> Machine<B> {
         reader: &mut Reader,
         performer: &mut P,
         input: Input<'_>,
-        reached: HeadProgress,
         from: usize,
+        reached: HeadProgress,
     ) -> usize
         requires { MayRead (chunk_call MAY_STOP P.step P.is_terminated B.limit input.bytes.now)
             (P.value_of performer.old) (State.ControlSequence reached) self.old from }
@@ -147,7 +147,7 @@ impl<B: Buffer> Machine<B> {
         ensures reads_within { ReadsWithin (per_byte 3) (caller_looks 0)
             input.entry.bytes.now from result self.old self.new reader.old reader.new }
     {
-        let head = self.collected.read_head(reader, reached, input, from);
+        let head = self.collected.read_head(reader, input, from, reached);
         self.state = State::ControlSequence(head.progress);
         if let Some(byte) = head.next_byte {
             if is_final(byte) {

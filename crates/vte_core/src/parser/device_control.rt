@@ -20,8 +20,8 @@ impl<B: Buffer> Machine<B> {
         reader: &mut Reader,
         performer: &mut P,
         input: Input<'_>,
-        reached: HeadProgress,
         from: usize,
+        reached: HeadProgress,
     ) -> usize
         requires { MayRead (chunk_call MAY_STOP P.step P.is_terminated B.limit input.bytes.now)
             (P.value_of performer.old) (State.DeviceControl reached) self.old from }
@@ -31,7 +31,7 @@ impl<B: Buffer> Machine<B> {
         ensures reads_within { ReadsWithin (per_byte 5) (caller_looks 0)
             input.entry.bytes.now from result self.old self.new reader.old reader.new }
     {
-        let head = self.collected.read_head(reader, reached, input, from);
+        let head = self.collected.read_head(reader, input, from, reached);
         self.state = State::DeviceControl(head.progress);
         if let Some(byte) = head.next_byte {
             if is_final(byte) {

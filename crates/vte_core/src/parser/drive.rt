@@ -79,7 +79,7 @@ impl<B: Buffer> Machine<B> {
                 if begun.is_empty() {
                     return 0;
                 }
-                self.continue_character::<P, G, MAY_STOP>(reader, performer, begun, input, 0)
+                self.continue_character::<P, G, MAY_STOP>(reader, performer, input, 0, begun)
             }
             _ => 0,
         }
@@ -128,11 +128,11 @@ impl<B: Buffer> Machine<B> {
             }
             State::ControlSequence(progress) => {
                 self.read_numbers_and_rest::<P, G, MAY_STOP>(
-                    reader, performer, input, progress, from,
+                    reader, performer, input, from, progress,
                 )
             }
             State::DeviceControl(progress) => {
-                self.read_device_control::<P, G, MAY_STOP>(reader, performer, input, progress, from)
+                self.read_device_control::<P, G, MAY_STOP>(reader, performer, input, from, progress)
             }
             State::DeviceData => {
                 self.read_device_data::<P, G, MAY_STOP>(reader, performer, input, from)

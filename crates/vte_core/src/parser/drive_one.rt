@@ -33,7 +33,7 @@ impl<B: Buffer> Machine<B> {
             if begun.is_empty() {
                 return Ok(self.read_last_of_text(reader, performer, input));
             }
-            return Ok(self.read_continuing_byte(reader, performer, begun, input));
+            return Ok(self.read_continuing_byte(reader, performer, input, begun));
         }
         if let State::ControlSequence(reached) = self.state {
             return Ok(self.read_parameter_byte(reader, performer, input, reached));
@@ -104,8 +104,8 @@ impl<B: Buffer> Machine<B> {
         &mut self,
         reader: &mut Reader,
         performer: &mut P,
-        begun: Unfinished,
         input: Input<'_>,
+        begun: Unfinished,
     ) -> usize
         requires one_byte { length input.bytes.now ≡ 1 }
         requires in_state { self.old.state ≡ Text begun }
@@ -184,7 +184,7 @@ impl<B: Buffer> Machine<B> {
                 return 1;
             }
         }
-        self.read_rest_of_head::<P, G, false>(reader, performer, input, reached, 0)
+        self.read_rest_of_head::<P, G, false>(reader, performer, input, 0, reached)
     }
 
     /// Reads a byte of the data of a device control string, or the byte that ends it.
@@ -243,10 +243,10 @@ impl<B: Buffer> Machine<B> {
                 self.read_intermediates::<P, G, false>(reader, performer, input, 0)
             }
             State::ControlSequence(reached) => {
-                self.read_rest_of_head::<P, G, false>(reader, performer, input, reached, 0)
+                self.read_rest_of_head::<P, G, false>(reader, performer, input, 0, reached)
             }
             State::DeviceControl(reached) => {
-                self.read_device_control::<P, G, false>(reader, performer, input, reached, 0)
+                self.read_device_control::<P, G, false>(reader, performer, input, 0, reached)
             }
             State::DeviceData => self.read_data_byte(reader, performer, input),
             State::SystemCommand => {

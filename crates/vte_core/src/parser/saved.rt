@@ -5,9 +5,10 @@ ghost use Rattle.vte_core.specs.Parser.{HasRead};
 ghost use Rattle.vte_core.specs.private.SavedLayout.{state_bytes};
 ghost use Rattle.vte_core.specs.Saved.{HasReadSaved, IsZero};
 
-use crate::head::HeadProgress;
-use crate::params::Params;
+use crate::head::{HeadProgress, MAX_INTERMEDIATES};
+use crate::params::{MAX_NUMBERS, Params};
 use crate::parser::{MAX_OSC_RAW, Parser, State, Unfinished};
+use crate::store::MAX_PIECES;
 use arrayvec::ArrayVec;
 
 /// A parser as plain data, laid out as a C struct. All zeros is a new parser, and any other bytes
@@ -19,15 +20,15 @@ pub struct Saved {
     /// How many intermediates are collected of a sequence.
     intermediate_count: usize,
     /// These intermediates, at the front.
-    intermediates: [u8; 2],
+    intermediates: [u8; MAX_INTERMEDIATES],
     /// How many groups its parameters have.
     group_count: usize,
     /// The lengths of the groups.
-    lengths: [u8; 32],
+    lengths: [u8; MAX_NUMBERS],
     /// How many numbers all groups have together.
     number_count: usize,
     /// The numbers of all groups, one after another.
-    numbers: [u16; 32],
+    numbers: [u16; MAX_NUMBERS],
     /// The number that is being read.
     number: u16,
     /// Whether it follows a colon: 0 is false.
@@ -41,7 +42,7 @@ pub struct Saved {
     /// How many ends of pieces are kept of the command.
     end_count: usize,
     /// These ends, as positions in the bytes.
-    ends: [usize; 16],
+    ends: [usize; MAX_PIECES],
     /// Whether data bytes of the command were lost.
     lost: u8,
     /// The number of the state, and the bytes of an unfinished character.
@@ -138,18 +139,18 @@ impl Saved {
     {
         Saved {
             intermediate_count: 0,
-            intermediates: [0; 2],
+            intermediates: [0; MAX_INTERMEDIATES],
             group_count: 0,
-            lengths: [0; 32],
+            lengths: [0; MAX_NUMBERS],
             number_count: 0,
-            numbers: [0; 32],
+            numbers: [0; MAX_NUMBERS],
             number: 0,
             joined: 0,
             too_many_intermediates: 0,
             byte_count: 0,
             bytes: [0; MAX_OSC_RAW],
             end_count: 0,
-            ends: [0; 16],
+            ends: [0; MAX_PIECES],
             lost: 0,
             state: [0; 4],
         }

@@ -5,6 +5,7 @@ pub mod Place
 -- What the fields hold: of a command and of groups; of a character, numbers and a head; and the
 -- place that they say.
 pub mod Store
+pub mod FlatGroups
 pub mod OpenCharacter
 pub mod HeldHead
 pub mod AtPlace
@@ -13,7 +14,8 @@ pub mod Takes
 -- How far a call has come; what each function requires, reads and costs.
 pub mod Progress
 pub mod Costs
--- Several bytes: data, what a search passes, runs of text.
+-- Several bytes: data and runs of text, and what a search passes.
+pub mod Runs
 pub mod Scans
 pub mod Automaton
 -- Calls that return a run; parsers as plain data.

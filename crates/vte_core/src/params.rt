@@ -5,7 +5,7 @@ ghost use Rattle.std.specs.Iterator.SizeHint.{IsWithinCount};
 ghost use Rattle.std.specs.List.{join_with_byte};
 ghost use Rattle.std.specs.Prelude.{IfSome, IsTrue, length, List, map, Some, ℕ, [], ◌++◌, ◌<◌, ◌==◌, ◌↔◌, ◌∷◌, ◌≡◌, ◌≤◌};
 ghost use Rattle.vte_core.specs.Parameters.{AreGroups, colon, count_of, max_numbers, shown, with_number};
-ghost use Rattle.vte_core.specs.private.Store.{AreFlatGroups, AreRawParts, IsLastPopped};
+ghost use Rattle.vte_core.specs.private.FlatGroups.{AreFlatGroups, AreRawParts, IsLastPopped};
 
 use arrayvec::ArrayVec;
 use std::fmt;
@@ -27,7 +27,7 @@ pub struct Params {
 
 impl Model for Params {
     ghost use Rattle.std.specs.Prelude.{List, ℕ};
-    ghost use Rattle.vte_core.specs.private.Store.{AreFlatGroups, cut_by_lengths};
+    ghost use Rattle.vte_core.specs.private.FlatGroups.{AreFlatGroups, cut_by_lengths};
 
     ghost Value = { List (List ℕ) };
 
@@ -46,7 +46,7 @@ pub struct ParamsIter<'a> {
 
 impl<'a> Model for ParamsIter<'a> {
     ghost use Rattle.std.specs.Prelude.{List, ℕ};
-    ghost use Rattle.vte_core.specs.private.Store.{AreLengths, cut_by_lengths};
+    ghost use Rattle.vte_core.specs.private.FlatGroups.{AreLengths, cut_by_lengths};
 
     ghost Value = { List (List ℕ) };
 

@@ -6,7 +6,8 @@ use Rattle.vte_core.specs.declared.parser.saved.Saved.{Saved}
 use Rattle.vte_core.specs.declared.parser.State.{State}
 use Rattle.vte_core.specs.declared.parser.State.TheVariants.{ControlSequence, DeviceControl, DeviceData, Escape, EscapeIntermediate, IgnoredString, SystemCommand, Text}
 use Rattle.vte_core.specs.declared.utf8.Unfinished.TheVariants.{Empty, One, Three, Two}
-use Rattle.vte_core.specs.private.Store.{ArePieceEnds, AreRawParts}
+use Rattle.vte_core.specs.private.FlatGroups.{AreRawParts}
+use Rattle.vte_core.specs.private.Store.{ArePieceEnds}
 
 -- The number of a state, and the bytes of an unfinished character.
 abbrev pub state_bytes : State → List ℕ

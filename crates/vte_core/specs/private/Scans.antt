@@ -1,59 +1,9 @@
--- Parts of a call's bytes: data, runs of text, how far a search in them goes, and how few looks
--- are taken.
-use Rattle.std.specs.Prelude.{Bool, drop, false, length, List, map, min, slice_index, take, ℕ, ◌+◌, ◌-◌, ◌<◌, ◌≡◌, ◌≤◌}
-use Rattle.std.specs.Str.{chars, IsUtf8}
-use Rattle.vte_core.specs.Class.{class_of, ends_sequence, IsDeviceData}
+-- How far a search in a call's bytes goes, and how few looks it takes.
+use Rattle.std.specs.Prelude.{drop, length, List, min, slice_index, take, ℕ, ◌+◌, ◌-◌, ◌<◌, ◌≡◌, ◌≤◌}
 use Rattle.vte_core.specs.declared.reader.Reader.{Reader}
 use Rattle.vte_core.specs.declared.reader.Window.{Window}
-use Rattle.vte_core.specs.Event.{after, Event}
 use Rattle.vte_core.specs.Looks.{looks_of}
-use Rattle.vte_core.specs.Text.{IsRunText, run_event}
-
--- `holds` is true of each byte from `from` up to `to`.
-abbrev pub Each : (ℕ → Type 0) → List ℕ → ℕ → ℕ → Type 0
-Each holds bytes from to = (k : ℕ) → from ≤ k → k < to → holds (slice_index bytes k)
-
--- ---- the data of a device control string, and the bytes of an ignored string
-
--- From `from` up to `to` each byte is put.
-abbrev pub ArePut : List ℕ → ℕ → ℕ → Type 0
-ArePut = Each IsDeviceData
-
--- Any byte other than CAN, SUB and ESC.
-abbrev pub IsIgnored : ℕ → Type 0
-IsIgnored b = ends_sequence (class_of b) ≡ false
-
--- From `from` up to `to` each byte is ignored.
-abbrev pub AreIgnored : List ℕ → ℕ → ℕ → Type 0
-AreIgnored = Each IsIgnored
-
--- ---- text that is printed: bytes of ASCII, and characters
-
--- 20..7F. DEL is printed.
-abbrev pub IsPrintedAscii : ℕ → Type 0
-IsPrintedAscii b = (0x20 ≤ b) × (b < 0x80)
-
--- From `from` up to `to` each byte is printed.
-abbrev pub ArePrintedAscii : List ℕ → ℕ → ℕ → Type 0
-ArePrintedAscii = Each IsPrintedAscii
-
--- The bytes are characters, and none of these is a control except, with `layout`, HT, LF and CR.
-pub record IsUtf8Run (layout : Bool) (bytes : List ℕ) : Type 0 where
-  pub utf8 : IsUtf8 bytes
-  pub plain : IsRunText layout bytes
-
--- The bytes from `from` up to `to` are a run.
-abbrev pub IsRun : Bool → List ℕ → ℕ → ℕ → Type 0
-IsRun layout bytes from to = IsUtf8Run layout (take (to - from) (drop from bytes))
-
--- The performer has received the characters from `from` up to `to`, which are a run.
-pub record PrintsRun {V : Type 0} (layout : Bool) (step : V → Event → V) (old new : V)
-    (bytes : List ℕ) (from to : ℕ) : Type 0 where
-  pub run : IsRun layout bytes from to
-  pub printed : new
-      ≡ after step old (map (run_event layout) (chars (take (to - from) (drop from bytes))))
-
--- ---- searches
+use Rattle.vte_core.specs.private.Runs.{Each}
 
 -- The positions are in order, and within the bytes.
 pub record ArePositions (bytes : List ℕ) (from to : ℕ) : Type 0 where

@@ -1,9 +1,9 @@
--- The stored part of an operating system command, and of groups.
+-- The stored part of an operating system command.
 use Rattle.std.specs.List.{filter, slice_range}
 use Rattle.std.specs.List.Sorted.{IsNonDecreasing}
-use Rattle.std.specs.Prelude.{All, Bool, drop, false, if◌then◌else◌, length, List, nat_lt, None, Option, option_to_list, Some, suc, sum, take, true, zero, ℕ, [], ⊤, ◌++◌, ◌+◌, ◌-◌, ◌<◌, ◌==◌, ◌∷◌, ◌≡◌, ◌≤◌}
+use Rattle.std.specs.Prelude.{All, Bool, drop, false, if◌then◌else◌, length, List, nat_lt, None, Option, Some, suc, take, true, zero, ℕ, [], ⊤, ◌++◌, ◌+◌, ◌-◌, ◌<◌, ◌==◌, ◌∷◌, ◌≡◌, ◌≤◌}
 use Rattle.vte_core.specs.CommandMemory.{StoredCommand}
-use Rattle.vte_core.specs.Parameters.{max_numbers, max_value, semicolon}
+use Rattle.vte_core.specs.Parameters.{semicolon}
 use Rattle.vte_core.specs.SystemCommand.{is_data_item, kept_after, max_pieces, pieces_of}
 
 -- For each `;` of a text, how many data bytes come before it, starting from `count`.
@@ -74,35 +74,3 @@ pub record ArePieceEnds (bytes ends : List ℕ) : Type 0 where
   pub at_most : length ends ≤ max_pieces
   pub in_order : IsNonDecreasing ends
   pub within : All (λ end. end ≤ length bytes) ends
-
--- ---- groups
-
--- All numbers are in one list, and the length of each group.
-
--- The numbers, cut into groups of these lengths.
-abbrev pub cut_by_lengths : List ℕ → List ℕ → List (List ℕ)
-cut_by_lengths [] numbers = []
-cut_by_lengths (n ∷ lengths) numbers = take n numbers ∷ cut_by_lengths lengths (drop n numbers)
-
--- The lengths cover all numbers, and no group is empty.
-pub record AreLengths (lengths numbers : List ℕ) : Type 0 where
-  pub sum_is : sum lengths ≡ length numbers
-  pub filled : All (λ n. 0 < n) lengths
-
--- Before a number joins a group, the length of that group, which is the last, is removed.
-pub record IsLastPopped (joined : Bool) (lengths rest : List ℕ) (last : Option ℕ) : Type 0 where
-  pub parts : lengths ≡ rest ++ option_to_list last
-  pub found : joined ≡ true → last ≡ None → length lengths ≡ 0
-  pub alone : joined ≡ false → last ≡ None
-
--- The lengths and numbers of a `Params`: each number is up to 65,535.
-pub record AreFlatGroups (lengths numbers : List ℕ) : Type 0 where
-  pub lengths_fit : AreLengths lengths numbers
-  pub small : All (λ number. number ≤ max_value) numbers
-
--- The groups are stored as these lengths and numbers, at most 32 of each.
-pub record AreRawParts (lengths numbers : List ℕ) (groups : List (List ℕ)) : Type 0 where
-  pub stored : AreFlatGroups lengths numbers
-  pub cut : groups ≡ cut_by_lengths lengths numbers
-  pub few_groups : length lengths ≤ max_numbers
-  pub few_numbers : length numbers ≤ max_numbers

@@ -14,7 +14,8 @@ use Rattle.vte_core.specs.declared.reader.run.Taken.TheVariants.{Data, Nothing, 
 use Rattle.vte_core.specs.Event.{Event, Print, Put}
 use Rattle.vte_core.specs.private.AtPlace.{HasReadWithLimit}
 use Rattle.vte_core.specs.private.Progress.{ChunkCall, IsAtPosition}
-use Rattle.vte_core.specs.private.Scans.{ArePositions, IsUtf8Run}
+use Rattle.vte_core.specs.private.Runs.{IsUtf8Run}
+use Rattle.vte_core.specs.private.Scans.{ArePositions}
 use Rattle.vte_core.specs.Stream.{added}
 use Rattle.vte_core.specs.Text.{HasNoRunAt}
 

@@ -10,7 +10,7 @@ use Rattle.vte_core.proofs.lemmas.bytes.Scalars.{in_range-bounds}
 use Rattle.vte_core.proofs.lemmas.bytes.Utf8.{continuation, fits, tests-row, tests-two}
 use Rattle.vte_core.proofs.lemmas.dividing.Utf8Agrees.{utf8_run-character}
 use Rattle.vte_core.specs.private.Automaton.{AfterC2, AfterE0, AfterED, AfterF0, AfterF4, AutomatonState, BetweenCharacters, Failed, NeedsOne, NeedsThree, NeedsTwo, next_between_characters, next_if_in, next_state, state_after}
-use Rattle.vte_core.specs.private.Scans.{Each}
+use Rattle.vte_core.specs.private.Runs.{Each}
 
 -- ---- one byte after another
 

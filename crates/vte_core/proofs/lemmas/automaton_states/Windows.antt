@@ -5,7 +5,8 @@ use Rattle.vte_core.proofs.lemmas.automaton_states.Scanned.{next_state-failed, p
 use Rattle.vte_core.proofs.lemmas.bytes.Each.{block-byte, each-both}
 use Rattle.vte_core.specs.declared.reader.Window.{Window}
 use Rattle.vte_core.specs.private.Automaton.{AfterC2, AfterE0, AfterED, AfterF0, AfterF4, AutomatonState, BetweenCharacters, Failed, Follows, FollowsAt, IsAllowedAfter, NeedsOne, NeedsThree, NeedsTwo, next_between_characters, next_if_in, next_state, open_count, state_after, StaysBetweenCharacters}
-use Rattle.vte_core.specs.private.Scans.{Each, IsWindow}
+use Rattle.vte_core.specs.private.Runs.{Each}
+use Rattle.vte_core.specs.private.Scans.{IsWindow}
 
 -- The tests of a byte after three others. A byte begins a character only outside of one, and continues one only inside.
 pub record Fits (three_back two_back one_back byte : ℕ) : Type 0 where

@@ -4,7 +4,7 @@ use Rattle.std.proofs.lemmas.List.{length-drop, length-take}
 use Rattle.std.proofs.lemmas.Simd.{get_or-chunk}
 use Rattle.std.specs.Array.{IsFirstChunk}
 use Rattle.vte_core.proofs.Common.{ap, arith, drop, drop-drop, drop_more, get_or, length, List, refl, rules, slice_index, subst, take, take-add, take_rest, ℕ, [], ◌++◌, ◌+◌, ◌-◌, ◌<◌, ◌∙◌, ◌∷◌, ◌≡◌, ◌≤◌}
-use Rattle.vte_core.specs.private.Scans.{Each}
+use Rattle.vte_core.specs.private.Runs.{Each}
 
 pub one_byte : (bytes : List ℕ) (from b : ℕ) → from < length bytes → b ≡ slice_index bytes from
     → take (from + 1 - from) (drop from bytes) ≡ b ∷ []

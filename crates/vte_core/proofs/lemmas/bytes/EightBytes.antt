@@ -6,7 +6,7 @@ use Rattle.std.proofs.lemmas.Nat.{and_le_r, le_bytes_8}
 use Rattle.std.proofs.lemmas.Nat.Bits.{bit_at-lt, bit_at_and, bit_at_or}
 use Rattle.std.specs.Int.{bit_at, from_le_bytes, to_le_bytes}
 use Rattle.std.specs.Prelude.{bit_and, bit_or}
-use Rattle.vte_core.specs.private.Scans.{ArePrintedAscii, IsPrintedAscii}
+use Rattle.vte_core.specs.private.Runs.{ArePrintedAscii, IsPrintedAscii}
 
 -- 0x20 is subtracted from each byte: 0xdfdfdfdfdfdfdfe0 is 2 ^ 64 - 0x2020202020202020.
 abbrev pub less : ℕ → ℕ

@@ -3,7 +3,7 @@ use Rattle.vte_core.proofs.Common.{ArePrintedAscii, arith, Bool, drop, from_to, 
 use Rattle.vte_core.proofs.lemmas.bytes.Each.{each-block, each-both, each-one}
 use Rattle.vte_core.proofs.lemmas.bytes.Runs.{printed-in_range, run-append, run-ascii}
 use Rattle.vte_core.specs.declared.reader.Reader.{Reader}
-use Rattle.vte_core.specs.private.Scans.{Each}
+use Rattle.vte_core.specs.private.Runs.{Each}
 
 -- ---- a search by blocks
 

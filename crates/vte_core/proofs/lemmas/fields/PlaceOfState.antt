@@ -4,9 +4,10 @@ use Rattle.vte_core.proofs.Common.{ap, append-nil, arith, AtEscape, body_outcome
 use Rattle.vte_core.proofs.lemmas.shapes.FirstSegment.{text_outcome-end, text_outcome-nothing}
 use Rattle.vte_core.specs.declared.parser.saved.Saved.{Saved}
 use Rattle.vte_core.specs.IgnoredString.{ignored_string_outcome}
+use Rattle.vte_core.specs.private.FlatGroups.{AreRawParts}
 use Rattle.vte_core.specs.private.Place.{control_sequence_from, device_control_from, escape_from, system_command_from}
 use Rattle.vte_core.specs.private.SavedLayout.{flag_of, HasIntermediates, IsInHead, IsRestored, state_bytes}
-use Rattle.vte_core.specs.private.Store.{ArePieceEnds, AreRawParts}
+use Rattle.vte_core.specs.private.Store.{ArePieceEnds}
 use Rattle.vte_core.specs.Saved.{HasReadSaved}
 
 -- If the parser is in a state at a place, it is a place of the state.

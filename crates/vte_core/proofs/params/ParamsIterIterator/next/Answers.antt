@@ -2,7 +2,7 @@
 use Rattle.vte_core.proofs.Common.{List, subst, ℕ}
 use Rattle.vte_core.proofs.lemmas.fields.Numbers.{AreLengths-rest}
 use Rattle.vte_core.proofs.params.ParamsIterIterator.next.Goals as goal
-use Rattle.vte_core.specs.private.Store.{AreLengths}
+use Rattle.vte_core.specs.private.FlatGroups.{AreLengths}
 
 pub invariant_of-self : goal.invariant_of-self
 invariant_of-self c = rw c.split_at.ensures.back

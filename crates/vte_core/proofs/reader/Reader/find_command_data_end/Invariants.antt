@@ -1,7 +1,7 @@
 -- All bytes so far are data of a command.
 use Rattle.vte_core.proofs.Common.{length, ◌-◌, ◌≤◌}
 use Rattle.vte_core.proofs.reader.Reader.find_command_data_end.Given as goal
-use Rattle.vte_core.specs.private.Scans.{Each}
+use Rattle.vte_core.specs.private.Runs.{Each}
 use Rattle.vte_core.specs.SystemCommand.{IsCommandData}
 
 abbrev pub invariant-loop-end : goal.invariant-loop-end

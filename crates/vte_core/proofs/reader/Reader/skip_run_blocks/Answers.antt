@@ -5,7 +5,7 @@ use Rattle.vte_core.proofs.lemmas.automaton_states.Windows.{above-window, allowe
 use Rattle.vte_core.proofs.lemmas.bytes.Runs.{run-none}
 use Rattle.vte_core.proofs.reader.Reader.skip_run_blocks.Goals.{else-is_ascii, else-layout, Joined-is_ascii, then-is_ascii, then-layout}
 use Rattle.vte_core.proofs.reader.Reader.skip_run_blocks.Goals as goal
-use Rattle.vte_core.specs.private.Scans.{Each}
+use Rattle.vte_core.specs.private.Runs.{Each}
 
 pub returns-then-count_open_bytes-gt0-clause-scans : goal.returns-then-count_open_bytes-gt0-clause-scans
 returns-then-count_open_bytes-gt0-clause-scans c = search (rules, arith, run-none)

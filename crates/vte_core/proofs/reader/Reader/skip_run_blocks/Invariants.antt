@@ -5,7 +5,7 @@
 use Rattle.vte_core.proofs.Common.{false, length, looks_of, ◌*◌, ◌+◌, ◌-◌, ◌<◌, ◌≡◌, ◌≤◌}
 use Rattle.vte_core.proofs.lemmas.automaton_states.Windows.{IsAllowedAt}
 use Rattle.vte_core.proofs.reader.Reader.skip_run_blocks.Given as goal
-use Rattle.vte_core.specs.private.Scans.{Each}
+use Rattle.vte_core.specs.private.Runs.{Each}
 
 abbrev pub invariant-loop-window : goal.invariant-loop-window
 invariant-loop-window l = record {

@@ -50,8 +50,8 @@ pub use Rattle.vte_core.specs.OutsideRuns.{AddsOutsideRuns, IsOutsideRuns, Print
 pub use Rattle.vte_core.specs.Parameters.{AreGroups, AreSmall, colon, count_of, grouped, is_colon, is_separator, IsNonEmpty, IsSmallNumber, max_numbers, max_value, Number, number_of, numbers_of, semicolon, with_number}
 unfoldable pub use Rattle.vte_core.specs.Parameters.{groups_of, has_too_many_numbers, numbers, shown}
 pub use Rattle.vte_core.specs.private.AtPlace.{HasReadWithLimit, IsAtPlace, IsPlaceOfState}
+pub use Rattle.vte_core.specs.private.CollectedHead.{CountsNumbers, HasReadHead, HoldsHead, HoldsIntermediates, HoldsNumbers, IsMarker, numbers_from, ReadsHead, SameIntermediates, SameNumbers, StaysIllShaped}
 pub use Rattle.vte_core.specs.private.Costs.{caller_looks, lookahead, SpendsWithin}
-pub use Rattle.vte_core.specs.private.HeldHead.{CountsNumbers, HasReadHead, HoldsHead, HoldsIntermediates, HoldsNumbers, IsMarker, numbers_from, ReadsHead, SameIntermediates, SameNumbers, StaysIllShaped}
 pub use Rattle.vte_core.specs.private.OpenCharacter.{bytes_of, Extends, may_continue}
 unfoldable pub use Rattle.vte_core.specs.private.OpenCharacter.{second_range}
 pub use Rattle.vte_core.specs.private.Place.{AtEscape, BytesLead, closing_events_at, InControlSequence, InDeviceControl, InDeviceData, InEscape, InIgnoredString, InSystemCommand, InText, IsAfter, IsSettledPlace, Leads, Place, rest_outcome, to_close_at}

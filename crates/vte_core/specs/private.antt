@@ -6,7 +6,7 @@ pub mod Place
 -- place that they say.
 pub mod Store
 pub mod OpenCharacter
-pub mod HeldHead
+pub mod CollectedHead
 pub mod AtPlace
 -- What a byte does to the performer and to the parser.
 pub mod Takes

@@ -9,7 +9,7 @@ use Rattle.vte_core.proofs.lemmas.bytes.Classes.{head_ends_nothing, parameter_is
 use Rattle.vte_core.proofs.lemmas.fields.Numbers.{count_of-grouped, is_digit_no_separator, IsNoSeparator, IsSmall, numbered, numbers_are, with_number-begins, with_number-joins}
 use Rattle.vte_core.proofs.lemmas.places.BytesInStream.{bytes_lead-append, bytes_lead-byte, bytes_lead-escape, bytes_lead-nothing, no_escape}
 use Rattle.vte_core.proofs.lemmas.places.PlaceLeads.{control-dispatched, control-head, escape-key}
-use Rattle.vte_core.proofs.lemmas.shapes.HeadParts.{held-parts, held-well_shaped}
+use Rattle.vte_core.proofs.lemmas.shapes.HeadParts.{collected-parts, collected-well_shaped}
 use Rattle.vte_core.proofs.lemmas.streams.StreamSteps.{reported_by_stream}
 
 -- ---- what is written
@@ -266,7 +266,7 @@ bytes_lead-shown : (limit : Option ℕ) (bytes : List ℕ) → AreInClass is_par
 unfolding class_of sequence_kind
 bytes_lead-shown limit bytes are_parameters =
     let well_shaped : is_well_shaped (head_of bytes) ≡ true =
-    rw append-nil at (held-well_shaped [] bytes [] tt are_parameters tt) in
+    rw append-nil at (collected-well_shaped [] bytes [] tt are_parameters tt) in
     let begun =
     bytes_lead-append
     (bytes_lead-escape refl)
@@ -282,6 +282,6 @@ pub shown_dispatched : (limit : Option ℕ) (groups : List (List ℕ)) → ArePa
 unfolding sequence_event
 shown_dispatched limit groups are_parameters =
     let are_parameter_bytes = parameters-shown groups are_parameters in
-    let parts = rw append-nil at (held-parts [] (shown groups) [] tt are_parameter_bytes tt) in
+    let parts = rw append-nil at (collected-parts [] (shown groups) [] tt are_parameter_bytes tt) in
     reported_by_stream refl (bytes_lead-shown limit (shown groups) are_parameter_bytes)
     ∙ rw (parts, groups_of-shown groups are_parameters, has_too_many_numbers-shown groups are_parameters) refl

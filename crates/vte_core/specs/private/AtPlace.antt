@@ -6,7 +6,7 @@ use Rattle.vte_core.specs.declared.parser.open.Open.TheVariants as kind
 use Rattle.vte_core.specs.declared.parser.State.{State}
 use Rattle.vte_core.specs.declared.parser.State.TheVariants.{ControlSequence, DeviceControl, DeviceData, Escape, EscapeIntermediate, IgnoredString, SystemCommand, Text}
 use Rattle.vte_core.specs.declared.utf8.Unfinished.TheVariants.{Empty}
-use Rattle.vte_core.specs.private.HeldHead.{HasReadHead, HoldsIntermediates}
+use Rattle.vte_core.specs.private.CollectedHead.{HasReadHead, HoldsIntermediates}
 use Rattle.vte_core.specs.private.OpenCharacter.{bytes_of, may_continue}
 use Rattle.vte_core.specs.private.Place.{AtEscape, InControlSequence, InDeviceControl, InDeviceData, InEscape, InIgnoredString, InSystemCommand, InText, IsAfter, Place}
 use Rattle.vte_core.specs.private.Store.{HoldsItems}

@@ -14,15 +14,16 @@ use Rattle.vte_core.proofs.lemmas.positions.SettledStates.{settled-same_state}
 use Rattle.vte_core.proofs.lemmas.positions.Stretches.{advances-byte, advances-given, advances-then, advances-to_same}
 use Rattle.vte_core.proofs.lemmas.positions.TakenBytes.{takes_bytes-in}
 use Rattle.vte_core.specs.declared.head.HeadEnd.{HeadEnd}
-use Rattle.vte_core.specs.private.HeldHead.{ReadsHeadUpTo}
+use Rattle.vte_core.specs.private.CollectedHead.{ReadsHeadUpTo}
 use Rattle.vte_core.specs.private.Progress.{MayRead}
 use Rattle.vte_core.specs.private.ToRun.{IsOutsideRunsInState}
 
 -- ---- `ReadsHead` of no bytes, of two stretches, of a byte
 
-pub reads_head-nothing : {bytes : List ℕ} {i : ℕ} {progress : HeadProgress} {held : CollectedHead} → i ≤ length bytes
-    → ReadsHead bytes i i progress progress held held
-reads_head-nothing {bytes} {i} {progress} {held} within = search (rules, arith)
+pub reads_head-nothing : {bytes : List ℕ} {i : ℕ} {progress : HeadProgress} {collected : CollectedHead}
+    → i ≤ length bytes
+    → ReadsHead bytes i i progress progress collected collected
+reads_head-nothing {bytes} {i} {progress} {collected} within = search (rules, arith)
 
 pub reads_head-then : {bytes : List ℕ} {i j k : ℕ} {reached progress next : HeadProgress} {old mid new : CollectedHead}
     → ReadsHead bytes i j reached progress old mid → ReadsHead bytes j k progress next mid new
@@ -94,10 +95,10 @@ abbrev in_head : Shape → List ℕ → Place
 in_head ControlHead head = InControlSequence head
 in_head DeviceHead head = InDeviceControl head
 
-record InHeadAt (shape : Shape) (held : CollectedHead) (progress : HeadProgress) (place : Place) : Type 0 where
+record InHeadAt (shape : Shape) (collected : CollectedHead) (progress : HeadProgress) (place : Place) : Type 0 where
   head : List ℕ
   same : place ≡ in_head shape head
-  is_at : HasReadHead held progress head
+  is_at : HasReadHead collected progress head
 
 head-place : {B : Type 0} (shape : Shape) (limit : Option ℕ) (progress : HeadProgress) (parser : Machine B)
     (place : Place)
@@ -196,16 +197,17 @@ module _ {V : Type 0} {call : ChunkCall V} where
   -- A call reads a part of a head and the byte after it, if the caller says what that byte does.
   pub advances-past_head : {outside B : Type 0} {old new : V} {i j b : ℕ} {reached progress : HeadProgress}
       {parser next : Machine B}
-      {held : CollectedHead} (shape : Shape) → parser.state ≡ state_of shape reached
-      → ReadsHead call.bytes i j reached progress parser.collected held
+      {collected : CollectedHead} (shape : Shape) → parser.state ≡ state_of shape reached
+      → ReadsHead call.bytes i j reached progress parser.collected collected
       → (j < length call.bytes) × (b ≡ slice_index call.bytes j) → MayGoOn call old
       → ((place : Place) → IsAtPlace {B = B} call.limit
-      (record { state = state_of shape progress; collected = held; command = parser.command }) place
+      (record { state = state_of shape progress; collected = collected; command = parser.command }) place
       → IsSettledPlace place
       → TakesBytes call.step old new call.limit place (b ∷ []) next) → IsSettled next.state
       → Advances outside call old new i (j + 1) parser next
-  advances-past_head {B} {progress} {parser} {held} shape in_state reads next_byte may_go_on performs settled =
-      let head : Machine B = record { state = state_of shape progress; collected = held; command = parser.command } in
+  advances-past_head {B} {progress} {parser} {collected} shape in_state reads next_byte may_go_on performs settled =
+      let head : Machine B =
+      record { state = state_of shape progress; collected = collected; command = parser.command } in
       advances-then (advances-head {next = head} shape in_state reads may_go_on refl)
       (advances-given (head-outside_runs shape progress _)
       (advances-byte next_byte.0 next_byte.1 may_go_on performs settled))
@@ -225,11 +227,11 @@ takes_bytes-head {step} {old} {new} {limit} {b} {parser}
 
 -- A call reads the rest of a head and the final byte of a control sequence.
 pub advances-control_sequence : {V B outside : Type 0} {call : ChunkCall V} {old new : V} {i j k b : ℕ}
-    {reached progress : HeadProgress} {parser next : Machine B} {held : CollectedHead}
+    {reached progress : HeadProgress} {parser next : Machine B} {collected : CollectedHead}
     → parser.state ≡ ControlSequence reached
-    → ReadsHead call.bytes i j reached progress parser.collected held
+    → ReadsHead call.bytes i j reached progress parser.collected collected
     → (j < length call.bytes) × (b ≡ slice_index call.bytes j) → MayGoOn call old → is_final (class_of b) ≡ true
-    → ((head : List ℕ) → HasReadHead held progress head
+    → ((head : List ℕ) → HasReadHead collected progress head
     → TakesByte call.step old new call.limit (InControlSequence head) b next)
     → IsSettled next.state → k ≡ j + 1 → Advances outside call old new i k parser next
 advances-control_sequence {progress} in_state reads next_byte may_go_on final takes settled end =
@@ -239,11 +241,11 @@ advances-control_sequence {progress} in_state reads next_byte may_go_on final ta
 
 -- The same holds if the head is read up to its end (`ReadsHeadUpTo`), and the final byte is there.
 pub advances-final_byte : {V B outside : Type 0} {call : ChunkCall V} {old new : V} {i k b : ℕ}
-    {reached : HeadProgress} {end : HeadEnd} {parser next : Machine B} {held : CollectedHead}
+    {reached : HeadProgress} {end : HeadEnd} {parser next : Machine B} {collected : CollectedHead}
     → MayRead call old (ControlSequence reached) parser i
-    → ReadsHeadUpTo call.bytes i reached end parser.collected held → end.next_byte ≡ Some b
+    → ReadsHeadUpTo call.bytes i reached end parser.collected collected → end.next_byte ≡ Some b
     → is_final (class_of b) ≡ true
-    → ((head : List ℕ) → HasReadHead held end.progress head
+    → ((head : List ℕ) → HasReadHead collected end.progress head
     → TakesByte call.step old new call.limit (InControlSequence head) b next)
     → IsSettled next.state → k ≡ end.position + 1 → Advances outside call old new i k parser next
 advances-final_byte may_read reads next_is =

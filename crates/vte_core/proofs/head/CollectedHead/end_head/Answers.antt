@@ -1,4 +1,4 @@
--- The last number is stored, so what is held is the whole head: whether too many numbers were given or not.
+-- The last number is stored, so what is collected is the whole head: whether too many numbers were given or not.
 use Rattle.vte_core.proofs.Common.{refl}
 use Rattle.vte_core.proofs.head.CollectedHead.end_head.Goals as goal
 use Rattle.vte_core.proofs.lemmas.fields.Heads.{head-whole}

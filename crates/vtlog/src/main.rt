@@ -108,7 +108,7 @@ fn run_with_arguments<R: Source, W: Sink>(
       input = R.remaining reader.old;
       remaining = R.remaining reader.new;
       reader_failed = R.has_failed reader.new;
-      held = W.contents writer.old;
+      old_contents = W.contents writer.old;
       contents = W.contents writer.new;
       writer_failed = W.has_failed writer.new;
     }) result.0 result.1.now }

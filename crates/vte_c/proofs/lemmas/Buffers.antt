@@ -97,7 +97,7 @@ no_record_stops-not_returning {old} {new} {input} {entries} has_entries not_retu
     let has_stopped : new.has_stopped ≡ false = grind (arith, nat_tests) in
     no_kind_stops-none old.stop_kinds (records_from old.data_used entries)
     (or_parts old.has_stopped (any_of_kinds old.stop_kinds (records_from old.data_used entries))
-    (sym (ap (λ (held : Buffers). held.has_stopped) has_entries.written) ∙ has_stopped)).1
+    (sym (ap (λ (stored : Buffers). stored.has_stopped) has_entries.written) ∙ has_stopped)).1
 
 readable-append : (input : List ℕ) (front back : List Entry) → AreReadable input front → AreReadable input back
     → AreReadable input (front ++ back)
@@ -134,12 +134,12 @@ pub entries-then : {old mid new : Buffers} {input : List ℕ} {front back : List
 entries-then {old} {mid} {new} {input} {front} {back} has_front not_returning has_back =
     let before = records_from old.data_used front in
     let back_stops =
-    subst (λ (held : Buffers). AtMostOneFollowsStop held.stop_kinds (kinds_of (records_from held.data_used back)))
+    subst (λ (stored : Buffers). AtMostOneFollowsStop stored.stop_kinds (kinds_of (records_from stored.data_used back)))
     has_front.written has_back.at_most_one_follows in
     record {
       readable = readable-append input front back has_front.readable has_back.readable;
       written =
-          has_back.written ∙ ap (λ (held : Buffers). with_entries held back) has_front.written
+          has_back.written ∙ ap (λ (stored : Buffers). with_entries stored back) has_front.written
           ∙ with_entries-append old front back;
       at_most_one_follows = record {
         before = kinds_of before ++ back_stops.before;
@@ -332,11 +332,11 @@ entries-unit input buffers (event ∷ last ∷ []) brief not_returning =
     entries-event input buffers event brief.0 (not_returning-not_paused buffers not_returning)
     (record { records_fit = omega (arith, room_for.records_fit); data_fits = omega (arith, room_for.data_fits) }) in
     -- After that event, the buffers differ from the old ones by the entry alone.
-    let kinds : next.kinds ≡ buffers.kinds = ap (λ (held : Buffers). held.kinds) first.written in
-    let count = ap (λ (held : Buffers). held.record_count) first.written in
-    let same_capacity = ap (λ (held : Buffers). held.record_capacity) first.written in
-    let used = ap (λ (held : Buffers). held.data_used) first.written in
-    let same_size = ap (λ (held : Buffers). held.data_capacity) first.written in
+    let kinds : next.kinds ≡ buffers.kinds = ap (λ (stored : Buffers). stored.kinds) first.written in
+    let count = ap (λ (stored : Buffers). stored.record_count) first.written in
+    let same_capacity = ap (λ (stored : Buffers). stored.record_capacity) first.written in
+    let used = ap (λ (stored : Buffers). stored.data_used) first.written in
+    let same_size = ap (λ (stored : Buffers). stored.data_capacity) first.written in
     -- So what is left is enough for the last event.
     let room_for_last : HasRoomFor next 1 (length (data_of last)) = record {
       records_fit = omega (arith, room_for.records_fit, first_few.count, count, same_capacity);
@@ -358,7 +358,7 @@ entries-unit input buffers (event ∷ last ∷ []) brief not_returning =
     rw (event-resumed (buffers_with_event buffers event) last, both) (record {
       readable = readable-append input _ _ first.readable second.readable;
       written =
-          second.written ∙ ap (λ (held : Buffers). with_entries held (entries_of buffers (last ∷ []))) first.written
+          second.written ∙ ap (λ (stored : Buffers). with_entries stored (entries_of buffers (last ∷ []))) first.written
           ∙ with_entries-append buffers _ _;
       at_most_one_follows = follows_stop-two buffers.stop_kinds buffers.data_used
           (entries_of buffers (event ∷ []) ++ entries_of buffers (last ∷ []))
@@ -381,7 +381,7 @@ entries-unit_more {old} input buffers before unit has_entries not_returning brie
     -- The buffers before the unit aren't full, so they aren't paused either.
     let same : resumed mid ≡ mid = resumed-same mid (not_returning-not_paused mid not_returning) in
     let first : HasEntries old mid input (entries_of old before) = rw same at has_entries in
-    let kinds : mid.kinds ≡ old.kinds = ap (λ (held : Buffers). held.kinds) first.written in
+    let kinds : mid.kinds ≡ old.kinds = ap (λ (stored : Buffers). stored.kinds) first.written in
     -- The unit is written into these buffers, which report the kinds of the old ones.
     rw (after_events-append buffers_with_event buffers before unit, filter-append, map-append)
     (entries-then first not_returning

@@ -129,7 +129,7 @@ module _ (old new : Buffers) (already_read bytes : List ℕ) (from n : ℕ) (law
     continues = continues-call laws.goes_on already_read (drop from bytes) n;
     events_are = events-singles bytes (wanted_events old.kinds (given_at n));
     holds =
-        subst (λ (held : Buffers). HasEntries old (resumed held) bytes (entries_of old (given_at n)))
+        subst (λ (stored : Buffers). HasEntries old (resumed stored) bytes (entries_of old (given_at n)))
         (sym comes.performed) (given-written n (omega arith));
     no_stop_before = λ no_run_stops.
         no_event_stops-before (is_stop old.kinds old.stop_kinds) no_run_stops.0 already_read
@@ -165,8 +165,8 @@ reads_on-then {old} {mid} {already_read} {bytes} {from} {n} {m} reads not_return
     let size = length-drop from bytes in
     -- The second step begins n bytes after the first, with the same kinds and stops.
     let rest : drop (from + n) bytes ≡ drop n unread = sym (drop-drop n from bytes) in
-    let kinds : mid.kinds ≡ old.kinds = ap (λ (held : Buffers). held.kinds) reads.holds.written in
-    let stops : mid.stop_kinds ≡ old.stop_kinds = ap (λ (held : Buffers). held.stop_kinds) reads.holds.written in
+    let kinds : mid.kinds ≡ old.kinds = ap (λ (stored : Buffers). stored.kinds) reads.holds.written in
+    let stops : mid.stop_kinds ≡ old.stop_kinds = ap (λ (stored : Buffers). stored.stop_kinds) reads.holds.written in
     record {
       given = reads.given ++ reads_on.given;
       entries = reads.entries ++ reads_on.entries;

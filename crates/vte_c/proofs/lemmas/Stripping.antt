@@ -95,8 +95,8 @@ has_text-more {old} {new} {stream} {bytes} {n} chunk has_fitted slow has_text pa
       holds =
           rw (parts, added-append default_limit stream (take n bytes) chunk, flat_map-append plain_text_of before more)
           (performed
-          ∙ events-written_in_full new more (ap (λ (held : WrittenText). held.fits) has_text.holds ∙ has_fitted)
+          ∙ events-written_in_full new more (ap (λ (written : WrittenText). written.fits) has_text.holds ∙ has_fitted)
           (omega (arith, fits, slow))
-          ∙ ap (λ (held : WrittenText). with_all held (plain_text more)) has_text.holds
+          ∙ ap (λ (written : WrittenText). with_all written (plain_text more)) has_text.holds
           ∙ with_all-append old (plain_text before) (plain_text more));
     }

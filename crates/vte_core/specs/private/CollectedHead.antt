@@ -65,7 +65,7 @@ Reaches Intermediates marker parameters intermediates = 0 < length intermediates
 Reaches IllShaped marker parameters intermediates = ⊥
 
 -- The head is well shaped so far, and its numbers and intermediates are collected.
-pub record HoldsHead (collected : CollectedHead) (progress : HeadProgress)
+pub record HoldsHead (collected : CollectedHead) (reached : HeadProgress)
     (head : List ℕ) : Type 0 where
   pub marker : List ℕ
   pub parameters : List ℕ
@@ -74,7 +74,7 @@ pub record HoldsHead (collected : CollectedHead) (progress : HeadProgress)
   pub is_marker : IsMarker marker
   pub are_parameters : AreInClass is_parameter_byte parameters
   pub are_intermediates : AreInClass is_intermediate intermediates
-  pub reaches : Reaches progress marker parameters intermediates
+  pub reaches : Reaches reached marker parameters intermediates
   pub holds : HoldsIntermediates collected (marker ++ intermediates)
   pub counts : CountsNumbers collected parameters
 
@@ -84,7 +84,7 @@ pub record StaysIllShaped (head : List ℕ) : Type 0 where
 
 abbrev pub HasReadHead : CollectedHead → HeadProgress → List ℕ → Type 0
 HasReadHead collected IllShaped head = StaysIllShaped head
-HasReadHead collected progress head = HoldsHead collected progress head
+HasReadHead collected reached head = HoldsHead collected reached head
 
 -- ---- a complete head
 
@@ -112,13 +112,13 @@ with_open_number collected number = record {
 }
 
 -- The bytes from position i to position j are read as part of a head, whatever its shape.
-pub record ReadsHead (bytes : List ℕ) (i j : ℕ) (reached progress : HeadProgress)
+pub record ReadsHead (bytes : List ℕ) (i j : ℕ) (reached reached_then : HeadProgress)
     (old new : CollectedHead) : Type 0 where
   pub in_order : i ≤ j
   pub within : j ≤ length bytes
   pub head_bytes : AreInClass is_head_byte (take (j - i) (drop i bytes))
   pub leads : (head : List ℕ) → HasReadHead old reached head
-      → HasReadHead new progress (head ++ take (j - i) (drop i bytes))
+      → HasReadHead new reached_then (head ++ take (j - i) (drop i bytes))
 
 -- A head is read from position i up to `end`, and the byte there, if there is one, was looked at.
 pub record ReadsHeadUpTo (bytes : List ℕ) (i : ℕ) (reached : HeadProgress) (end : HeadEnd)

@@ -111,8 +111,8 @@ HoldsIntermediates-kept : {old new : CollectedHead} {intermediates : List ℕ} �
 HoldsIntermediates-kept same_intermediates holds = search (rules, arith)
 
 -- A head can go on with an intermediate, however far it has come.
-pub holds-intermediate : {old new : CollectedHead} {progress : HeadProgress} {head : List ℕ} (b : ℕ)
-    → HoldsHead old progress head
+pub holds-intermediate : {old new : CollectedHead} {reached : HeadProgress} {head : List ℕ} (b : ℕ)
+    → HoldsHead old reached head
     → class_of b ≡ Intermediate
     → SameNumbers old new
     → ((intermediates : List ℕ) → HoldsIntermediates old intermediates
@@ -155,13 +155,13 @@ holds-marker old new head b holds is_class same_numbers holds_more =
     }
 
 -- A head without intermediates can go on with a byte of the parameters.
-after_no_intermediate : {old new : CollectedHead} (progress : HeadProgress) (head : List ℕ) (b : ℕ)
-    (holds : HoldsHead old progress head)
+after_no_intermediate : {old new : CollectedHead} (reached : HeadProgress) (head : List ℕ) (b : ℕ)
+    (holds : HoldsHead old reached head)
     → holds.intermediates ≡ []
     → is_parameter_byte (class_of b) ≡ true → SameIntermediates old new
     → ((text : List ℕ) → CountsNumbers old text → CountsNumbers new (text ++ b ∷ []))
     → HoldsHead new Parameters (head ++ b ∷ [])
-after_no_intermediate {old} progress head b holds no_intermediate is_parameter same_intermediates counts_more =
+after_no_intermediate {old} reached head b holds no_intermediate is_parameter same_intermediates counts_more =
     let kept : HoldsIntermediates old (holds.marker ++ []) = rw no_intermediate at holds.holds in
     record {
       marker = holds.marker;
@@ -178,8 +178,8 @@ after_no_intermediate {old} progress head b holds no_intermediate is_parameter s
     }
 
 -- A head that has come no further than its parameters holds no intermediate, so a byte of the parameters fits.
-pub holds-parameter : {old new : CollectedHead} {progress : HeadProgress} (head : List ℕ) (b : ℕ)
-    → (progress ≡ Entry) ⊎ (progress ≡ Parameters) → HasReadHead old progress head
+pub holds-parameter : {old new : CollectedHead} {reached : HeadProgress} (head : List ℕ) (b : ℕ)
+    → (reached ≡ Entry) ⊎ (reached ≡ Parameters) → HasReadHead old reached head
     → is_parameter_byte (class_of b) ≡ true → SameIntermediates old new
     → ((text : List ℕ) → CountsNumbers old text → CountsNumbers new (text ++ b ∷ []))
     → HoldsHead new Parameters (head ++ b ∷ [])
@@ -221,9 +221,9 @@ pub ill_shaped-now : {head : List ℕ} → StaysIllShaped head → is_well_shape
 ill_shaped-now stays = rw append-nil at (stays.stays [])
 
 -- At the end of a head that is well shaped, what is collected is ready.
-pub head-whole : {old new : CollectedHead} (more : Bool) {ignored : Bool} {progress : HeadProgress} {head : List ℕ}
+pub head-whole : {old new : CollectedHead} (more : Bool) {ignored : Bool} {reached : HeadProgress} {head : List ℕ}
     → ((text : List ℕ) → CountsNumbers old text → HoldsNumbers new more text)
-    → SameIntermediates old new → HoldsHead old progress head → ignored ≡ (new.too_many_intermediates || more)
+    → SameIntermediates old new → HoldsHead old reached head → ignored ≡ (new.too_many_intermediates || more)
     → HoldsWholeHead new ignored head
 head-whole more stores same_intermediates holds ignored_is =
     search (rules, arith, collected-parts, HoldsIntermediates-kept, collected-well_shaped)
@@ -238,13 +238,13 @@ left_is_marker Marker is_head no_parameter no_intermediate = refl
 left_is_marker _ is_head no_parameter no_intermediate = cc
 
 -- A marker that isn't first, or a digit or separator that may not come next, makes the head ill-shaped for good.
-pub ill_shaped-late : (old : CollectedHead) (progress : HeadProgress) (head : List ℕ) (b : ℕ)
-    → HasReadHead old progress head
+pub ill_shaped-late : (old : CollectedHead) (reached : HeadProgress) (head : List ℕ) (b : ℕ)
+    → HasReadHead old reached head
     → is_head_byte (class_of b) ≡ true
     → is_intermediate (class_of b) ≡ false
-    → ((progress ≡ Entry) ⊎ (progress ≡ Parameters) → is_parameter_byte (class_of b) ≡ false)
-    → (progress ≡ Entry → ⊥) → StaysIllShaped (head ++ b ∷ [])
-ill_shaped-late old progress head b has_read is_head no_intermediate no_parameter no_entry =
+    → ((reached ≡ Entry) ⊎ (reached ≡ Parameters) → is_parameter_byte (class_of b) ≡ false)
+    → (reached ≡ Entry → ⊥) → StaysIllShaped (head ++ b ∷ [])
+ill_shaped-late old reached head b has_read is_head no_intermediate no_parameter no_entry =
     grind (arith, nat_tests, ill_shaped-marker, left_is_marker, ill_shaped-after_intermediate, ill_shaped-more)
 
 -- At the end of a head, the call has the event of the sequence.
@@ -255,7 +255,7 @@ pub dispatched-ready : (call : List (List ℕ) → List ℕ → Bool → ℕ →
 unfolding sequence_event
 dispatched-ready call final ready = rw (ready.groups, ready.intermediates, ready.ignore) refl
 
-pub head-holds : {collected : CollectedHead} {progress : HeadProgress} {head : List ℕ} → (progress ≡ IllShaped → ⊥)
-    → HasReadHead collected progress head → HoldsHead collected progress head
-head-holds {progress = IllShaped} well_shaped has_read = absurd (well_shaped refl)
+pub head-holds : {collected : CollectedHead} {reached : HeadProgress} {head : List ℕ} → (reached ≡ IllShaped → ⊥)
+    → HasReadHead collected reached head → HoldsHead collected reached head
+head-holds {reached = IllShaped} well_shaped has_read = absurd (well_shaped refl)
 head-holds well_shaped has_read = has_read

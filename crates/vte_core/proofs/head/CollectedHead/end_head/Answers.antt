@@ -5,12 +5,12 @@ use Rattle.vte_core.proofs.lemmas.fields.Heads.{head-whole}
 
 pub returns-then-self : goal.returns-then-self
 returns-then-self c =
-    λ progress head has_read.
+    λ reached head has_read.
     head-whole _ c.store_number-too_many_numbers.ensures.holds
     c.store_number-too_many_numbers.ensures.same_intermediates has_read (rw c.if-self.true refl)
 
 pub returns-else-self : goal.returns-else-self
 returns-else-self c =
-    λ progress head has_read.
+    λ reached head has_read.
     head-whole _ c.store_number-too_many_numbers.ensures.holds
     c.store_number-too_many_numbers.ensures.same_intermediates has_read (rw c.if-self.false refl)

@@ -81,8 +81,8 @@ max_of_character_line = 13
 abbrev max_of_unit : ℕ
 max_of_unit = max_of_line + max_of_character_line
 
-abbrev pub IsSmall : (Event → List ℕ) → Type 0
-IsSmall text_of = (events : List Event) → AreBrief default_limit events
+abbrev pub UnitsFit : (Event → List ℕ) → Type 0
+UnitsFit text_of = (events : List Event) → AreBrief default_limit events
     → length (flat_map text_of events) ≤ max_of_unit
 
 -- There is room for what is reported up to the next start. That takes 2,213 bytes, and half of the capacity is 4,096.
@@ -92,7 +92,7 @@ HasRoomForUnit collected = length collected.bytes + max_of_unit ≤ capacity
 pub room-for_unit : (collected : CollectedText) → is_to_be_written collected ≡ false → HasRoomForUnit collected
 room-for_unit collected not_to_be_written = grind (arith, nat_tests)
 
-module _ (text_of : Event → List ℕ) (small : IsSmall text_of) (units : ReportsUnits default_limit)
+module _ (text_of : Event → List ℕ) (small : UnitsFit text_of) (units : ReportsUnits default_limit)
     (stream bytes : List ℕ)
     (old : CollectedText) (nothing_lost : old.lost ≡ false)
     (room : HasRoomForUnit old) where

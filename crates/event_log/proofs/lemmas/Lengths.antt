@@ -4,8 +4,8 @@ use Rattle.std.proofs.Common.{length-drop}
 use Rattle.std.proofs.lemmas.List.Sums.{sum_by-cons}
 use Rattle.std.proofs.Math.Utf8.{encodes}
 use Rattle.std.specs.Char.{encode_utf8}
-use Rattle.event_log.proofs.Common.{added, AddsUpTo, after, All, All-head, All-tail, ap, append_assoc, AreBrief, AreGroups, AreSmall, arith, Bool, breaks_at, capacity, cases_Bool, chars, CollectedText, concat, count_of, CsiDispatch, decimal, default_limit, drop, empty_text, encode_ascii, encodes-chars, EscDispatch, Event, Execute, false, flag_field, flat_map, GoesOnFromPositions, group_text, HasKept, HasRead, hex_byte, hex_character, hex_digit, hex_field, hex_length, Hook, if◌then◌else◌, inl, inr, is_layout, is_to_be_written, IsBounded, IsNonEmpty, IsSmallNumber, IsUtf8, join_with_byte, len_utf8_bounds, length, length-append, length-decimal-le, length-encode, line_of, List, map, max, OscDispatch, Parser, pieces_fields, plain_text_of, Print, refl, replacement, reported_before, ReportsUnits, resumed_stream, run_event, semicolon, sequence_fields, shown, six_hex_digits, StopsExactly, suc, sym, true, with_event, with_text, zero, ℕ, [], ◌*◌, ◌++◌, ◌+◌, ◌-◌, ◌<◌, ◌∙◌, ◌∷◌, ◌≡◌, ◌≤◌}
-use Rattle.event_log.proofs.lemmas.CollectedTexts.{collected_bytes, IsSmall, kept-by_call, max_of_character_line, max_of_line, reported-taken, room-for_unit, text-taken_as_events, texts-taken}
+use Rattle.event_log.proofs.Common.{added, AddsUpTo, after, All, All-head, All-tail, AllFitU16, ap, append_assoc, AreBrief, AreGroups, arith, Bool, breaks_at, capacity, cases_Bool, chars, CollectedText, concat, count_of, CsiDispatch, decimal, default_limit, drop, empty_text, encode_ascii, encodes-chars, EscDispatch, Event, Execute, false, FitsU16, flag_field, flat_map, GoesOnFromPositions, group_text, HasKept, HasRead, hex_byte, hex_character, hex_digit, hex_field, hex_length, Hook, if◌then◌else◌, inl, inr, is_layout, is_to_be_written, IsBounded, IsNonEmpty, IsUtf8, join_with_byte, len_utf8_bounds, length, length-append, length-decimal-le, length-encode, line_of, List, map, max, OscDispatch, Parser, pieces_fields, plain_text_of, Print, refl, replacement, reported_before, ReportsUnits, resumed_stream, run_event, semicolon, sequence_fields, shown, six_hex_digits, StopsExactly, suc, sym, true, with_event, with_text, zero, ℕ, [], ◌*◌, ◌++◌, ◌+◌, ◌-◌, ◌<◌, ◌∙◌, ◌∷◌, ◌≡◌, ◌≤◌}
+use Rattle.event_log.proofs.lemmas.CollectedTexts.{collected_bytes, kept-by_call, max_of_character_line, max_of_line, reported-taken, room-for_unit, text-taken_as_events, texts-taken, UnitsFit}
 use Rattle.vte_core.proofs.lemmas.bytes.Runs.{layout-is_ascii}
 use Rattle.vte_core.proofs.lemmas.EarlyStops.{added-append}
 use Rattle.vte_core.proofs.lemmas.streams.After.{added-nothing}
@@ -37,33 +37,33 @@ length-pieces [] = omega arith
 length-pieces (p ∷ pieces) = simp length-append (omega (arith, length-hex_field p, length-pieces pieces))
 
 -- Each number has at most five digits, and `:` before it.
-length-numbers : (group : List ℕ) → All IsSmallNumber group → length (group_text group) ≤ 6 * length group
+length-numbers : (group : List ℕ) → All FitsU16 group → length (group_text group) ≤ 6 * length group
 length-numbers [] small = omega arith
 length-numbers (x ∷ []) small =
-    let here = All-head IsSmallNumber x [] small in
+    let here = All-head FitsU16 x [] small in
     length-decimal-le 6 x (omega arith) (omega arith) (omega arith)
 length-numbers (x ∷ y ∷ group) small =
-    let here = All-head IsSmallNumber x (y ∷ group) small in
+    let here = All-head FitsU16 x (y ∷ group) small in
     let few : length (decimal x) ≤ 5 = length-decimal-le 5 x (omega arith) (omega arith) (omega arith) in
-    simp length-append (omega (arith, length-numbers (y ∷ group) (All-tail IsSmallNumber x (y ∷ group) small)))
+    simp length-append (omega (arith, length-numbers (y ∷ group) (All-tail FitsU16 x (y ∷ group) small)))
 
 -- There are at most 32 numbers, with five digits each, a `:`, and a `;` if its group begins with it.
 length-shown : (groups : List (List ℕ)) → AreGroups groups → length (shown groups) ≤ 224
 unfolding shown
 length-shown groups groups_are = omega (arith, joined groups groups_are.filled groups_are.small, groups_are.at_most)
   where
-    joined : (groups : List (List ℕ)) → All IsNonEmpty groups → All AreSmall groups
+    joined : (groups : List (List ℕ)) → All IsNonEmpty groups → All AllFitU16 groups
         → length (join_with_byte semicolon (map group_text groups)) ≤ 7 * count_of groups
     joined [] filled small = omega arith
     joined (x ∷ []) filled small =
-        omega (arith, length-numbers x (All-head AreSmall x [] small), sum_by-cons length x [])
+        omega (arith, length-numbers x (All-head AllFitU16 x [] small), sum_by-cons length x [])
     joined (x ∷ y ∷ groups) filled small =
         let not_empty : 0 < length x = All-head IsNonEmpty x (y ∷ groups) filled in
         simp length-append (omega (
           arith,
-          length-numbers x (All-head AreSmall x (y ∷ groups) small),
+          length-numbers x (All-head AllFitU16 x (y ∷ groups) small),
           joined (y ∷ groups) (All-tail IsNonEmpty x (y ∷ groups) filled)
-              (All-tail AreSmall x (y ∷ groups) small),
+              (All-tail AllFitU16 x (y ∷ groups) small),
           sum_by-cons length x (y ∷ groups),
         ))
 
@@ -104,15 +104,15 @@ length-line (EscDispatch intermediates ignore byte) bounded =
 length-line _ bounded = omega arith
 
 -- At most two lines are reported up to the next start, the second for a character or a control.
-lines_are_small : IsSmall line_of
+line_units_fit : UnitsFit line_of
 unfolding line_of hex_byte
-lines_are_small [] brief = omega arith
-lines_are_small (event ∷ []) brief = simp length-append (omega (arith, length-line event brief))
-lines_are_small (event ∷ Print c ∷ []) brief =
+line_units_fit [] brief = omega arith
+line_units_fit (event ∷ []) brief = simp length-append (omega (arith, length-line event brief))
+line_units_fit (event ∷ Print c ∷ []) brief =
     simp length-append (omega (arith, length-line event brief.0, length-hex_character 4 c))
-lines_are_small (event ∷ Execute byte ∷ []) brief = simp length-append (omega (arith, length-line event brief.0))
-lines_are_small (event ∷ last ∷ []) brief = absurd brief.1
-lines_are_small (event ∷ last ∷ third ∷ events) brief = absurd brief
+line_units_fit (event ∷ Execute byte ∷ []) brief = simp length-append (omega (arith, length-line event brief.0))
+line_units_fit (event ∷ last ∷ []) brief = absurd brief.1
+line_units_fit (event ∷ last ∷ third ∷ events) brief = absurd brief
 
 -- ---- plain text
 
@@ -208,7 +208,7 @@ lines-kept {total_text} {n} {parser} {old} unread goes_on units empty before sto
     (λ more. goes_on already_read unread more n)
     parsed
     (stops_exactly.comes.performed
-    ∙ reported-taken line_of lines_are_small units already_read unread old has_kept.nothing_lost
+    ∙ reported-taken line_of line_units_fit units already_read unread old has_kept.nothing_lost
     (room-for_unit old (ap is_to_be_written empty)) n stops_exactly.comes.within
     (λ j earlier start.
     room-for_unit (after (with_event line_of) old (reported_before default_limit already_read unread j))

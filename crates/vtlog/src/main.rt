@@ -12,6 +12,7 @@ use std::env;
 use std::io::{self, ErrorKind};
 use std::process::ExitCode;
 
+// `./vtlog` reads the values of `VERSION`, `HELP` and `HINT` from this text.
 const VERSION: &str = "vtlog 0.1.0\n";
 
 const HELP: &str = "\

@@ -20,7 +20,7 @@ unfoldable pub use Rattle.event_log.specs.Lines.{flag_field, hex_byte, hex_chara
 unfoldable pub use Rattle.event_log.specs.Plain.{plain_text_of}
 pub use Rattle.event_log.specs.private.Line.{BeginsLine, EndsLine, ExtendsLine}
 pub use Rattle.event_log.specs.private.Progress.{AddsUpTo, HasKept, HasReadStream, HasWritten}
-pub use Rattle.vte_core.proofs.lemmas.ParameterTexts.{after_colon, after_semicolon, group_text, group_written, groups_written, shown-nil}
+pub use Rattle.vte_core.proofs.lemmas.streams.ParameterTexts.{after_colon, after_semicolon, group_text, group_written, groups_written, shown-nil}
 pub use Rattle.vte_core.specs.declared.parser.Parser.{Parser}
 pub use Rattle.vte_core.specs.EarlyStop.{breaks_at, IsStart, resumed_stream, StopsExactly}
 unfoldable pub use Rattle.vte_core.specs.EarlyStop.{reported_before}

@@ -7,8 +7,8 @@ use Rattle.std.specs.Char.{encode_utf8}
 use Rattle.event_log.proofs.Common.{added, AddsUpTo, after, All, All-head, All-tail, AllFitU16, ap, append_assoc, AreBrief, AreGroups, arith, Bool, breaks_at, capacity, cases_Bool, chars, CollectedText, concat, count_of, CsiDispatch, decimal, default_limit, drop, empty_text, encode_ascii, encodes-chars, EscDispatch, Event, Execute, false, FitsU16, flag_field, flat_map, GoesOnFromPositions, group_text, HasKept, HasRead, hex_byte, hex_character, hex_digit, hex_field, hex_length, Hook, if◌then◌else◌, inl, inr, is_layout, is_to_be_written, IsBounded, IsNonEmpty, IsUtf8, join_with_byte, len_utf8_bounds, length, length-append, length-decimal-le, length-encode, line_of, List, map, max, OscDispatch, Parser, pieces_fields, plain_text_of, Print, refl, replacement, reported_before, ReportsUnits, resumed_stream, run_event, semicolon, sequence_fields, shown, six_hex_digits, StopsExactly, suc, sym, true, with_event, with_text, zero, ℕ, [], ◌*◌, ◌++◌, ◌+◌, ◌-◌, ◌<◌, ◌∙◌, ◌∷◌, ◌≡◌, ◌≤◌}
 use Rattle.event_log.proofs.lemmas.CollectedTexts.{collected_bytes, kept-by_call, max_of_character_line, max_of_line, reported-taken, room-for_unit, text-taken_as_events, texts-taken, UnitsFit}
 use Rattle.vte_core.proofs.lemmas.bytes.Runs.{layout-is_ascii}
-use Rattle.vte_core.proofs.lemmas.EarlyStops.{added-append}
 use Rattle.vte_core.proofs.lemmas.streams.After.{added-nothing}
+use Rattle.vte_core.proofs.lemmas.streams.EarlyStops.{added-append}
 
 -- ---- fields
 

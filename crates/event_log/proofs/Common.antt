@@ -12,22 +12,22 @@ pub use Rattle.std.proofs.Math.Seq.{take-append_seam}
 pub use Rattle.std.specs.Fmt.{decimal}
 pub use Rattle.std.specs.List.{All, concat, flat_map, join_with_byte}
 pub use Rattle.std.specs.Str.{bytes_eq, chars, IsUtf8}
+pub use Rattle.event_log.specs.CollectedText.{capacity, collected_text_of, CollectedText, empty_text, has_room_after, is_to_be_written, with_event}
+unfoldable pub use Rattle.event_log.specs.CollectedText.{with_text}
 pub use Rattle.event_log.specs.declared.lines.Lines.{Lines}
-pub use Rattle.event_log.specs.HeldText.{capacity, empty_text, has_room_after, held_text_of, held_with_event, HeldText, is_to_be_written}
-unfoldable pub use Rattle.event_log.specs.HeldText.{held_with_text}
 pub use Rattle.event_log.specs.Lines.{blank, line_feed}
 unfoldable pub use Rattle.event_log.specs.Lines.{flag_field, hex_byte, hex_character, hex_digit, hex_field, hex_length, line_of, pieces_fields, sequence_fields, six_hex_digits}
 unfoldable pub use Rattle.event_log.specs.Plain.{plain_text_of}
 pub use Rattle.event_log.specs.private.Line.{BeginsLine, EndsLine, ExtendsLine}
 pub use Rattle.event_log.specs.private.Progress.{AddsUpTo, HasKept, HasReadStream, HasWritten}
-pub use Rattle.vte_core.proofs.lemmas.ParameterTexts.{after_colon, after_semicolon, group_text, group_written, groups_written, shown-nil}
+pub use Rattle.vte_core.proofs.lemmas.streams.ParameterTexts.{after_colon, after_semicolon, group_text, group_written, groups_written, shown-nil}
 pub use Rattle.vte_core.specs.declared.parser.Parser.{Parser}
 pub use Rattle.vte_core.specs.EarlyStop.{breaks_at, IsStart, resumed_stream, StopsExactly}
 unfoldable pub use Rattle.vte_core.specs.EarlyStop.{reported_before}
 pub use Rattle.vte_core.specs.EarlyStopLaws.{GoesOnFromPositions, ReportsUnits}
 pub use Rattle.vte_core.specs.Event.{after, CsiDispatch, EscDispatch, Event, Execute, Hook, OscDispatch, Print, replacement}
 pub use Rattle.vte_core.specs.EventBounds.{AreBrief, IsBounded}
-pub use Rattle.vte_core.specs.Parameters.{AreGroups, AreSmall, count_of, IsNonEmpty, IsSmallNumber, max_value, semicolon}
+pub use Rattle.vte_core.specs.Parameters.{AllFitU16, AreGroups, count_of, FitsU16, IsNonEmpty, max_value, semicolon}
 unfoldable pub use Rattle.vte_core.specs.Parameters.{shown}
 pub use Rattle.vte_core.specs.Parser.{HasRead}
 pub use Rattle.vte_core.specs.Stream.{added, default_limit, events}

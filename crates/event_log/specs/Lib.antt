@@ -4,7 +4,7 @@
 pub mod Lines
 pub mod Plain
 -- What a collector holds.
-pub mod HeldText
+pub mod CollectedText
 -- Devices that may fail, and a run from one to another.
 pub mod Device
 pub mod Run

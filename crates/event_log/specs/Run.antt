@@ -18,39 +18,40 @@ stripped_text stream = plain_text (events default_limit stream)
 abbrev pub max_reads : ℕ
 max_reads = 2 ^ 64 - 1
 
--- The whole input was read, and its output was written after what the writer held.
-pub record WritesAll (output_of : List ℕ → List ℕ) (input held : List ℕ)
+-- The whole input was read, and its output was written after what the writer had.
+pub record WritesAll (output_of : List ℕ → List ℕ) (input old_contents : List ℕ)
     (remaining contents : Option (List ℕ)) : Type 0 where
   pub at_end : remaining ≡ Some []
-  pub written : contents ≡ Some (held ++ output_of input)
+  pub written : contents ≡ Some (old_contents ++ output_of input)
 
 -- A prefix of the input was read, and its output was written. Either the reader has failed, or it
 -- has given bytes in as many reads as a run makes.
-pub record WritesPrefix (output_of : List ℕ → List ℕ) (input held : List ℕ)
+pub record WritesPrefix (output_of : List ℕ → List ℕ) (input old_contents : List ℕ)
     (remaining contents : Option (List ℕ)) (failed : Bool)
     : Type 0 where
   pub stream : List ℕ
   pub rest : List ℕ
   pub parts : input ≡ stream ++ rest
   pub rest_is : IfSome remaining (λ bytes. bytes ≡ rest)
-  pub written : contents ≡ Some (held ++ output_of stream)
+  pub written : contents ≡ Some (old_contents ++ output_of stream)
   pub cause : (failed ≡ true) ⊎ (max_reads ≤ length stream)
 
 -- How a run leaves a reader and a writer whose bytes were known when it began.
-abbrev pub WritesExactly : (List ℕ → List ℕ) → Result (Unit {0}) Fault → (input held : List ℕ)
+abbrev pub WritesExactly : (List ℕ → List ℕ) → Result (Unit {0}) Fault
+    → (input old_contents : List ℕ)
     → (remaining contents : Option (List ℕ)) → (failed : Bool) → Type 0
-WritesExactly output_of (Ok _) input held remaining contents failed =
-    WritesAll output_of input held remaining contents
-WritesExactly output_of (Err Read) input held remaining contents failed =
-    WritesPrefix output_of input held remaining contents failed
-WritesExactly output_of (Err Write) input held remaining contents failed = ⊤
+WritesExactly output_of (Ok _) input old_contents remaining contents failed =
+    WritesAll output_of input old_contents remaining contents
+WritesExactly output_of (Err Read) input old_contents remaining contents failed =
+    WritesPrefix output_of input old_contents remaining contents failed
+WritesExactly output_of (Err Write) input old_contents remaining contents failed = ⊤
 
-abbrev pub LogsExactly : Result (Unit {0}) Fault → (input held : List ℕ)
+abbrev pub LogsExactly : Result (Unit {0}) Fault → (input old_contents : List ℕ)
     → (remaining contents : Option (List ℕ)) → (failed : Bool) → Type 0
-LogsExactly result input held remaining contents failed =
-    WritesExactly log_of result input held remaining contents failed
+LogsExactly result input old_contents remaining contents failed =
+    WritesExactly log_of result input old_contents remaining contents failed
 
-abbrev pub StripsExactly : Result (Unit {0}) Fault → (input held : List ℕ)
+abbrev pub StripsExactly : Result (Unit {0}) Fault → (input old_contents : List ℕ)
     → (remaining contents : Option (List ℕ)) → (failed : Bool) → Type 0
-StripsExactly result input held remaining contents failed =
-    WritesExactly stripped_text result input held remaining contents failed
+StripsExactly result input old_contents remaining contents failed =
+    WritesExactly stripped_text result input old_contents remaining contents failed

@@ -1,6 +1,6 @@
 //! Lines of text, each appended whole or not at all.
 ghost use Rattle.std.specs.Prelude.{false, length, [], ◌+◌, ◌≡◌};
-ghost use Rattle.event_log.specs.HeldText.{capacity, empty_text, held_text_of, held_with_text, is_to_be_written};
+ghost use Rattle.event_log.specs.CollectedText.{capacity, collected_text_of, empty_text, is_to_be_written, with_text};
 ghost use Rattle.event_log.specs.private.Line.{BeginsLine, EndsLine, ExtendsLine};
 
 mod fields;
@@ -32,7 +32,7 @@ pub struct Lines {
 impl Lines {
     /// Creates an empty buffer.
     pub fn new() -> Self
-        ensures { held_text_of result ≡ empty_text }
+        ensures { collected_text_of result ≡ empty_text }
     {
         Lines {
             bytes: ArrayVec::new(),
@@ -44,7 +44,7 @@ impl Lines {
 
     /// Returns the lines.
     pub fn bytes(&self) -> &[u8]
-        ensures { result.now ≡ (held_text_of self.now).bytes }
+        ensures { result.now ≡ (collected_text_of self.now).bytes }
     {
         self.bytes.as_slice()
     }
@@ -52,21 +52,21 @@ impl Lines {
     /// Returns the number of bytes in the buffer.
     // cargo lacks: not used
     pub fn len(&self) -> usize
-        ensures { result ≡ length (held_text_of self.now).bytes }
+        ensures { result ≡ length (collected_text_of self.now).bytes }
     {
         self.bytes.len()
     }
 
     /// Returns the number of bytes that still fit.
     pub(crate) fn remaining_capacity(&self) -> usize
-        ensures { length (held_text_of self.now).bytes + result ≡ capacity }
+        ensures { length (collected_text_of self.now).bytes + result ≡ capacity }
     {
         CAPACITY - self.bytes.len()
     }
 
     /// Returns whether more than half of the capacity is in use: then the lines should be written.
     pub(crate) fn is_more_than_half_full(&self) -> bool
-        ensures { result ≡ is_to_be_written (held_text_of self.now) }
+        ensures { result ≡ is_to_be_written (collected_text_of self.now) }
     {
         self.bytes.len() > CAPACITY / 2
     }
@@ -74,14 +74,14 @@ impl Lines {
     /// Returns whether a line was dropped since the last `clear`.
     // cargo lacks: not used
     pub fn lost(&self) -> bool
-        ensures { result ≡ (held_text_of self.now).lost }
+        ensures { result ≡ (collected_text_of self.now).lost }
     {
         self.lost
     }
 
     /// Removes all lines.
     pub fn clear(&mut self)
-        ensures { held_text_of self.new ≡ empty_text }
+        ensures { collected_text_of self.new ≡ empty_text }
     {
         self.bytes.clear();
         self.lost = false;
@@ -89,9 +89,9 @@ impl Lines {
 
     /// Appends a line, or drops it if there isn't room for all of it.
     #[inline]
-    #[tactic(auto, unfolding(crate::specs::HeldText::held_with_text))]
+    #[tactic(auto, unfolding(crate::specs::CollectedText::with_text))]
     pub fn append(&mut self, line: &[u8])
-        ensures { held_text_of self.new ≡ held_with_text (held_text_of self.old) line.now }
+        ensures { collected_text_of self.new ≡ with_text (collected_text_of self.old) line.now }
     {
         if self.bytes.try_extend_from_slice(line).is_err() {
             self.lost = true;

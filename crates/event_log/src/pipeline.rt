@@ -2,7 +2,7 @@
 ghost use Rattle.std.specs.Io.KnownBytes.{Appends};
 ghost use Rattle.std.specs.List.{flat_map};
 ghost use Rattle.std.specs.Prelude.{Err, false, IfOk, is_err, length, List, OnOk, Some, true, ℕ, [], ◌++◌, ◌<◌, ◌≡◌};
-ghost use Rattle.event_log.specs.HeldText.{empty_text};
+ghost use Rattle.event_log.specs.CollectedText.{empty_text};
 ghost use Rattle.event_log.specs.private.Progress.{HasReadStream, HasWritten};
 ghost use Rattle.event_log.specs.Run.{LogsExactly, StripsExactly, WritesExactly};
 ghost use Rattle.vte_core.specs.Stream.{default_limit, events};
@@ -26,9 +26,9 @@ const CHUNK: usize = 4096;
 ///
 /// Ends at the first failed read or write. Everything read before a failed read has been written.
 pub fn run<R: Source, W: Sink>(reader: &mut R, writer: &mut W) -> Result<(), Fault>
-    ensures lines { (input held : List ℕ) → R.remaining reader.old ≡ Some input
-        → W.contents writer.old ≡ Some held →
-        LogsExactly result input held (R.remaining reader.new) (W.contents writer.new)
+    ensures lines { (input old_contents : List ℕ) → R.remaining reader.old ≡ Some input
+        → W.contents writer.old ≡ Some old_contents →
+        LogsExactly result input old_contents (R.remaining reader.new) (W.contents writer.new)
         (R.has_failed reader.new) }
     ensures read_to_the_end { OnOk result (R.has_failed reader.new ≡ false) }
     ensures write_failed { result ≡ Err Fault.Write → W.has_failed writer.new ≡ true }
@@ -41,9 +41,9 @@ pub fn run<R: Source, W: Sink>(reader: &mut R, writer: &mut W) -> Result<(), Fau
 /// It reads, writes, flushes and fails as [`run`] does. A character that is unfinished at the end
 /// gives no text.
 pub fn run_text<R: Source, W: Sink>(reader: &mut R, writer: &mut W) -> Result<(), Fault>
-    ensures text { (input held : List ℕ) → R.remaining reader.old ≡ Some input
-        → W.contents writer.old ≡ Some held →
-        StripsExactly result input held (R.remaining reader.new) (W.contents writer.new)
+    ensures text { (input old_contents : List ℕ) → R.remaining reader.old ≡ Some input
+        → W.contents writer.old ≡ Some old_contents →
+        StripsExactly result input old_contents (R.remaining reader.new) (W.contents writer.new)
         (R.has_failed reader.new) }
     ensures read_to_the_end { OnOk result (R.has_failed reader.new ≡ false) }
     ensures write_failed { result ≡ Err Fault.Write → W.has_failed writer.new ≡ true }
@@ -57,11 +57,11 @@ fn run_with<C: Collector, R: Source, W: Sink>(
     reader: &mut R,
     writer: &mut W,
 ) -> Result<(), Fault>
-    requires holds_nothing { C.held_text_of collector.old ≡ empty_text }
-    ensures texts { (input held : List ℕ) → R.remaining reader.old ≡ Some input
-        → W.contents writer.old ≡ Some held →
-        WritesExactly (λ stream. flat_map C.text_of (events default_limit stream)) result input held
-        (R.remaining reader.new) (W.contents writer.new) (R.has_failed reader.new) }
+    requires holds_nothing { C.collected_text_of collector.old ≡ empty_text }
+    ensures texts { (input old_contents : List ℕ) → R.remaining reader.old ≡ Some input
+        → W.contents writer.old ≡ Some old_contents →
+        WritesExactly (λ stream. flat_map C.text_of (events default_limit stream)) result input
+        old_contents (R.remaining reader.new) (W.contents writer.new) (R.has_failed reader.new) }
     ensures read_to_the_end { OnOk result (R.has_failed reader.new ≡ false) }
     ensures write_failed { result ≡ Err Fault.Write → W.has_failed writer.new ≡ true }
 {
@@ -90,9 +90,9 @@ fn write_chunk<C: Collector, W: Sink>(
     chunk: &[u8],
 ) -> Result<(), ()>
     requires parsed { HasReadStream parser.old }
-    requires holds_nothing { C.held_text_of collector.old ≡ empty_text }
+    requires holds_nothing { C.collected_text_of collector.old ≡ empty_text }
     ensures reads { OnOk result (HasReadStream parser.new) }
-    ensures empties { OnOk result (C.held_text_of collector.new ≡ empty_text) }
+    ensures empties { OnOk result (C.collected_text_of collector.new ≡ empty_text) }
     ensures writes { (total_text : List ℕ → List ℕ)
         → HasWritten C.text_of total_text (W.contents writer.old) parser.old [] →
         OnOk result
@@ -115,11 +115,11 @@ fn write_some<'a, C: Collector, W: Sink>(
     bytes: &'a [u8],
 ) -> Result<&'a [u8], ()>
     requires parsed { HasReadStream parser.old }
-    requires holds_nothing { C.held_text_of collector.old ≡ empty_text }
+    requires holds_nothing { C.collected_text_of collector.old ≡ empty_text }
     ensures reads_some { IfOk result (λ unread. 0 < length bytes.now
         → length unread.now < length bytes.now) }
     ensures reads { OnOk result (HasReadStream parser.new) }
-    ensures empties { OnOk result (C.held_text_of collector.new ≡ empty_text) }
+    ensures empties { OnOk result (C.collected_text_of collector.new ≡ empty_text) }
     ensures writes { (total_text : List ℕ → List ℕ)
         → HasWritten C.text_of total_text (W.contents writer.old) parser.old bytes.now →
         IfOk result
@@ -133,9 +133,9 @@ fn write_some<'a, C: Collector, W: Sink>(
 
 /// Writes and clears the collected text.
 fn write_out<C: Collector, W: Sink>(collector: &mut C, writer: &mut W) -> Result<(), ()>
-    ensures empties { OnOk result (C.held_text_of collector.new ≡ empty_text) }
+    ensures empties { OnOk result (C.collected_text_of collector.new ≡ empty_text) }
     ensures appends { OnOk result (Appends (W.contents writer.old) (W.contents writer.new)
-        (C.held_text_of collector.old).bytes) }
+        (C.collected_text_of collector.old).bytes) }
     ensures fails { is_err result ≡ W.has_failed writer.new }
 {
     writer.write_all(collector.collected_text())?;

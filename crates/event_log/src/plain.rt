@@ -1,6 +1,6 @@
 //! The performer that keeps only text.
 ghost use Rattle.std.specs.Prelude.{true, ◌≡◌};
-ghost use Rattle.event_log.specs.HeldText.{empty_text, held_text_of, held_with_event, HeldText, is_to_be_written};
+ghost use Rattle.event_log.specs.CollectedText.{collected_text_of, CollectedText, empty_text, is_to_be_written, with_event};
 ghost use Rattle.event_log.specs.Plain.{plain_text_of};
 
 use crate::collector::{Collector, RunParser};
@@ -23,9 +23,9 @@ pub struct Plain {
 }
 
 impl Model for Plain {
-    ghost Value = { HeldText };
+    ghost Value = { CollectedText };
 
-    ghost view = { λ plain. held_text_of plain.texts };
+    ghost view = { λ plain. collected_text_of plain.texts };
 }
 
 impl Plain {
@@ -62,11 +62,11 @@ impl Plain {
 }
 
 impl Perform for Plain {
-    ghost Value = { HeldText };
+    ghost Value = { CollectedText };
 
     ghost value_of = { λ plain. plain };
 
-    ghost step = { held_with_event plain_text_of };
+    ghost step = { with_event plain_text_of };
 
     ghost is_terminated = { is_to_be_written };
 
@@ -79,7 +79,7 @@ impl Perform for Plain {
     fn execute(&mut self, byte: u8) {
         match byte {
             b'\t' | b'\n' | b'\r' => self.texts.append(&[byte]),
-            // proof: what has no text appends an empty one, as `held_with_event` does.
+            // proof: what has no text appends an empty one, as `with_event` does.
             _ => self.texts.append(b""),
         }
     }
@@ -146,7 +146,7 @@ impl PerformText for Plain {
 impl Collector for Plain {
     ghost text_of = { plain_text_of };
 
-    ghost held_text_of = { λ plain. plain };
+    ghost collected_text_of = { λ plain. plain };
 
     // The text of a chunk fits whatever its bytes are, so no character needs a stop.
     fn collect<'a>(&mut self, parser: &mut RunParser, bytes: &'a [u8]) -> &'a [u8] {

@@ -1,6 +1,6 @@
 //! The performer that writes lines.
 ghost use Rattle.std.specs.Prelude.{◌++◌, ◌≡◌};
-ghost use Rattle.event_log.specs.HeldText.{empty_text, held_text_of, held_with_event, held_with_text, HeldText, is_to_be_written};
+ghost use Rattle.event_log.specs.CollectedText.{collected_text_of, CollectedText, empty_text, is_to_be_written, with_event, with_text};
 ghost use Rattle.event_log.specs.Lines.{line_feed, line_of, sequence_fields};
 
 use crate::collector::{Collector, RunParser};
@@ -20,9 +20,9 @@ pub struct Recorder {
 }
 
 impl Model for Recorder {
-    ghost Value = { HeldText };
+    ghost Value = { CollectedText };
 
-    ghost view = { λ recorder. held_text_of recorder.lines };
+    ghost view = { λ recorder. collected_text_of recorder.lines };
 }
 
 impl Recorder {
@@ -69,7 +69,7 @@ impl Recorder {
         action: char,
     )
         ensures { self.new
-            ≡ held_with_text self.old
+            ≡ with_text self.old
             (name.now ++ sequence_fields params.now intermediates.now ignore action ++ line_feed) }
     {
         self.lines.begin();
@@ -82,11 +82,11 @@ impl Recorder {
 }
 
 impl Perform for Recorder {
-    ghost Value = { HeldText };
+    ghost Value = { CollectedText };
 
     ghost value_of = { λ recorder. recorder };
 
-    ghost step = { held_with_event line_of };
+    ghost step = { with_event line_of };
 
     ghost is_terminated = { is_to_be_written };
 
@@ -146,7 +146,7 @@ impl Perform for Recorder {
 impl Collector for Recorder {
     ghost text_of = { line_of };
 
-    ghost held_text_of = { λ recorder. recorder };
+    ghost collected_text_of = { λ recorder. recorder };
 
     fn collect<'a>(&mut self, parser: &mut RunParser, bytes: &'a [u8]) -> &'a [u8] {
         laws::early_stops();

@@ -40,9 +40,9 @@ pub use Rattle.vte.specs.Rendition.{attribute_calls, attributes_from}
 pub use Rattle.vte.specs.Split.{first_after, split_by}
 pub use Rattle.vte.specs.Synchronized.{after_last_end, begin_count, begin_count_in_event, begin_update, begins_ending_in_last, end_update, from_begin_update, is_prefix_of, is_update_group, part_after_last_end, update_group_count}
 pub use Rattle.vte.specs.Views.{engine_view, EngineView, limited_engine_view, limited_parser_view, long_parser_view, ParserView}
-pub use Rattle.vte_core.proofs.lemmas.EarlyStops.{added-append}
 pub use Rattle.vte_core.proofs.lemmas.shapes.BrokenCharacters.{reported-settled, resumed_stream-settled, starts-settled}
 pub use Rattle.vte_core.proofs.lemmas.streams.After.{added-nothing}
+pub use Rattle.vte_core.proofs.lemmas.streams.EarlyStops.{added-append}
 pub use Rattle.vte_core.proofs.lemmas.streams.StreamSteps.{counts_data, events_are_bounded, events_grow, opens_silently}
 pub use Rattle.vte_core.specs.declared.parser.long_parser.LongParser.{LongParser}
 pub use Rattle.vte_core.specs.declared.parser.refused.Refused.{Refused}

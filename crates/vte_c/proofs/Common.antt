@@ -30,7 +30,7 @@ pub use Rattle.vte_core.specs.EarlyStop.{breaks, ComesTo, IsStart}
 unfoldable pub use Rattle.vte_core.specs.EarlyStop.{breaks_at, reported_before, resumed_stream}
 pub use Rattle.vte_core.specs.EarlyStopLaws.{GoesOnFromPositions, ReportsUnits}
 pub use Rattle.vte_core.specs.Event.{after, CsiDispatch, EscDispatch, Event, Execute, Hook, OscDispatch, Print, Put, replacement, Unhook}
-pub use Rattle.vte_core.specs.EventBounds.{AreBrief, IsBounded, IsShort}
+pub use Rattle.vte_core.specs.EventBounds.{AreBrief, IsBounded, IsCharacterEvent}
 pub use Rattle.vte_core.specs.Laws.{OpensSilently}
 pub use Rattle.vte_core.specs.Parameters.{AreGroups, count_of, IsNonEmpty}
 pub use Rattle.vte_core.specs.Parser.{HasRead}

@@ -38,7 +38,7 @@ pub use Rattle.vte_core.specs.EarlyStop.{breaks, ComesTo, IsStart, NoCharacterSt
 unfoldable pub use Rattle.vte_core.specs.EarlyStop.{breaks_at, reported_before, resumed_stream}
 unfoldable pub use Rattle.vte_core.specs.Escape.{escape_outcome}
 pub use Rattle.vte_core.specs.Event.{after, CsiDispatch, EscDispatch, Event, Execute, Hook, OscDispatch, Print, Put, replacement, Unhook}
-pub use Rattle.vte_core.specs.EventBounds.{AreBrief, FitsLimit, IsBounded, IsExecuted, IsPrintable, IsShort}
+pub use Rattle.vte_core.specs.EventBounds.{AreBrief, FitsLimit, IsBounded, IsCharacterEvent, IsExecuted, IsPrintable}
 pub use Rattle.vte_core.specs.Head.{Head, head_after, reported_intermediates}
 unfoldable pub use Rattle.vte_core.specs.Head.{head_of, is_well_shaped, sequence_event}
 pub use Rattle.vte_core.specs.Intermediates.{are_too_many, first_two}
@@ -47,11 +47,11 @@ pub use Rattle.vte_core.specs.LongParser.{IsDataOfOpenCommand, open_command_size
 pub use Rattle.vte_core.specs.Looks.{looks_of, per_byte}
 pub use Rattle.vte_core.specs.Outcome.{CharacterToClose, closing_events, CommandToClose, events_before_escape, leaves, NothingToClose, open_bytes, Outcome, report, SaysLoss, ToClose}
 pub use Rattle.vte_core.specs.OutsideRuns.{AddsOutsideRuns, IsOutsideRuns, PrintsNoAscii, ReportsOutsideRuns}
-pub use Rattle.vte_core.specs.Parameters.{AreGroups, AreSmall, colon, count_of, grouped, is_colon, is_separator, IsNonEmpty, IsSmallNumber, max_numbers, max_value, Number, number_of, numbers_of, semicolon, with_number}
+pub use Rattle.vte_core.specs.Parameters.{AllFitU16, AreGroups, colon, count_of, FitsU16, grouped, is_colon, is_separator, IsNonEmpty, max_numbers, max_value, Number, number_of, numbers_of, semicolon, with_number}
 unfoldable pub use Rattle.vte_core.specs.Parameters.{groups_of, has_too_many_numbers, numbers, shown}
 pub use Rattle.vte_core.specs.private.AtPlace.{HasReadWithLimit, IsAtPlace, IsPlaceOfState}
+pub use Rattle.vte_core.specs.private.CollectedHead.{CountsNumbers, HasReadHead, HoldsHead, HoldsIntermediates, HoldsNumbers, IsMarker, numbers_from, ReadsHead, SameIntermediates, SameNumbers, StaysIllShaped}
 pub use Rattle.vte_core.specs.private.Costs.{caller_looks, lookahead, SpendsWithin}
-pub use Rattle.vte_core.specs.private.HeldHead.{CountsNumbers, HasReadHead, HoldsHead, HoldsIntermediates, HoldsNumbers, IsMarker, numbers_from, ReadsHead, SameIntermediates, SameNumbers, StaysIllShaped}
 pub use Rattle.vte_core.specs.private.OpenCharacter.{bytes_of, Extends, may_continue}
 unfoldable pub use Rattle.vte_core.specs.private.OpenCharacter.{second_range}
 pub use Rattle.vte_core.specs.private.Place.{AtEscape, BytesLead, closing_events_at, InControlSequence, InDeviceControl, InDeviceData, InEscape, InIgnoredString, InSystemCommand, InText, IsAfter, IsSettledPlace, Leads, Place, rest_outcome, to_close_at}
@@ -74,11 +74,11 @@ unfoldable pub use Rattle.vte_core.specs.Utf8.{is_truncated, is_well_formed, tra
 
 -- ---- words of proofs alone
 
--- There is at most one event, and it is short.
-abbrev pub IsAtMostOneShort : List Event → Type 0
-IsAtMostOneShort [] = Unit {0}
-IsAtMostOneShort (event ∷ []) = IsShort event
-IsAtMostOneShort _ = ⊥
+-- There is at most one event, and it is a character event.
+abbrev pub IsAtMostOneCharacter : List Event → Type 0
+IsAtMostOneCharacter [] = Unit {0}
+IsAtMostOneCharacter (event ∷ []) = IsCharacterEvent event
+IsAtMostOneCharacter _ = ⊥
 
 -- The bytes of the unfinished character at a place.
 abbrev pub open_at : Place → List ℕ

@@ -10,13 +10,10 @@ pub mod dividing
 pub mod fields
 -- From a byte at a place to its events and the next place: `PlaceLeads` by cases, `steps` for all bytes.
 pub mod places
--- From a text or body to a stream (`after-leads`), and what follows a broken character.
+-- From a text or body to a stream (`after-leads`), what follows a broken character, and what is reported before a
+-- position of a call (`goes_on_from`).
 pub mod streams
--- From places to what is reported before a position of a call (`goes_on_from`).
-pub mod EarlyStops
 -- From one position of a call to the next (`advances-then`). The answers of `parser/` use it.
 pub mod positions
 -- From the states of the automaton to what they say of a block of text. The answers of `reader/` use it.
 pub mod automaton_states
--- From groups of parameters to their text, and back. The answers of `params/` use it.
-pub mod ParameterTexts

@@ -10,9 +10,9 @@ pub record StoredCommand : Type 0 where
   pub ends : List ℕ
   pub lost : Bool
 
--- The memory doesn't suffice for what is held and the data bytes that begin at `from`.
-pub record LacksMemoryAt (held : StoredCommand) (bytes : List ℕ) (from : ℕ) : Type 0 where
+-- The memory doesn't suffice for what is stored and the data bytes that begin at `from`.
+pub record LacksMemoryAt (stored : StoredCommand) (bytes : List ℕ) (from : ℕ) : Type 0 where
   pub to : ℕ
   pub within : to ≤ length bytes
   pub are_data : (k : ℕ) → from ≤ k → k < to → IsCommandData (slice_index bytes k)
-  pub lacks_memory : held.capacity < length held.bytes + (to - from)
+  pub lacks_memory : stored.capacity < length stored.bytes + (to - from)

@@ -45,14 +45,14 @@ IsBounded limit (EscDispatch intermediates ignore final) =
     (length intermediates ≤ max_intermediates) × (final < 0x7f) × (0x30 ≤ final)
 
 -- A printed character or an executed byte.
-abbrev pub IsShort : Event → Type 0
-IsShort (Print c) = IsPrintable c
-IsShort (Execute byte) = IsExecuted byte
-IsShort _ = ⊥
+abbrev pub IsCharacterEvent : Event → Type 0
+IsCharacterEvent (Print c) = IsPrintable c
+IsCharacterEvent (Execute byte) = IsExecuted byte
+IsCharacterEvent _ = ⊥
 
--- At most two events, which are bounded, and the second is short.
+-- At most two events, which are bounded, and the second is a character event.
 abbrev pub AreBrief : Option ℕ → List Event → Type 0
 AreBrief limit [] = ⊤
 AreBrief limit (event ∷ []) = IsBounded limit event
-AreBrief limit (event ∷ last ∷ []) = IsBounded limit event × IsShort last
+AreBrief limit (event ∷ last ∷ []) = IsBounded limit event × IsCharacterEvent last
 AreBrief limit _ = ⊥

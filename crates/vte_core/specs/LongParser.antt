@@ -57,11 +57,13 @@ StoresPieces parser stream =
 -- The stream ends in an open operating system command with fewer than 16 `;`, and the byte is data
 -- of its last piece.
 pub record IsDataOfOpenCommand (stream : List ℕ) (byte : ℕ) : Type 0 where
+  -- The pieces that `;` has ended, the one after them, and whether data was lost.
   pub pieces : List (List ℕ)
   pub last : List ℕ
   pub lost : Bool
   pub at_most : length pieces < max_pieces
   pub is_open : (outcome None stream).to_close ≡ CommandToClose (pieces ++ last ∷ []) lost
   pub is_data : IsCommandData byte
+  -- The byte is appended to the last piece, and changes nothing else.
   pub joins : (outcome None (stream ++ byte ∷ [])).to_close
       ≡ CommandToClose (pieces ++ (last ++ byte ∷ []) ∷ []) lost

@@ -57,11 +57,11 @@ grouped numbers = fold with_number [] numbers
 abbrev pub count_of : List (List ℕ) → ℕ
 count_of groups = sum_by length groups
 
-abbrev pub IsSmallNumber : ℕ → Type 0
-IsSmallNumber number = number ≤ max_value
+abbrev pub FitsU16 : ℕ → Type 0
+FitsU16 number = number ≤ max_value
 
-abbrev pub AreSmall : List ℕ → Type 0
-AreSmall group = All IsSmallNumber group
+abbrev pub AllFitU16 : List ℕ → Type 0
+AllFitU16 group = All FitsU16 group
 
 -- A group has a number.
 abbrev pub IsNonEmpty : List ℕ → Type 0
@@ -70,7 +70,7 @@ IsNonEmpty group = 0 < length group
 -- At most 32 numbers, each up to 65,535, in groups that aren't empty.
 pub record AreGroups (groups : List (List ℕ)) : Type 0 where
   pub at_most : count_of groups ≤ max_numbers
-  pub small : All AreSmall groups
+  pub small : All AllFitU16 groups
   pub filled : All IsNonEmpty groups
 
 -- The groups of a parameter text. Only its first 32 numbers count.

@@ -7,7 +7,7 @@ pub mod Place
 pub mod Store
 pub mod FlatGroups
 pub mod OpenCharacter
-pub mod HeldHead
+pub mod CollectedHead
 pub mod AtPlace
 -- What a byte does to the performer and to the parser.
 pub mod Takes

@@ -10,43 +10,43 @@ use std::alloc::Allocator;
 
 /// Holds bytes, up to a limit or as many as there is memory for.
 pub(crate) trait Buffer {
-    /// The most bytes that are held, if there is a limit.
+    /// The most bytes that are stored, if there is a limit.
     ghost limit: { Option ℕ };
 
-    /// The bytes that are held.
-    ghost held: { Self → List ℕ };
+    /// The bytes that are stored.
+    ghost stored: { Self → List ℕ };
 
     /// The number of bytes for which memory was allocated.
     ghost capacity: { Self → ℕ };
 
-    /// Returns the held bytes.
+    /// Returns the stored bytes.
     fn bytes(&self) -> &[u8]
-        ensures { result.now ≡ held self.now };
+        ensures { result.now ≡ stored self.now };
 
-    /// Drops the held bytes. Their memory stays.
+    /// Drops the stored bytes. Their memory stays.
     fn clear(&mut self)
-        ensures holds_nothing { held self.new ≡ [] }
+        ensures holds_nothing { stored self.new ≡ [] }
         ensures same_capacity { capacity self.new ≡ capacity self.old };
 
     /// Returns whether the limit is reached.
     fn is_full(&self) -> bool
-        ensures { result ≡ not (has_room limit (length (held self.now))) };
+        ensures { result ≡ not (has_room limit (length (stored self.now))) };
 
     /// Takes memory for this many more bytes, and returns whether it is there. With a limit, it
     /// always is.
     fn reserve(&mut self, more: usize) -> bool
-        ensures same_bytes { held self.new ≡ held self.old }
-        ensures reserves { ReservesCapacity limit (length (held self.new)) more (capacity self.old)
-            (capacity self.new) result };
+        ensures same_bytes { stored self.new ≡ stored self.old }
+        ensures reserves { ReservesCapacity limit (length (stored self.new)) more
+            (capacity self.old) (capacity self.new) result };
 
     /// Adds the bytes of an input from one position to another, up to the limit.
     fn append(&mut self, reader: &mut Reader, input: Input<'_>, from: usize, to: usize)
         requires range { ArePositions input.bytes.now from to }
-        requires has_memory { HasCapacity limit (capacity self.old) (length (held self.old))
+        requires has_memory { HasCapacity limit (capacity self.old) (length (stored self.old))
             (to - from) }
-        ensures appended { held self.new
-            ≡ held self.old
-            ++ fitting limit (length (held self.old))
+        ensures appended { stored self.new
+            ≡ stored self.old
+            ++ fitting limit (length (stored self.old))
             (take (to - from) (drop from input.entry.bytes.now)) }
         ensures keeps_memory { capacity self.old ≤ capacity self.new }
         ensures looks_at_most { LooksWithin (to - from) reader.old reader.new };
@@ -57,7 +57,7 @@ pub(crate) trait Buffer {
 impl<const N: usize> Buffer for Option<ArrayVec<u8, N>> {
     ghost limit = { Some N };
 
-    ghost held = { λ buffer. unwrap_or (option_map (λ bytes. bytes.items) buffer) [] };
+    ghost stored = { λ buffer. unwrap_or (option_map (λ bytes. bytes.items) buffer) [] };
 
     ghost capacity = { λ buffer. N };
 
@@ -98,7 +98,7 @@ impl<const N: usize> Buffer for Option<ArrayVec<u8, N>> {
 impl<A: Allocator> Buffer for Vec<u8, A> {
     ghost limit = { None };
 
-    ghost held = { λ buffer. buffer.items };
+    ghost stored = { λ buffer. buffer.items };
 
     ghost capacity = { λ buffer. vec_capacity buffer };
 

@@ -153,16 +153,16 @@ impl CollectedHead {
 
     /// Collects a byte of a head, or finds the head ill-shaped. Returns the new progress.
     #[inline(always)]
-    fn collect_head_byte(&mut self, progress: HeadProgress, byte: u8) -> HeadProgress
+    fn collect_head_byte(&mut self, reached: HeadProgress, byte: u8) -> HeadProgress
         requires { is_head_byte (class_of byte) ≡ true }
-        ensures { (head : List ℕ) → HasReadHead self.old progress head
+        ensures { (head : List ℕ) → HasReadHead self.old reached head
             → HasReadHead self.new result (head ++ byte ∷ []) }
     {
-        if is_parameter_byte(byte) && progress.may_have_parameters() {
+        if is_parameter_byte(byte) && reached.may_have_parameters() {
             self.collect_parameter_byte(byte);
             return HeadProgress::Parameters;
         }
-        if let HeadProgress::IllShaped = progress {
+        if let HeadProgress::IllShaped = reached {
             return HeadProgress::IllShaped;
         }
         if is_intermediate(byte) {
@@ -170,7 +170,7 @@ impl CollectedHead {
             return HeadProgress::Intermediates;
         }
         // A marker is only at the beginning.
-        if let HeadProgress::Entry = progress {
+        if let HeadProgress::Entry = reached {
             self.collect(byte);
             return HeadProgress::Parameters;
         }
@@ -271,7 +271,7 @@ impl CollectedHead {
     #[inline(always)]
     pub(crate) fn end_head(&mut self, joined: bool) -> bool
         requires { self.old.joined ≡ joined }
-        ensures { (progress : HeadProgress) (head : List ℕ) → HoldsHead self.old progress head
+        ensures { (reached : HeadProgress) (head : List ℕ) → HoldsHead self.old reached head
             → HoldsWholeHead self.new result head }
     {
         let too_many_numbers = self.store_number(joined, self.number);

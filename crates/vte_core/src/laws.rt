@@ -32,7 +32,7 @@ pub fn replay<P: Perform, const OSC_RAW_BUF_SIZE: usize>(performer: &mut P, chun
 }
 
 /// Parameters come back if their debug text is sent, without its brackets, between `ESC [` and `m`.
-#[tactic(auto, using(crate::proofs::lemmas::ParameterTexts::shown_dispatched))]
+#[tactic(auto, using(crate::proofs::lemmas::streams::ParameterTexts::shown_dispatched))]
 pub fn debug_dispatch()
     ensures { (limit : Option ℕ) (groups : List (List ℕ)) → AreParameters groups
         → DispatchesShown limit groups }
@@ -87,7 +87,7 @@ pub fn opens_late()
 /// What a call that stops early has reported, followed by what the unread bytes add from there, is
 /// what all bytes add. From one start to the next it reports at most two events, and the second of
 /// them is a character or an executed byte.
-#[tactic(auto, using(crate::proofs::lemmas::EarlyStops::goes_on_from, crate::proofs::lemmas::EarlyStops::reports_units))]
+#[tactic(auto, using(crate::proofs::lemmas::streams::EarlyStops::goes_on_from, crate::proofs::lemmas::streams::EarlyStops::reports_units))]
 pub fn early_stops()
     ensures adds_up { (limit : Option ℕ) → GoesOnFromPositions limit }
     ensures units { (limit : Option ℕ) → ReportsUnits limit }

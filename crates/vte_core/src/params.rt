@@ -71,7 +71,7 @@ impl Params {
     pub(crate) fn clear(&mut self)
         ensures { self.new ≡ [] }
     {
-        // proof: a `clear` of each would write over what it held, by a call of its own.
+        // proof: a `clear` of each would write over what it has, by a call of its own.
         // cargo instead: self.numbers.clear();
         // cargo instead: self.lengths.clear();
         *self = Params::new();

@@ -1,7 +1,8 @@
 //! The only module that has the bytes of a call, and the only way to report events.
 //!
 //! A function of the parser that takes a byte and its position doesn't read that byte again: its
-//! caller has read it.
+//! caller has read it. Other modules read bytes only by functions of this one, which the contracts
+//! count as *looks*.
 // proof: The module counts the bytes that it loads and the events that it reports, for contracts
 // alone. Each form of `advance` makes a [`Chunk`] of its bytes, and passes nothing else on. The one
 // [`Reader`] of a chunk is the only way to the bytes of its [`Input`], and a [`CountedPerform`]

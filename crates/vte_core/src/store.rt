@@ -34,20 +34,20 @@ impl<B: Buffer> Model for CommandStore<B> {
 
     ghost view = { λ store. record {
       capacity = B.capacity store.bytes;
-      bytes = B.held store.bytes;
+      bytes = B.stored store.bytes;
       ends = store.ends.items;
       lost = store.lost;
     } };
 
     ghost invariant = { λ store. IsNonDecreasing store.ends.items
-        × All (λ end. end ≤ length (B.held store.bytes)) store.ends.items };
+        × All (λ end. end ≤ length (B.stored store.bytes)) store.ends.items };
 }
 
 impl<B: Buffer> CommandStore<B> {
     /// Creates a store without items, over a buffer.
     // cargo instead: pub(crate) const fn new(bytes: B) -> Self
     pub(crate) fn new(bytes: B) -> Self
-        requires { B.held bytes ≡ [] }
+        requires { B.stored bytes ≡ [] }
         ensures holds { HoldsItems B.limit result [] }
         ensures capacity_is { result.capacity ≡ B.capacity bytes }
     {
@@ -201,7 +201,7 @@ impl<const N: usize> CommandStore<Option<ArrayVec<u8, N>>> {
         (bytes, self.ends.as_slice(), self.lost)
     }
 
-    /// Replaces what is held. The ends are left out if they can't be ends of pieces.
+    /// Replaces what is stored. The ends are left out if they can't be ends of pieces.
     pub(crate) fn restore(&mut self, bytes: &[u8], ends: &[usize], lost: bool)
         requires fits { length bytes.now ≤ N }
         requires at_most { length ends.now ≤ max_pieces }

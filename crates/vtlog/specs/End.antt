@@ -28,7 +28,7 @@ output_of Text = stripped_text
 -- the end.
 pub record Streams : Type 0 where
   pub input : Option (List ℕ)
-  pub held : Option (List ℕ)
+  pub old_contents : Option (List ℕ)
   pub remaining : Option (List ℕ)
   pub contents : Option (List ℕ)
   pub reader_failed : Bool
@@ -38,15 +38,16 @@ pub record Streams : Type 0 where
 pub record Prints (page : List ℕ) (streams : Streams)
     (outcome : Result (Unit {0}) Fault) : Type 0 where
   pub unread : streams.remaining ≡ streams.input
-  pub written : OnOk outcome (Appends streams.held streams.contents page)
+  pub written : OnOk outcome (Appends streams.old_contents streams.contents page)
   pub fails : is_err outcome ≡ streams.writer_failed
   pub fault : OnErr outcome (outcome ≡ Err Write)
 
 -- The meaning of the input was written, unless a stream has failed.
 pub record Runs (mode : Mode) (streams : Streams) (outcome : Result (Unit {0}) Fault) : Type 0 where
-  pub written : (input held : List ℕ) → streams.input ≡ Some input → streams.held ≡ Some held
-      → WritesExactly
-      (output_of mode) outcome input held streams.remaining streams.contents streams.reader_failed
+  pub written : (input old_contents : List ℕ) → streams.input ≡ Some input
+      → streams.old_contents ≡ Some old_contents
+      → WritesExactly (output_of mode) outcome input old_contents streams.remaining
+      streams.contents streams.reader_failed
   pub read_to_the_end : OnOk outcome (streams.reader_failed ≡ false)
   pub write_failed : outcome ≡ Err Write → streams.writer_failed ≡ true
 
@@ -55,7 +56,7 @@ pub record RefusesArguments (streams : Streams) (status : ℕ) (message : List �
   pub status_is : status ≡ 2
   pub message_is : message ≡ codes "vtlog: unexpected argument"
   pub unread : streams.remaining ≡ streams.input
-  pub unwritten : streams.contents ≡ streams.held
+  pub unwritten : streams.contents ≡ streams.old_contents
 
 -- The status and the message are those of an outcome that this is true of.
 pub record EndsBy (IsOutcome : Result (Unit {0}) Fault → Type 0) (status : ℕ)

@@ -12,6 +12,7 @@ use std::env;
 use std::io::{self, ErrorKind};
 use std::process::ExitCode;
 
+// `./vtlog` reads the values of `VERSION`, `HELP` and `HINT` from this text.
 const VERSION: &str = "vtlog 0.1.0\n";
 
 const HELP: &str = "\
@@ -108,7 +109,7 @@ fn run_with_arguments<R: Source, W: Sink>(
       input = R.remaining reader.old;
       remaining = R.remaining reader.new;
       reader_failed = R.has_failed reader.new;
-      held = W.contents writer.old;
+      old_contents = W.contents writer.old;
       contents = W.contents writer.new;
       writer_failed = W.has_failed writer.new;
     }) result.0 result.1.now }

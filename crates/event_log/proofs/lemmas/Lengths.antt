@@ -4,11 +4,11 @@ use Rattle.std.proofs.Common.{length-drop}
 use Rattle.std.proofs.lemmas.List.Sums.{sum_by-cons}
 use Rattle.std.proofs.Math.Utf8.{encodes}
 use Rattle.std.specs.Char.{encode_utf8}
-use Rattle.event_log.proofs.Common.{added, AddsUpTo, after, All, All-head, All-tail, ap, append_assoc, AreBrief, AreGroups, AreSmall, arith, Bool, breaks_at, capacity, cases_Bool, chars, concat, count_of, CsiDispatch, decimal, default_limit, drop, empty_text, encode_ascii, encodes-chars, EscDispatch, Event, Execute, false, flag_field, flat_map, GoesOnFromPositions, group_text, HasKept, HasRead, held_with_event, held_with_text, HeldText, hex_byte, hex_character, hex_digit, hex_field, hex_length, Hook, if◌then◌else◌, inl, inr, is_layout, is_to_be_written, IsBounded, IsNonEmpty, IsSmallNumber, IsUtf8, join_with_byte, len_utf8_bounds, length, length-append, length-decimal-le, length-encode, line_of, List, map, max, OscDispatch, Parser, pieces_fields, plain_text_of, Print, refl, replacement, reported_before, ReportsUnits, resumed_stream, run_event, semicolon, sequence_fields, shown, six_hex_digits, StopsExactly, suc, sym, true, zero, ℕ, [], ◌*◌, ◌++◌, ◌+◌, ◌-◌, ◌<◌, ◌∙◌, ◌∷◌, ◌≡◌, ◌≤◌}
-use Rattle.event_log.proofs.lemmas.HeldTexts.{held_bytes, IsSmall, kept-by_call, max_of_character_line, max_of_line, reported-taken, room-for_unit, text-taken_as_events, texts-taken}
+use Rattle.event_log.proofs.Common.{added, AddsUpTo, after, All, All-head, All-tail, AllFitU16, ap, append_assoc, AreBrief, AreGroups, arith, Bool, breaks_at, capacity, cases_Bool, chars, CollectedText, concat, count_of, CsiDispatch, decimal, default_limit, drop, empty_text, encode_ascii, encodes-chars, EscDispatch, Event, Execute, false, FitsU16, flag_field, flat_map, GoesOnFromPositions, group_text, HasKept, HasRead, hex_byte, hex_character, hex_digit, hex_field, hex_length, Hook, if◌then◌else◌, inl, inr, is_layout, is_to_be_written, IsBounded, IsNonEmpty, IsUtf8, join_with_byte, len_utf8_bounds, length, length-append, length-decimal-le, length-encode, line_of, List, map, max, OscDispatch, Parser, pieces_fields, plain_text_of, Print, refl, replacement, reported_before, ReportsUnits, resumed_stream, run_event, semicolon, sequence_fields, shown, six_hex_digits, StopsExactly, suc, sym, true, with_event, with_text, zero, ℕ, [], ◌*◌, ◌++◌, ◌+◌, ◌-◌, ◌<◌, ◌∙◌, ◌∷◌, ◌≡◌, ◌≤◌}
+use Rattle.event_log.proofs.lemmas.CollectedTexts.{collected_bytes, kept-by_call, max_of_character_line, max_of_line, reported-taken, room-for_unit, text-taken_as_events, texts-taken, UnitsFit}
 use Rattle.vte_core.proofs.lemmas.bytes.Runs.{layout-is_ascii}
-use Rattle.vte_core.proofs.lemmas.EarlyStops.{added-append}
 use Rattle.vte_core.proofs.lemmas.streams.After.{added-nothing}
+use Rattle.vte_core.proofs.lemmas.streams.EarlyStops.{added-append}
 
 -- ---- fields
 
@@ -37,33 +37,33 @@ length-pieces [] = omega arith
 length-pieces (p ∷ pieces) = simp length-append (omega (arith, length-hex_field p, length-pieces pieces))
 
 -- Each number has at most five digits, and `:` before it.
-length-numbers : (group : List ℕ) → All IsSmallNumber group → length (group_text group) ≤ 6 * length group
+length-numbers : (group : List ℕ) → All FitsU16 group → length (group_text group) ≤ 6 * length group
 length-numbers [] small = omega arith
 length-numbers (x ∷ []) small =
-    let here = All-head IsSmallNumber x [] small in
+    let here = All-head FitsU16 x [] small in
     length-decimal-le 6 x (omega arith) (omega arith) (omega arith)
 length-numbers (x ∷ y ∷ group) small =
-    let here = All-head IsSmallNumber x (y ∷ group) small in
+    let here = All-head FitsU16 x (y ∷ group) small in
     let few : length (decimal x) ≤ 5 = length-decimal-le 5 x (omega arith) (omega arith) (omega arith) in
-    simp length-append (omega (arith, length-numbers (y ∷ group) (All-tail IsSmallNumber x (y ∷ group) small)))
+    simp length-append (omega (arith, length-numbers (y ∷ group) (All-tail FitsU16 x (y ∷ group) small)))
 
 -- There are at most 32 numbers, with five digits each, a `:`, and a `;` if its group begins with it.
 length-shown : (groups : List (List ℕ)) → AreGroups groups → length (shown groups) ≤ 224
 unfolding shown
 length-shown groups groups_are = omega (arith, joined groups groups_are.filled groups_are.small, groups_are.at_most)
   where
-    joined : (groups : List (List ℕ)) → All IsNonEmpty groups → All AreSmall groups
+    joined : (groups : List (List ℕ)) → All IsNonEmpty groups → All AllFitU16 groups
         → length (join_with_byte semicolon (map group_text groups)) ≤ 7 * count_of groups
     joined [] filled small = omega arith
     joined (x ∷ []) filled small =
-        omega (arith, length-numbers x (All-head AreSmall x [] small), sum_by-cons length x [])
+        omega (arith, length-numbers x (All-head AllFitU16 x [] small), sum_by-cons length x [])
     joined (x ∷ y ∷ groups) filled small =
         let not_empty : 0 < length x = All-head IsNonEmpty x (y ∷ groups) filled in
         simp length-append (omega (
           arith,
-          length-numbers x (All-head AreSmall x (y ∷ groups) small),
+          length-numbers x (All-head AllFitU16 x (y ∷ groups) small),
           joined (y ∷ groups) (All-tail IsNonEmpty x (y ∷ groups) filled)
-              (All-tail AreSmall x (y ∷ groups) small),
+              (All-tail AllFitU16 x (y ∷ groups) small),
           sum_by-cons length x (y ∷ groups),
         ))
 
@@ -104,15 +104,15 @@ length-line (EscDispatch intermediates ignore byte) bounded =
 length-line _ bounded = omega arith
 
 -- At most two lines are reported up to the next start, the second for a character or a control.
-lines_are_small : IsSmall line_of
+line_units_fit : UnitsFit line_of
 unfolding line_of hex_byte
-lines_are_small [] brief = omega arith
-lines_are_small (event ∷ []) brief = simp length-append (omega (arith, length-line event brief))
-lines_are_small (event ∷ Print c ∷ []) brief =
+line_units_fit [] brief = omega arith
+line_units_fit (event ∷ []) brief = simp length-append (omega (arith, length-line event brief))
+line_units_fit (event ∷ Print c ∷ []) brief =
     simp length-append (omega (arith, length-line event brief.0, length-hex_character 4 c))
-lines_are_small (event ∷ Execute byte ∷ []) brief = simp length-append (omega (arith, length-line event brief.0))
-lines_are_small (event ∷ last ∷ []) brief = absurd brief.1
-lines_are_small (event ∷ last ∷ third ∷ events) brief = absurd brief
+line_units_fit (event ∷ Execute byte ∷ []) brief = simp length-append (omega (arith, length-line event brief.0))
+line_units_fit (event ∷ last ∷ []) brief = absurd brief.1
+line_units_fit (event ∷ last ∷ third ∷ events) brief = absurd brief
 
 -- ---- plain text
 
@@ -164,13 +164,13 @@ text_grows_slowly brief stream bytes =
 -- rest.
 
 -- The line of a replacement character is short.
-replacement-not_to_be_written : is_to_be_written (held_with_event line_of empty_text (Print replacement)) ≡ false
-unfolding line_of hex_character hex_length six_hex_digits hex_byte hex_digit held_with_text
+replacement-not_to_be_written : is_to_be_written (with_event line_of empty_text (Print replacement)) ≡ false
+unfolding line_of hex_character hex_length six_hex_digits hex_byte hex_digit with_text
 replacement-not_to_be_written = refl
 
 -- A call reads a byte: neither an empty recorder nor the line of a replacement character stops it at once.
-pub call-reads_some : {old new : HeldText} {stream bytes : List ℕ} {n : ℕ} → old ≡ empty_text
-    → StopsExactly (held_with_event line_of) is_to_be_written old default_limit stream bytes new n → 0 < length bytes
+pub call-reads_some : {old new : CollectedText} {stream bytes : List ℕ} {n : ℕ} → old ≡ empty_text
+    → StopsExactly (with_event line_of) is_to_be_written old default_limit stream bytes new n → 0 < length bytes
     → 0 < n
 unfolding reported_before
 call-reads_some {stream} {bytes} {n = zero} empty stops_exactly not_empty =
@@ -186,11 +186,11 @@ call-reads_some {stream} {bytes} {n = zero} empty stops_exactly not_empty =
 call-reads_some {n = suc n} empty stops_exactly not_empty = omega arith
 
 -- At a start where the recorder isn't terminated, at most half of the capacity is in use.
-pub lines-kept : {total_text : List ℕ → List ℕ} {n : ℕ} {parser next_parser : Parser 1024} {old new : HeldText}
+pub lines-kept : {total_text : List ℕ → List ℕ} {n : ℕ} {parser next_parser : Parser 1024} {old new : CollectedText}
     (unread : List ℕ)
     → GoesOnFromPositions default_limit → ReportsUnits default_limit → old ≡ empty_text
     → (before : AddsUpTo line_of total_text [] parser unread)
-    → StopsExactly (held_with_event line_of) is_to_be_written old default_limit before.already_read unread new n
+    → StopsExactly (with_event line_of) is_to_be_written old default_limit before.already_read unread new n
     → HasRead next_parser (resumed_stream before.already_read unread n)
     → HasKept line_of total_text new next_parser (drop n unread)
 lines-kept {total_text} {n} {parser} {old} unread goes_on units empty before stops_exactly parsed =
@@ -202,16 +202,16 @@ lines-kept {total_text} {n} {parser} {old} unread goes_on units empty before sto
         total_is =
             λ more. rw empty (before.total_is more);
       };
-      nothing_lost = ap (λ (held : HeldText). held.lost) empty;
+      nothing_lost = ap (λ (collected : CollectedText). collected.lost) empty;
     } in
     kept-by_call (reported_before default_limit already_read unread n) (resumed_stream already_read unread n) has_kept
     (λ more. goes_on already_read unread more n)
     parsed
     (stops_exactly.comes.performed
-    ∙ reported-taken line_of lines_are_small units already_read unread old has_kept.nothing_lost
+    ∙ reported-taken line_of line_units_fit units already_read unread old has_kept.nothing_lost
     (room-for_unit old (ap is_to_be_written empty)) n stops_exactly.comes.within
     (λ j earlier start.
-    room-for_unit (after (held_with_event line_of) old (reported_before default_limit already_read unread j))
+    room-for_unit (after (with_event line_of) old (reported_before default_limit already_read unread j))
     (stops_exactly.comes.earlier j earlier start)))
 
 -- ---- the text of a run is its bytes
@@ -241,27 +241,30 @@ after-more step event_of (first ∷ cs) c old new performed =
     after-more step event_of cs c (step old (event_of first)) new performed
 
 -- If a run has room, it is taken as its characters are, one after another.
-pub run-taken : (held : HeldText) (text : List ℕ) → IsUtf8 text → length held.bytes + length text ≤ capacity
-    → held_with_text held text ≡ after (held_with_event plain_text_of) held (map (run_event true) (chars text))
-run-taken held text utf8 fits =
-    text-taken_as_events plain_text_of held text (map (run_event true) (chars text))
+pub run-taken : (collected : CollectedText) (text : List ℕ) → IsUtf8 text
+    → length collected.bytes + length text ≤ capacity
+    → with_text collected text ≡ after (with_event plain_text_of) collected (map (run_event true) (chars text))
+run-taken collected text utf8 fits =
+    text-taken_as_events plain_text_of collected text (map (run_event true) (chars text))
     (sym (text_of-run (chars text) ∙ encodes-chars text utf8)) fits
 
 -- If all bytes of a chunk were read, its text is taken.
 pub text-kept : {total_text : List ℕ → List ℕ} {unread : List ℕ} {parser next_parser : Parser 1024}
-    {held next_held : HeldText} (chunk rest : List ℕ)
-    → BytesAreBrief → (has_kept : HasKept plain_text_of total_text held parser unread) → chunk ++ rest ≡ unread
-    → length held.bytes + 8 * length chunk ≤ capacity
-    → next_held ≡ after (held_with_event plain_text_of) held (added default_limit has_kept.adds_up.already_read chunk)
+    {collected next_collected : CollectedText} (chunk rest : List ℕ)
+    → BytesAreBrief → (has_kept : HasKept plain_text_of total_text collected parser unread) → chunk ++ rest ≡ unread
+    → length collected.bytes + 8 * length chunk ≤ capacity
+    → next_collected
+    ≡ after (with_event plain_text_of) collected (added default_limit has_kept.adds_up.already_read chunk)
     → HasRead next_parser (has_kept.adds_up.already_read ++ chunk)
-    → HasKept plain_text_of total_text next_held next_parser rest
-text-kept {held} chunk rest brief has_kept parts fits performed parsed =
+    → HasKept plain_text_of total_text next_collected next_parser rest
+text-kept {collected} chunk rest brief has_kept parts fits performed parsed =
     let already_read = has_kept.adds_up.already_read in
     let reported = added default_limit already_read chunk in
     let taken =
-    texts-taken plain_text_of held.bytes held.lost reported
+    texts-taken plain_text_of collected.bytes collected.lost reported
     (omega (arith, fits, text_grows_slowly brief already_read chunk)) in
     kept-by_call reported (already_read ++ chunk) has_kept
     (λ more. rw (← parts, append_assoc chunk rest more) (added-append default_limit already_read chunk (rest ++ more)))
     parsed
-    (performed ∙ taken ∙ ap (held_bytes (held.bytes ++ flat_map plain_text_of reported)) has_kept.nothing_lost)
+    (performed ∙ taken
+    ∙ ap (collected_bytes (collected.bytes ++ flat_map plain_text_of reported)) has_kept.nothing_lost)

@@ -2,7 +2,7 @@
 -- something takes a chunk off the input (`HasReadPart`), until one fails or gives nothing.
 use Rattle.std.specs.Io.KnownBytes.{Appends, Consumes, IsAtEnd, Keeps}
 use Rattle.event_log.proofs.Common.{AddsUpTo, ap, append-nil, append_assoc, arith, Bool, default_limit, Event, events, flat_map, HasRead, HasWritten, IfSome, inl, inr, length, length-append, List, None, Option, Parser, refl, Some, sym, true, ℕ, [], ◌++◌, ◌+◌, ◌<◌, ◌∙◌, ◌≡◌, ◌≤◌, ◌⊎◌}
-use Rattle.event_log.proofs.lemmas.HeldTexts.{adds_up-at_first}
+use Rattle.event_log.proofs.lemmas.CollectedTexts.{adds_up-at_first}
 use Rattle.event_log.specs.Device.{KeepsWhereKnown}
 use Rattle.event_log.specs.Run.{max_reads, WritesAll, WritesPrefix}
 use Rattle.vte_core.proofs.lemmas.streams.After.{added-nothing}
@@ -96,31 +96,32 @@ abbrev output_of : (Event → List ℕ) → List ℕ → List ℕ
 output_of text_of stream = flat_map text_of (events default_limit stream)
 
 -- A run has made this many reads, and each gave something.
-pub record HasReadPart (text_of : Event → List ℕ) (input held : List ℕ) (reads : ℕ) (parser : Parser 1024)
+pub record HasReadPart (text_of : Event → List ℕ) (input old_contents : List ℕ) (reads : ℕ) (parser : Parser 1024)
     (remaining contents : Option (List ℕ)) : Type 0 where
   pub stream : List ℕ
   pub rest : List ℕ
   pub parts : input ≡ stream ++ rest
   pub rest_is : remaining ≡ Some rest
   pub total_text : List ℕ → List ℕ
-  pub total_text_is : (more : List ℕ) → total_text more ≡ held ++ output_of text_of (stream ++ more)
+  pub total_text_is : (more : List ℕ) → total_text more ≡ old_contents ++ output_of text_of (stream ++ more)
   pub written : HasWritten text_of total_text contents parser []
   pub each_gave : reads ≤ length stream
 
 module _ {text_of : Event
-    → List ℕ} {input held : List ℕ} {parser : Parser 1024} {remaining contents : Option (List ℕ)} where
-  pub run-begins : events default_limit [] ≡ [] → remaining ≡ Some input → contents ≡ Some held → HasRead parser []
-      → HasReadPart text_of input held 0 parser remaining contents
-  run-begins no_events input_known held_known parsed = record {
+    → List ℕ} {input old_contents : List ℕ} {parser : Parser 1024} {remaining contents : Option (List ℕ)} where
+  pub run-begins : events default_limit [] ≡ [] → remaining ≡ Some input → contents ≡ Some old_contents
+      → HasRead parser []
+      → HasReadPart text_of input old_contents 0 parser remaining contents
+  run-begins no_events input_known contents_known parsed = record {
     stream = [];
     rest = input;
     parts = refl;
     rest_is = input_known;
-    total_text = λ more. held ++ output_of text_of more;
+    total_text = λ more. old_contents ++ output_of text_of more;
     total_text_is = λ more. refl;
     written = record {
-      written = held;
-      contents_are = held_known;
+      written = old_contents;
+      contents_are = contents_known;
       adds_up = record { already_read = []; parsed = parsed; total_is = λ more. rw no_events refl };
     };
     each_gave = omega arith;
@@ -128,11 +129,11 @@ module _ {text_of : Event
 
   pub run-reads_more : {reads : ℕ} {next_parser : Parser 1024} {next_remaining next_contents : Option (List ℕ)}
       (chunk : List ℕ)
-      → HasReadPart text_of input held reads parser remaining contents → Consumes remaining next_remaining chunk
+      → HasReadPart text_of input old_contents reads parser remaining contents → Consumes remaining next_remaining chunk
       → 0 < length chunk
       → ((total_text : List ℕ → List ℕ) → HasWritten text_of total_text contents parser []
       → HasWritten text_of (λ more. total_text (chunk ++ more)) next_contents next_parser [])
-      → HasReadPart text_of input held (reads + 1) next_parser next_remaining next_contents
+      → HasReadPart text_of input old_contents (reads + 1) next_parser next_remaining next_contents
   run-reads_more {next_remaining} chunk has_read consumes not_empty writes =
       let has_rest = known-consumed next_remaining has_read.rest chunk (rw has_read.rest_is at consumes) in
       record {
@@ -147,8 +148,8 @@ module _ {text_of : Event
       }
 
   -- All that was read is written.
-  run-has_written : {reads : ℕ} → (has_read : HasReadPart text_of input held reads parser remaining contents)
-      → contents ≡ Some (held ++ output_of text_of has_read.stream)
+  run-has_written : {reads : ℕ} → (has_read : HasReadPart text_of input old_contents reads parser remaining contents)
+      → contents ≡ Some (old_contents ++ output_of text_of has_read.stream)
   run-has_written has_read =
       let has_written = has_read.written in
       has_written.contents_are
@@ -159,9 +160,9 @@ module _ {text_of : Event
 
   -- A read that fails ends a run, and so do as many reads as there may be.
   pub run_ends-at_prefix : {reads : ℕ} {next_remaining : Option (List ℕ)} {failed : Bool}
-      → HasReadPart text_of input held reads parser remaining contents
+      → HasReadPart text_of input old_contents reads parser remaining contents
       → KeepsWhereKnown remaining next_remaining → (failed ≡ true) ⊎ (max_reads ≤ reads)
-      → WritesPrefix (output_of text_of) input held next_remaining contents failed
+      → WritesPrefix (output_of text_of) input old_contents next_remaining contents failed
   run_ends-at_prefix {next_remaining} has_read keeps cause = record {
     stream = has_read.stream;
     rest = has_read.rest;
@@ -176,9 +177,9 @@ module _ {text_of : Event
 
   -- A read that gives nothing ends a run.
   pub run_ends-with_all : {reads : ℕ} {next_remaining : Option (List ℕ)}
-      → HasReadPart text_of input held reads parser remaining contents
+      → HasReadPart text_of input old_contents reads parser remaining contents
       → Consumes remaining next_remaining [] → IsAtEnd next_remaining
-      → WritesAll (output_of text_of) input held next_remaining contents
+      → WritesAll (output_of text_of) input old_contents next_remaining contents
   run_ends-with_all {next_remaining} has_read consumes end =
       let has_rest = known-consumed next_remaining has_read.rest [] (rw has_read.rest_is at consumes) in
       let none_left : has_rest.rest ≡ [] = rw has_rest.rest_is at end in

@@ -1,7 +1,7 @@
 -- A line whose parts are appended one after another. It is kept only if all of them fit.
 use Rattle.std.specs.Prelude.{if◌then◌else◌, IsTrue, length, List, not, take, true, ℕ, ◌&&◌, ◌++◌, ◌||◌, ◌≡◌}
+use Rattle.event_log.specs.CollectedText.{has_room_after}
 use Rattle.event_log.specs.declared.lines.Lines.{Lines}
-use Rattle.event_log.specs.HeldText.{has_room_after}
 
 -- A line begins after the bytes that are there.
 pub record BeginsLine (old new : Lines) : Type 0 where

@@ -1,7 +1,7 @@
 -- The state of a run between two calls of the parser.
 use Rattle.std.specs.List.{flat_map}
 use Rattle.std.specs.Prelude.{false, List, Option, Some, ℕ, ◌++◌, ◌≡◌}
-use Rattle.event_log.specs.HeldText.{HeldText}
+use Rattle.event_log.specs.CollectedText.{CollectedText}
 use Rattle.vte_core.specs.declared.parser.Parser.{Parser}
 use Rattle.vte_core.specs.Event.{Event}
 use Rattle.vte_core.specs.Parser.{HasRead}
@@ -23,11 +23,11 @@ pub record AddsUpTo (text_of : Event → List ℕ) (total_text : List ℕ → Li
       ≡ total_text more
 
 -- The text is what a collector holds, and nothing was lost.
-pub record HasKept (text_of : Event → List ℕ) (total_text : List ℕ → List ℕ) (held : HeldText)
-    (parser : Parser 1024) (unread : List ℕ)
+pub record HasKept (text_of : Event → List ℕ) (total_text : List ℕ → List ℕ)
+    (collected : CollectedText) (parser : Parser 1024) (unread : List ℕ)
     : Type 0 where
-  pub adds_up : AddsUpTo text_of total_text held.bytes parser unread
-  pub nothing_lost : held.lost ≡ false
+  pub adds_up : AddsUpTo text_of total_text collected.bytes parser unread
+  pub nothing_lost : collected.lost ≡ false
 
 -- The text is all that a writer has taken.
 pub record HasWritten (text_of : Event → List ℕ) (total_text : List ℕ → List ℕ)

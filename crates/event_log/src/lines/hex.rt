@@ -1,6 +1,6 @@
 //! Lines of characters and single bytes, and hex digits.
 ghost use Rattle.std.specs.Prelude.{◌≡◌, ◌≤◌};
-ghost use Rattle.event_log.specs.HeldText.{held_text_of, held_with_text};
+ghost use Rattle.event_log.specs.CollectedText.{collected_text_of, with_text};
 ghost use Rattle.event_log.specs.Lines.{hex_byte, hex_length as hex_length_of, line_of, six_hex_digits as six_hex_digits_of};
 ghost use Rattle.vte_core.specs.Event.{Execute, Print, Put};
 
@@ -22,8 +22,8 @@ impl Lines {
     /// is a constant.
     #[inline(always)]
     pub(crate) fn append_print(&mut self, c: char)
-        ensures { held_text_of self.new
-            ≡ held_with_text (held_text_of self.old) (line_of (Print c)) }
+        ensures { collected_text_of self.new
+            ≡ with_text (collected_text_of self.old) (line_of (Print c)) }
     {
         let number = c as u32;
         match number {
@@ -43,8 +43,8 @@ impl Lines {
     #[inline(never)]
     fn append_long_print(&mut self, number: u32)
         requires { 0x10000 ≤ number }
-        ensures { held_text_of self.new
-            ≡ held_with_text (held_text_of self.old) (line_of (Print number)) }
+        ensures { collected_text_of self.new
+            ≡ with_text (collected_text_of self.old) (line_of (Print number)) }
     {
         let [first, second, third, fourth, fifth, sixth] = six_hex_digits(number);
         match number {

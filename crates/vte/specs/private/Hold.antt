@@ -26,16 +26,17 @@ pub record IsHeldTail (held more text : List ℕ) (start : ℕ) : Type 0 where
 
 -- The result of adding the last `new` of these bytes to the others.
 pub record FindsRelease (bytes : List ℕ) (new : ℕ) (release : Release) : Type 0 where
-  pub begins : release.begins ≡ begins_ending_in_last new (part_after_last_end bytes)
+  pub begin_count : release.begin_count ≡ begins_ending_in_last new (part_after_last_end bytes)
   pub released : release.released ≡ length bytes - length (still_held bytes)
 
 -- Bytes were added to those that were held.
 pub record AddsToHold {A : Type 0} (held more : List ℕ) (hold : SyncState A)
-    (begins : ℕ) : Type 0 where
+    (begin_count : ℕ) : Type 0 where
   pub held_is : held_of hold ≡ still_held (held ++ more)
   pub released_is : released_of hold
       ≡ take (length (held ++ more) - length (still_held (held ++ more))) (held ++ more)
-  pub begins_are : begins ≡ begins_ending_in_last (length more) (part_after_last_end (held ++ more))
+  pub begin_count_is : begin_count
+      ≡ begins_ending_in_last (length more) (part_after_last_end (held ++ more))
 
 -- Neither an update begins nor one ends with the sequence at this position.
 pub record HasNoSequenceAt (text : List ℕ) (position : ℕ) : Type 0 where

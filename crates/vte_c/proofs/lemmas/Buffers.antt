@@ -3,9 +3,9 @@
 -- (`entries-unit_more`), and a run of the input (`entries-run`).
 use Rattle.std.proofs.lemmas.List.Folds.{list_any-append}
 use Rattle.std.proofs.Math.Bool.{or-false, or_assoc}
-use Rattle.vte_c.proofs.Common.{add-zero, after, All, All-head, All-tail, any_of_kinds, ap, append-nil, append_assoc, AreaHolds, AreBrief, AreGroups, AreReadable, arith, AtMostOneFollowsStop, Bool, Buffers, buffers_of, buffers_with_event, cases_Bool, concat, contains_kind, count_of, CsiDispatch, data_of, DataRun, default_limit, Entry, entry_data, EscDispatch, Event, event_kind, EventWriter, Execute, false, filter-append, flag_byte, flat_map, flat_map-append, group_bytes, has_room_for_record, HasEntries, Hook, if◌then◌else◌, InInput, inl, InputRunKind, inr, IsBounded, IsNonEmpty, IsRunAt, IsShort, kinds_of, len_utf8_bounds, length, length-append, length-encode, length-map, List, map, map-append, max_data_per_byte, may_have_lost, must_return, nat_lt, nat_tests, NoRecordStops, or_parts, OscDispatch, piece_bytes, Print, Put, record_at, records_from, refl, resumed, run_kind, run_record, Single, subst, sum_by-cons, sym, take, TextRun, true, two_bytes, Unhook, VteEvent, wanted_events, with_entries, with_record, with_record_alone, without_loss, ℕ, [], ◌%◌, ◌*◌, ◌++◌, ◌+◌, ◌<◌, ◌∙◌, ◌∷◌, ◌≡◌, ◌≤◌}
+use Rattle.vte_c.proofs.Common.{add-zero, after, All, All-head, All-tail, any_of_kinds, ap, append-nil, append_assoc, AreaHolds, AreBrief, AreGroups, AreReadable, arith, AtMostOneFollowsStop, Bool, Buffers, buffers_of, buffers_with_event, cases_Bool, concat, contains_kind, count_of, CsiDispatch, data_of, DataRun, default_limit, Entry, entry_data, EscDispatch, Event, event_kind, EventWriter, Execute, false, filter-append, flag_byte, flat_map, flat_map-append, group_bytes, has_room_for_record, HasEntries, Hook, if◌then◌else◌, InInput, inl, InputRunKind, inr, IsBounded, IsCharacterEvent, IsNonEmpty, IsRunAt, kinds_of, len_utf8_bounds, length, length-append, length-encode, length-map, List, map, map-append, max_data_per_byte, may_have_lost, must_return, nat_lt, nat_tests, NoRecordStops, or_parts, OscDispatch, piece_bytes, Print, Put, record_at, records_from, refl, resumed, run_kind, run_record, Single, subst, sum_by-cons, sym, take, TextRun, true, two_bytes, Unhook, VteEvent, wanted_events, with_entries, with_record, with_record_alone, without_loss, ℕ, [], ◌%◌, ◌*◌, ◌++◌, ◌+◌, ◌<◌, ◌∙◌, ◌∷◌, ◌≡◌, ◌≤◌}
 use Rattle.vte_c.proofs.lemmas.Continuations.{no_kind_stops-append, no_kind_stops-none}
-use Rattle.vte_core.proofs.lemmas.places.PlaceLeads.{short_bounded}
+use Rattle.vte_core.proofs.lemmas.places.PlaceLeads.{character_event_bounded}
 use Rattle.vte_core.proofs.lemmas.streams.After.{after_events-append}
 
 -- ---- how long the data of an event are
@@ -56,11 +56,11 @@ data_of-at_most (OscDispatch pieces bell) bounded = omega (arith, length-piece_b
 data_of-at_most (CsiDispatch groups ints ignore final) bounded = omega (arith, group_bytes-at_most groups bounded.0)
 data_of-at_most _ bounded = omega arith
 
--- The second event that a byte adds is short.
-data_of-short : (event : Event) → IsShort event → length (data_of event) ≤ 4
-data_of-short (Print c) short = omega (arith, length-encode c, (len_utf8_bounds c).1)
-data_of-short (Execute byte) short = omega arith
-data_of-short _ short = absurd short
+-- The second event that a byte adds is a character event, with little data.
+data_of-character_event : (event : Event) → IsCharacterEvent event → length (data_of event) ≤ 4
+data_of-character_event (Print c) short = omega (arith, length-encode c, (len_utf8_bounds c).1)
+data_of-character_event (Execute byte) short = omega arith
+data_of-character_event _ short = absurd short
 
 -- ---- entries one after the other, if the buffers aren't full in between
 
@@ -97,7 +97,7 @@ no_record_stops-not_returning {old} {new} {input} {entries} has_entries not_retu
     let has_stopped : new.has_stopped ≡ false = grind (arith, nat_tests) in
     no_kind_stops-none old.stop_kinds (records_from old.data_used entries)
     (or_parts old.has_stopped (any_of_kinds old.stop_kinds (records_from old.data_used entries))
-    (sym (ap (λ (held : Buffers). held.has_stopped) has_entries.written) ∙ has_stopped)).1
+    (sym (ap (λ (stored : Buffers). stored.has_stopped) has_entries.written) ∙ has_stopped)).1
 
 readable-append : (input : List ℕ) (front back : List Entry) → AreReadable input front → AreReadable input back
     → AreReadable input (front ++ back)
@@ -134,12 +134,12 @@ pub entries-then : {old mid new : Buffers} {input : List ℕ} {front back : List
 entries-then {old} {mid} {new} {input} {front} {back} has_front not_returning has_back =
     let before = records_from old.data_used front in
     let back_stops =
-    subst (λ (held : Buffers). AtMostOneFollowsStop held.stop_kinds (kinds_of (records_from held.data_used back)))
+    subst (λ (stored : Buffers). AtMostOneFollowsStop stored.stop_kinds (kinds_of (records_from stored.data_used back)))
     has_front.written has_back.at_most_one_follows in
     record {
       readable = readable-append input front back has_front.readable has_back.readable;
       written =
-          has_back.written ∙ ap (λ (held : Buffers). with_entries held back) has_front.written
+          has_back.written ∙ ap (λ (stored : Buffers). with_entries stored back) has_front.written
           ∙ with_entries-append old front back;
       at_most_one_follows = record {
         before = kinds_of before ++ back_stops.before;
@@ -297,12 +297,12 @@ entries-event input buffers event bounded not_paused room_for =
     ]
 
 -- One event has at most one entry, with no more data.
-record AreFew (buffers : Buffers) (event : Event) : Type 0 where
+record AddsAtMostOneEntry (buffers : Buffers) (event : Event) : Type 0 where
   pub count : length (entries_of buffers (event ∷ [])) ≤ 1
   pub size : length (flat_map entry_data (entries_of buffers (event ∷ []))) ≤ length (data_of event)
 
-event-has_few : (buffers : Buffers) (event : Event) → AreFew buffers event
-event-has_few buffers event = elim (cases_Bool (contains_kind buffers.kinds (event_kind event))) [
+event-adds_at_most_one : (buffers : Buffers) (event : Event) → AddsAtMostOneEntry buffers event
+event-adds_at_most_one buffers event = elim (cases_Bool (contains_kind buffers.kinds (event_kind event))) [
   | inl wanted ↦
       record { count = rw wanted (omega arith); size = rw wanted (omega (arith, length-append (data_of event) [])) }
   | inr other ↦ record { count = rw other (omega arith); size = rw other (omega arith) }
@@ -322,25 +322,25 @@ entries-unit input buffers (event ∷ last ∷ []) brief not_returning =
     let room_for = not_returning-has_room buffers not_returning in
     -- The first event has at most 1,088 bytes of data, and the last one at most four.
     let size = data_of-at_most event brief.0 in
-    let short = data_of-short last brief.1 in
+    let short = data_of-character_event last brief.1 in
     -- Each has at most one entry, with no more data than the event.
-    let first_few = event-has_few buffers event in
-    let last_few = event-has_few buffers last in
+    let first_adds = event-adds_at_most_one buffers event in
+    let last_adds = event-adds_at_most_one buffers last in
     let next : Buffers = resumed (buffers_with_event buffers event) in
     -- The buffers aren't full, so they have room for the first event.
     let first =
     entries-event input buffers event brief.0 (not_returning-not_paused buffers not_returning)
     (record { records_fit = omega (arith, room_for.records_fit); data_fits = omega (arith, room_for.data_fits) }) in
     -- After that event, the buffers differ from the old ones by the entry alone.
-    let kinds : next.kinds ≡ buffers.kinds = ap (λ (held : Buffers). held.kinds) first.written in
-    let count = ap (λ (held : Buffers). held.record_count) first.written in
-    let same_capacity = ap (λ (held : Buffers). held.record_capacity) first.written in
-    let used = ap (λ (held : Buffers). held.data_used) first.written in
-    let same_size = ap (λ (held : Buffers). held.data_capacity) first.written in
+    let kinds : next.kinds ≡ buffers.kinds = ap (λ (stored : Buffers). stored.kinds) first.written in
+    let count = ap (λ (stored : Buffers). stored.record_count) first.written in
+    let same_capacity = ap (λ (stored : Buffers). stored.record_capacity) first.written in
+    let used = ap (λ (stored : Buffers). stored.data_used) first.written in
+    let same_size = ap (λ (stored : Buffers). stored.data_capacity) first.written in
     -- So what is left is enough for the last event.
     let room_for_last : HasRoomFor next 1 (length (data_of last)) = record {
-      records_fit = omega (arith, room_for.records_fit, first_few.count, count, same_capacity);
-      data_fits = omega (arith, room_for.data_fits, first_few.size, size, short, used, same_size);
+      records_fit = omega (arith, room_for.records_fit, first_adds.count, count, same_capacity);
+      data_fits = omega (arith, room_for.data_fits, first_adds.size, size, short, used, same_size);
     } in
     -- The last event is written into these buffers, which report the same kinds.
     let second =
@@ -348,7 +348,7 @@ entries-unit input buffers (event ∷ last ∷ []) brief not_returning =
     (λ (asked : ℕ).
     HasEntries next (resumed (buffers_with_event next last)) input (map Single (wanted_events asked (last ∷ []))))
     kinds
-    (entries-event input next last (short_bounded default_limit last brief.1) refl room_for_last) in
+    (entries-event input next last (character_event_bounded default_limit last brief.1) refl room_for_last) in
     -- The entries of both events are those of the first, followed by those of the last.
     let both : entries_of buffers (event ∷ last ∷ [])
     ≡ entries_of buffers (event ∷ []) ++ entries_of buffers (last ∷ []) =
@@ -358,14 +358,14 @@ entries-unit input buffers (event ∷ last ∷ []) brief not_returning =
     rw (event-resumed (buffers_with_event buffers event) last, both) (record {
       readable = readable-append input _ _ first.readable second.readable;
       written =
-          second.written ∙ ap (λ (held : Buffers). with_entries held (entries_of buffers (last ∷ []))) first.written
+          second.written ∙ ap (λ (stored : Buffers). with_entries stored (entries_of buffers (last ∷ []))) first.written
           ∙ with_entries-append buffers _ _;
       at_most_one_follows = follows_stop-two buffers.stop_kinds buffers.data_used
           (entries_of buffers (event ∷ []) ++ entries_of buffers (last ∷ []))
           (omega (
             arith,
-            first_few.count,
-            last_few.count,
+            first_adds.count,
+            last_adds.count,
             length-append (entries_of buffers (event ∷ [])) (entries_of buffers (last ∷ [])),
           ));
     })
@@ -381,7 +381,7 @@ entries-unit_more {old} input buffers before unit has_entries not_returning brie
     -- The buffers before the unit aren't full, so they aren't paused either.
     let same : resumed mid ≡ mid = resumed-same mid (not_returning-not_paused mid not_returning) in
     let first : HasEntries old mid input (entries_of old before) = rw same at has_entries in
-    let kinds : mid.kinds ≡ old.kinds = ap (λ (held : Buffers). held.kinds) first.written in
+    let kinds : mid.kinds ≡ old.kinds = ap (λ (stored : Buffers). stored.kinds) first.written in
     -- The unit is written into these buffers, which report the kinds of the old ones.
     rw (after_events-append buffers_with_event buffers before unit, filter-append, map-append)
     (entries-then first not_returning

@@ -3,8 +3,8 @@
 use Rattle.vte_c.proofs.Common.{added, after, ap, append-nil, AreCharacters, AreEmptyBuffers, arith, Bool, breaks_at, Buffers, buffers_with_event, cases_Bool, cases_lt, chars, ComesTo, contains_kind, data_of, DataRun, default_limit, drop, drop-drop, entry_events, Event, event_kind, events_of_run, false, false≢true, filter-append, flat_map, flat_map-append, GoesOnFromPositions, HasEntries, HasRead, HasReadOn, if◌then◌else◌, InInput, inl, InputRunKind, inr, is_stop, IsRunAt, IsRunOfKind, len_utf8_bounds, length, length-append, length-drop, length-encode, List, map, must_return, nat_tests, NoRecordStops, NoRunStops, OpensSilently, Parser, Print, Put, ReadsOn, refl, replacement, reported_before, ReportsUnits, resumed, resumed_stream, run_kind, run_record, Single, subst, sym, take, TextRun, true, wanted_events, with_entries, with_run, with_run_record, with_taken, zero-add, ℕ, [], ◌++◌, ◌+◌, ◌-◌, ◌<◌, ◌∙◌, ◌∷◌, ◌≡◌, ◌≤◌}
 use Rattle.vte_c.proofs.lemmas.Buffers.{entries-nothing, entries-run, entries-then, entries-unit_more, entries_of, event-passed, event-written, no_record_stops-not_returning, not_returning-not_paused, paused-after_event, resumed-not_returning, resumed-same}
 use Rattle.vte_c.proofs.lemmas.Continuations.{continues-added, continues-call, continues-nothing, continues-then, no_event_stops-append, no_event_stops-before, no_event_stops-earlier, no_event_stops-entries, no_event_stops-front, no_event_stops-reported, no_event_stops-run}
-use Rattle.vte_core.proofs.lemmas.EarlyStops.{passed-at}
 use Rattle.vte_core.proofs.lemmas.streams.After.{added-nothing}
+use Rattle.vte_core.proofs.lemmas.streams.EarlyStops.{passed-at}
 use Rattle.vte_core.specs.AdvanceToRun.{IsLongestRun, ReturnsRun, run_bytes, run_events, taken_bytes}
 use Rattle.vte_core.specs.declared.reader.run.Run.{Run}
 use Rattle.vte_core.specs.declared.reader.run.Taken.{Taken}
@@ -129,7 +129,7 @@ module _ (old new : Buffers) (already_read bytes : List ℕ) (from n : ℕ) (law
     continues = continues-call laws.goes_on already_read (drop from bytes) n;
     events_are = events-singles bytes (wanted_events old.kinds (given_at n));
     holds =
-        subst (λ (held : Buffers). HasEntries old (resumed held) bytes (entries_of old (given_at n)))
+        subst (λ (stored : Buffers). HasEntries old (resumed stored) bytes (entries_of old (given_at n)))
         (sym comes.performed) (given-written n (omega arith));
     no_stop_before = λ no_run_stops.
         no_event_stops-before (is_stop old.kinds old.stop_kinds) no_run_stops.0 already_read
@@ -165,8 +165,8 @@ reads_on-then {old} {mid} {already_read} {bytes} {from} {n} {m} reads not_return
     let size = length-drop from bytes in
     -- The second step begins n bytes after the first, with the same kinds and stops.
     let rest : drop (from + n) bytes ≡ drop n unread = sym (drop-drop n from bytes) in
-    let kinds : mid.kinds ≡ old.kinds = ap (λ (held : Buffers). held.kinds) reads.holds.written in
-    let stops : mid.stop_kinds ≡ old.stop_kinds = ap (λ (held : Buffers). held.stop_kinds) reads.holds.written in
+    let kinds : mid.kinds ≡ old.kinds = ap (λ (stored : Buffers). stored.kinds) reads.holds.written in
+    let stops : mid.stop_kinds ≡ old.stop_kinds = ap (λ (stored : Buffers). stored.stop_kinds) reads.holds.written in
     record {
       given = reads.given ++ reads_on.given;
       entries = reads.entries ++ reads_on.entries;

@@ -1,9 +1,9 @@
 -- A parser that read a part of a call goes on as one that has read another stream (`Continues`), and so it does after
 -- the next part: what the parts add is joined.
 use Rattle.vte_c.proofs.Common.{add-one, add_assoc, added, any_of_kinds, ap, append-nil, append_assoc, arith, Bool, breaks, breaks_at, cases_Bool, chars, contains_kind, Continues, DataRun, default_limit, drop, drop-drop, Entry, entry_data, entry_events, Event, event_kind, events_of_run, false, flat_map, get_or, GoesOnFromPositions, if◌then◌else◌, InInput, inl, InputRunKind, inr, is_stop, IsPrefix, IsStart, length, length-drop, List, map, NoEventStops, NoKindStops, NoRecordStops, open_character, OpensSilently, or_parts, Print, Put, records_from, refl, replacement, reported_before, resumed_stream, run_kind, Single, suc, sym, take, take-add, take-append-drop, take_more, TextRun, true, VteEvent, wanted_events, zero, zero-add, ℕ, [], ◌++◌, ◌+◌, ◌-◌, ◌<◌, ◌∙◌, ◌∷◌, ◌≡◌, ◌≤◌}
-use Rattle.vte_core.proofs.lemmas.EarlyStops.{added-append}
 use Rattle.vte_core.proofs.lemmas.shapes.BrokenCharacters.{breaks-next}
 use Rattle.vte_core.proofs.lemmas.streams.After.{added-nothing}
+use Rattle.vte_core.proofs.lemmas.streams.EarlyStops.{added-append}
 
 -- ---- some events are the first of others (`IsPrefix`)
 

@@ -279,11 +279,12 @@ module _ (old new : EventWriter) (input : List ℕ) (entries : List Entry) (are_
     entries = entries;
     events_are = refl;
     readable = readable-later input more entries has_entries.readable;
-    count_is = omega (arith, ap (λ (held : Buffers). held.record_count) has_entries.written, are_empty.record_count);
+    count_is =
+        omega (arith, ap (λ (stored : Buffers). stored.record_count) has_entries.written, are_empty.record_count);
     records_are =
-        rw (are_empty.records, are_empty.data_used) at (ap (λ (held : Buffers). held.records) has_entries.written);
-    used_is = omega (arith, ap (λ (held : Buffers). held.data_used) has_entries.written, are_empty.data_used);
-    data_is = rw are_empty.area at (ap (λ (held : Buffers). held.area) has_entries.written);
+        rw (are_empty.records, are_empty.data_used) at (ap (λ (stored : Buffers). stored.records) has_entries.written);
+    used_is = omega (arith, ap (λ (stored : Buffers). stored.data_used) has_entries.written, are_empty.data_used);
+    data_is = rw are_empty.area at (ap (λ (stored : Buffers). stored.area) has_entries.written);
   }
 
   -- A caller finds the events.
@@ -309,8 +310,8 @@ call-fed {old} {new} {given} {stream} {bytes} {rest} {n} are_empty has_reported 
     let there = events-encoded old new bytes reads_on.entries are_empty reads_on.holds in
     let finds = events-found old new bytes reads_on.entries are_empty reads_on.holds in
     record {
-      same_records_name = ap (λ (held : Buffers). held.records_name) reads_on.holds.written;
-      same_area_name = ap (λ (held : Buffers). held.area_name) reads_on.holds.written;
+      same_records_name = ap (λ (stored : Buffers). stored.records_name) reads_on.holds.written;
+      same_area_name = ap (λ (stored : Buffers). stored.area_name) reads_on.holds.written;
       reads_some = λ no_stops. further (rw (kinds-without_loss (take new.record_count new.records.now)) no_stops);
       at_most_one_follows =
           rw (

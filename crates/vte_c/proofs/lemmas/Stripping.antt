@@ -2,8 +2,8 @@
 -- short enough has room for its text.
 use Rattle.event_log.proofs.lemmas.Lengths.{text_of-run}
 use Rattle.vte_c.proofs.Common.{add-zero, add_assoc, added, after, ap, append-nil, append_assoc, arith, cases_Bool, chars, default_limit, encodes-chars, Event, false, flat_map-append, HasRead, inl, inr, IsUtf8, le-leb, length, length-append, List, map, nat_le, nat_tests, Parser, plain_text, plain_text_of, refl, sym, take, text_with, text_with_event, true, WrittenText, ℕ, [], ◌&&◌, ◌*◌, ◌++◌, ◌+◌, ◌<◌, ◌∙◌, ◌∷◌, ◌≡◌, ◌≤◌}
-use Rattle.vte_core.proofs.lemmas.EarlyStops.{added-append}
 use Rattle.vte_core.proofs.lemmas.streams.After.{added-nothing}
+use Rattle.vte_core.proofs.lemmas.streams.EarlyStops.{added-append}
 use Rattle.vte_core.specs.Text.{run_event}
 
 -- ---- texts that have room
@@ -95,8 +95,8 @@ has_text-more {old} {new} {stream} {bytes} {n} chunk has_fitted slow has_text pa
       holds =
           rw (parts, added-append default_limit stream (take n bytes) chunk, flat_map-append plain_text_of before more)
           (performed
-          ∙ events-written_in_full new more (ap (λ (held : WrittenText). held.fits) has_text.holds ∙ has_fitted)
+          ∙ events-written_in_full new more (ap (λ (written : WrittenText). written.fits) has_text.holds ∙ has_fitted)
           (omega (arith, fits, slow))
-          ∙ ap (λ (held : WrittenText). with_all held (plain_text more)) has_text.holds
+          ∙ ap (λ (written : WrittenText). with_all written (plain_text more)) has_text.holds
           ∙ with_all-append old (plain_text before) (plain_text more));
     }

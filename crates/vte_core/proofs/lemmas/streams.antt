@@ -7,3 +7,7 @@ pub mod StreamSteps
 pub mod Parts
 -- What is open at the end began at the last ESC, or is a few bytes of a character.
 pub mod OpenLaws
+-- From places to what is reported before a position of a call (`goes_on_from`).
+pub mod EarlyStops
+-- From groups of parameters to their text, and back. The answers of `params/` use it.
+pub mod ParameterTexts

@@ -6,7 +6,7 @@ use Rattle.vte_core.specs.declared.parser.open.Open.TheVariants as kind
 use Rattle.vte_core.specs.declared.parser.State.{State}
 use Rattle.vte_core.specs.declared.parser.State.TheVariants.{ControlSequence, DeviceControl, DeviceData, Escape, EscapeIntermediate, IgnoredString, SystemCommand, Text}
 use Rattle.vte_core.specs.declared.utf8.Unfinished.TheVariants.{Empty}
-use Rattle.vte_core.specs.private.HeldHead.{HasReadHead, HoldsIntermediates}
+use Rattle.vte_core.specs.private.CollectedHead.{HasReadHead, HoldsIntermediates}
 use Rattle.vte_core.specs.private.OpenCharacter.{bytes_of, may_continue}
 use Rattle.vte_core.specs.private.Place.{AtEscape, InControlSequence, InDeviceControl, InDeviceData, InEscape, InIgnoredString, InSystemCommand, InText, IsAfter, Place}
 use Rattle.vte_core.specs.private.Store.{HoldsItems}
@@ -18,10 +18,10 @@ IsPlaceOfState limit (Text unfinished) parser (InText bytes) =
 IsPlaceOfState limit Escape parser AtEscape = HoldsIntermediates parser.collected []
 IsPlaceOfState limit EscapeIntermediate parser (InEscape intermediates) =
     HoldsIntermediates parser.collected intermediates
-IsPlaceOfState limit (ControlSequence progress) parser (InControlSequence head) =
-    HasReadHead parser.collected progress head
-IsPlaceOfState limit (DeviceControl progress) parser (InDeviceControl head) =
-    HasReadHead parser.collected progress head
+IsPlaceOfState limit (ControlSequence reached) parser (InControlSequence head) =
+    HasReadHead parser.collected reached head
+IsPlaceOfState limit (DeviceControl reached) parser (InDeviceControl head) =
+    HasReadHead parser.collected reached head
 IsPlaceOfState limit DeviceData parser InDeviceData = ⊤
 IsPlaceOfState limit SystemCommand parser (InSystemCommand items) =
     HoldsItems limit parser.command items
@@ -46,8 +46,8 @@ open_in (Text Empty) = kind.Nothing
 open_in (Text begun) = kind.Character
 open_in Escape = kind.EscapeSequence
 open_in EscapeIntermediate = kind.EscapeSequence
-open_in (ControlSequence progress) = kind.ControlSequence
-open_in (DeviceControl progress) = kind.DeviceControl
+open_in (ControlSequence reached) = kind.ControlSequence
+open_in (DeviceControl reached) = kind.DeviceControl
 open_in DeviceData = kind.DeviceControl
 open_in SystemCommand = kind.SystemCommand
 open_in IgnoredString = kind.IgnoredString

@@ -11,8 +11,8 @@ pub use Rattle.vte_core.specs.Outcome.{SaysLoss}
 pub use Rattle.vte_core.specs.OutsideRuns.{ReportsOutsideRuns}
 pub use Rattle.vte_core.specs.Parameters.{is_separator}
 pub use Rattle.vte_core.specs.private.AtPlace.{HasReadWithLimit, IsAtPlace}
+pub use Rattle.vte_core.specs.private.CollectedHead.{CountsNumbers, HasReadHead, HoldsHead, HoldsIntermediates, HoldsNumbers, HoldsWholeHead, ReadsHeadUpTo, SameIntermediates, SameNumbers, with_open_number}
 pub use Rattle.vte_core.specs.private.Costs.{caller_looks, Costs, HandlesByteWithin, IsRefusedAt, lookahead, ReadsCall, ReadsWithin, SpendsWithin}
-pub use Rattle.vte_core.specs.private.HeldHead.{CountsNumbers, HasReadHead, HoldsHead, HoldsIntermediates, HoldsNumbers, HoldsWholeHead, ReadsHeadUpTo, SameIntermediates, SameNumbers, with_open_number}
 pub use Rattle.vte_core.specs.private.OpenCharacter.{BeginsFour, BeginsThree, BeginsTwo, bytes_of, Extends, IsLead, second_range}
 pub use Rattle.vte_core.specs.private.Place.{AtEscape, closing_events_at, InControlSequence, InDeviceControl, IsSettledPlace, Place}
 pub use Rattle.vte_core.specs.private.Progress.{Advances, AnyEvents, chunk_call, Completes, EventsOutsideRuns, IsAtPosition, IsSettled, MayRead, MayReadAt, MayReadByte, ReadsUntilRefused, ReadsUpTo}

@@ -35,8 +35,8 @@ flag_of byte = not (byte == 0)
 
 -- The state is one in which numbers count.
 abbrev pub IsInHead : State → Type 0
-IsInHead (ControlSequence progress) = ⊤
-IsInHead (DeviceControl progress) = ⊤
+IsInHead (ControlSequence reached) = ⊤
+IsInHead (DeviceControl reached) = ⊤
 IsInHead _ = ⊥
 
 -- The state is one in which intermediates count.

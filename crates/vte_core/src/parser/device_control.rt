@@ -50,16 +50,16 @@ impl<B: Buffer> Machine<B> {
         &mut self,
         reader: &mut Reader,
         performer: &mut P,
-        progress: HeadProgress,
+        reached: HeadProgress,
         byte: u8,
     )
         requires { is_final (class_of byte) ≡ true }
-        ensures takes { (head : List ℕ) → HasReadHead self.old.collected progress head
+        ensures takes { (head : List ℕ) → HasReadHead self.old.collected reached head
             → TakesByte P.step (P.value_of performer.old) (P.value_of performer.new) B.limit
             (InDeviceControl head) byte self.new }
         ensures handles { HandlesByteWithin 1 self.old self.new reader.old reader.new }
     {
-        if let HeadProgress::IllShaped = progress {
+        if let HeadProgress::IllShaped = reached {
             self.state = State::IgnoredString;
             return;
         }

@@ -126,13 +126,13 @@ impl<B: Buffer> Machine<B> {
             State::EscapeIntermediate => {
                 self.read_intermediates::<P, G, MAY_STOP>(reader, performer, input, from)
             }
-            State::ControlSequence(progress) => {
+            State::ControlSequence(reached) => {
                 self.read_numbers_and_rest::<P, G, MAY_STOP>(
-                    reader, performer, input, from, progress,
+                    reader, performer, input, from, reached,
                 )
             }
-            State::DeviceControl(progress) => {
-                self.read_device_control::<P, G, MAY_STOP>(reader, performer, input, from, progress)
+            State::DeviceControl(reached) => {
+                self.read_device_control::<P, G, MAY_STOP>(reader, performer, input, from, reached)
             }
             State::DeviceData => {
                 self.read_device_data::<P, G, MAY_STOP>(reader, performer, input, from)

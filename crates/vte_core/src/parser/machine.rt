@@ -22,7 +22,7 @@ impl<B: Buffer> Machine<B> {
     /// Creates a machine that has read nothing, over an empty buffer.
     // cargo instead: pub(crate) const fn new(bytes: B) -> Self
     pub(crate) fn new(bytes: B) -> Self
-        requires { B.held bytes ≡ [] }
+        requires { B.stored bytes ≡ [] }
         ensures reads { HasReadWithLimit B.limit result [] }
         ensures capacity_is { result.command.capacity ≡ B.capacity bytes }
     {

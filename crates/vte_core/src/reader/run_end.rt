@@ -11,11 +11,13 @@ use crate::reader::{CountedPerform, Granularity, Input, Reader};
 use crate::utf8::{is_continuation, is_lead, is_printed_ascii, may_begin_four, may_begin_three};
 
 /// How many bytes of a run are read one by one or by words, before blocks.
-// proof: 66 bytes pay for the looks of blocks (specs/private/Costs).
+// Blocks from the 24th byte on took 1.14 times the instructions on lines of prose
+// (docs/DECISIONS.md).
+// proof: At least 66 bytes, which pay for the looks of blocks (specs/private/Costs).
 const SHORT_RUN: usize = 96;
 
 /// The same for a run without ASCII, whose characters cost more one by one.
-// proof: at one look per byte, nine bytes pay for the looks of blocks.
+// proof: At least nine bytes, which pay for the looks of blocks at one look per byte.
 const SHORT_NON_ASCII_RUN: usize = 24;
 
 impl Reader {
@@ -105,8 +107,7 @@ impl Reader {
         }
     }
 
-    /// Returns the end of a run that already reaches `from`. The character before `from` isn't
-    /// ASCII.
+    /// After a character that isn't ASCII, returns the end of a run that already reaches `from`.
     // The loop is that of `find_run_end_up_to`, but blocks begin later once the run has had ASCII.
     #[inline(never)]
     pub(crate) fn find_run_end_after_non_ascii<P: CountedPerform<G>, G: Granularity>(
@@ -140,8 +141,8 @@ impl Reader {
         self.find_run_end_by_blocks(input, end, layout)
     }
 
-    /// Returns the end of a run that already reaches `from`. With `layout`, HT, LF and CR don't end
-    /// it.
+    /// By bytes and words, then by blocks, returns the end of a run that already reaches `from`.
+    /// With `layout`, HT, LF and CR don't end it.
     #[inline(always)]
     pub(crate) fn find_run_end(&mut self, input: Input<'_>, from: usize, layout: bool) -> usize
         requires { from ≤ length input.bytes.now }
@@ -158,8 +159,8 @@ impl Reader {
         }
     }
 
-    /// Returns the end of a run that already reaches `from`. The search also stops at the first
-    /// character of the run that ends at `to` or later.
+    /// Up to `to`, by bytes and words alone, returns the end of a run that already reaches `from`.
+    /// The search also stops at the first character of the run that ends at `to` or later.
     #[inline(always)]
     fn find_run_end_up_to(
         &mut self,
@@ -191,7 +192,7 @@ impl Reader {
         end
     }
 
-    /// Returns the end of a long run that already reaches `from`.
+    /// By blocks from the start, returns the end of a long run that already reaches `from`.
     #[inline(never)]
     fn find_run_end_by_blocks(&mut self, input: Input<'_>, from: usize, layout: bool) -> usize
         requires has_three_before { 3 ≤ from }

@@ -5,7 +5,7 @@ use Rattle.event_log.proofs.pipeline.write_chunk.Given as goal
 abbrev pub invariant-loop-unread : goal.invariant-loop-unread
 invariant-loop-unread g l = record {
   reads : HasReadStream l.parser;
-  empty : g.C.Collector.held_text_of l.collector ≡ empty_text;
+  empty : g.C.Collector.collected_text_of l.collector ≡ empty_text;
   written : (total_text : List ℕ → List ℕ)
       → HasWritten g.C.Collector.text_of total_text (g.W.Sink.contents l.fn.writer) l.fn.parser [] →
       HasWritten g.C.Collector.text_of (λ more. total_text (l.fn.chunk ++ more)) (g.W.Sink.contents l.writer) l.parser

@@ -1,5 +1,5 @@
 -- What the collector collected is appended to what was written (`written-more`).
-use Rattle.event_log.proofs.lemmas.HeldTexts.{adds_up-at_first}
+use Rattle.event_log.proofs.lemmas.CollectedTexts.{adds_up-at_first}
 use Rattle.event_log.proofs.lemmas.Progress.{written-more}
 use Rattle.event_log.proofs.pipeline.write_some.Goals as goal
 

@@ -40,9 +40,10 @@ module _ {V W : Type 0} (meaning : Meaning V W) where
 
 -- The hold has the new bytes, and the timeout was set as often as they begin updates.
 module _ {P B T A V W : Type 0} {view : EngineView P B T W} (meaning : Meaning V W) {state : State V W} {more : List ℕ}
-    {old : Engine P B T A} {hold : SyncState A} {timeout : T} {begins : ℕ} {value : V}
-    (is_at : EngineIsAt view old value state) (added : AddsToHold state.held more hold begins)
-    (is_set : view.timeout_of timeout ≡ timeout_set_times meaning.timeout begins (view.timeout_of old.state.timeout))
+    {old : Engine P B T A} {hold : SyncState A} {timeout : T} {begin_count : ℕ} {value : V}
+    (is_at : EngineIsAt view old value state) (added : AddsToHold state.held more hold begin_count)
+    (is_set : view.timeout_of timeout ≡ timeout_set_times meaning.timeout begin_count
+    (view.timeout_of old.state.timeout))
     (memory : view.parser.has_memory old.parser (view.text_capacity_of old.state.text) state.parsed
     (length state.held + length more)) where
   abbrev extended_engine : Engine P B T A
@@ -56,7 +57,7 @@ module _ {P B T A V W : Type 0} {view : EngineView P B T W} (meaning : Meaning V
   parts-extended = record {
     has_read = is_at.processor_is.has_read;
     last = is_at.processor_is.last;
-    timeout_is = is_set ∙ rw (is_at.processor_is.timeout_is, added.begins_are);
+    timeout_is = is_set ∙ rw (is_at.processor_is.timeout_is, added.begin_count_is);
     handler_is = is_at.handler_is;
   }
 

@@ -101,18 +101,18 @@ after_word-begin : (text : List ℕ) → is_prefix_of begin_update text ≡ true
 after_word-begin text begins = rw (is_prefix_of-is begin_update text begins) refl
 
 -- What was seen after the position `unread` of a text, of which the last `new` bytes are new.
-pub record HasSeen (text : List ℕ) (new unread begin begins : ℕ) : Type 0 where
+pub record HasSeen (text : List ℕ) (new unread first_begin begin_count : ℕ) : Type 0 where
   pub no_end : after_last_end (drop unread text) ≡ None
-  pub begin_is : begin ≡ length text - length (from_begin_update (drop unread text))
-  pub begins_are : begins ≡ begins_ending_in_last new (drop unread text)
+  pub first_begin_is : first_begin ≡ length text - length (from_begin_update (drop unread text))
+  pub begin_count_is : begin_count ≡ begins_ending_in_last new (drop unread text)
 
 -- ---- one position more, from the end down
 
 -- At the position, neither sequence begins, or a begin-update does, or an end-update, which ends the search.
 
-module _ {text : List ℕ} {new position begin begins : ℕ} (within : position < length text)
-    (seen : HasSeen text new (position + 1) begin begins) where
-  seen-other : HasNoSequenceAt text position → HasSeen text new position begin begins
+module _ {text : List ℕ} {new position first_begin begin_count : ℕ} (within : position < length text)
+    (seen : HasSeen text new (position + 1) first_begin begin_count) where
+  seen-other : HasNoSequenceAt text position → HasSeen text new position first_begin begin_count
   seen-other neither = let cut = drop_more text position 0 within in
       let no_begin = none_from_is_some _ (rw cut at neither.no_begin) in
       let no_end = none_from_is_some _ (rw cut at neither.no_end) in
@@ -120,7 +120,7 @@ module _ {text : List ℕ} {new position begin begins : ℕ} (within : position 
 
   -- A begin-update with at most seven older bytes from its start on ends among the new ones, so it is counted.
   seen-begin : length text ≤ position + 7 + new → is_prefix_of begin_update (drop position text) ≡ true
-      → HasSeen text new position position (begins + 1)
+      → HasSeen text new position position (begin_count + 1)
   seen-begin at_most is_begin =
       let cut = drop_more text position 0 within in
       let long = is_prefix_of-length begin_update (drop position text) is_begin in
@@ -133,12 +133,12 @@ module _ {text : List ℕ} {new position begin begins : ℕ} (within : position 
       -- So the earliest begin-update is here, and one more ends among the new bytes.
       record {
         no_end = rw (cut, seen.no_end, no_end) refl;
-        begin_is = rw (cut, here) (rw length-drop (omega arith));
-        begins_are = rw (cut, after_word-whole begin_update _ here, near) (omega (arith, seen.begins_are));
+        first_begin_is = rw (cut, here) (rw length-drop (omega arith));
+        begin_count_is = rw (cut, after_word-whole begin_update _ here, near) (omega (arith, seen.begin_count_is));
       }
 
   pub seen-end : is_prefix_of end_update (drop position text) ≡ true
-      → FindsRelease text new (record { begins = begins; released = begin })
+      → FindsRelease text new (record { begin_count = begin_count; released = first_begin })
   seen-end is_end =
       let cut = drop_more text position 0 within in
       let here = rw cut at is_end in
@@ -148,8 +148,8 @@ module _ {text : List ℕ} {new position begin begins : ℕ} (within : position 
       let last : after_last_end text ≡ Some (drop 7 (drop (position + 1) text)) =
       after_last_end-earlier position text _ (rw (cut, seen.no_end, after_word-whole end_update _ here) refl) in
       record {
-        begins = rw last (seen.begins_are ∙ skipped.1);
-        released = rw last (seen.begin_is ∙ ap (λ part. length text - length part) skipped.0);
+        begin_count = rw last (seen.begin_count_is ∙ skipped.1);
+        released = rw last (seen.first_begin_is ∙ ap (λ part. length text - length part) skipped.0);
       }
     where
       after_last_end-earlier : (n : ℕ) (bytes later : List ℕ) → after_last_end (drop n bytes) ≡ Some later
@@ -160,19 +160,19 @@ module _ {text : List ℕ} {new position begin begins : ℕ} (within : position 
 
 -- ---- many positions more, at which no sequence begins
 
-seen-further : {text : List ℕ} {new : ℕ} (n : ℕ) {position begin begins : ℕ} → position + n ≤ length text
+seen-further : {text : List ℕ} {new : ℕ} (n : ℕ) {position first_begin begin_count : ℕ} → position + n ≤ length text
     → ((k : ℕ) → position ≤ k → k < position + n → HasNoSequenceAt text k)
-    → HasSeen text new (position + n) begin begins → HasSeen text new position begin begins
+    → HasSeen text new (position + n) first_begin begin_count → HasSeen text new position first_begin begin_count
 seen-further zero within neither seen = rw add-zero at seen
-seen-further {text} {new} (suc n) {position} {begin} {begins} within neither seen =
+seen-further {text} {new} (suc n) {position} {first_begin} {begin_count} within neither seen =
     let same : position + suc n ≡ position + n + 1 = omega arith in
     seen-further n (omega arith) (λ k low high. neither k low (omega arith))
     (seen-other (omega arith) (rw same at seen) (neither (position + n) (omega arith) (omega arith)))
 
 -- What was seen from `unread` on was also seen from an earlier position on, if no sequence begins in between.
-seen-down : {text : List ℕ} {new position unread begin begins : ℕ} → position ≤ unread → unread ≤ length text
+seen-down : {text : List ℕ} {new position unread first_begin begin_count : ℕ} → position ≤ unread → unread ≤ length text
     → ((k : ℕ) → position ≤ k → k < unread → HasNoSequenceAt text k)
-    → HasSeen text new unread begin begins → HasSeen text new position begin begins
+    → HasSeen text new unread first_begin begin_count → HasSeen text new position first_begin begin_count
 seen-down {position} {unread} below within neither seen =
     let same : unread ≡ position + (unread - position) = omega arith in
     seen-further (unread - position) (omega arith) (λ k low high. neither k low (omega arith)) (rw same at seen)
@@ -180,14 +180,14 @@ seen-down {position} {unread} below within neither seen =
 -- ---- the end of a hold
 
 -- There is an ESC at `position`, and everything after it was seen.
-pub record IsLastEscape (all : List ℕ) (new position unread begin begins : ℕ) : Type 0 where
+pub record IsLastEscape (all : List ℕ) (new position unread first_begin begin_count : ℕ) : Type 0 where
   pub earlier : position < unread
   pub inside : position < length all
   pub here : eqb (get_or all position 0) 0x1b ≡ true
-  pub seen : HasSeen all new (position + 1) begin begins
+  pub seen : HasSeen all new (position + 1) first_begin begin_count
 
-module _ {all : List ℕ} {new position unread begin begins : ℕ}
-    (last : IsLastEscape all new position unread begin begins)
+module _ {all : List ℕ} {new position unread first_begin begin_count : ℕ}
+    (last : IsLastEscape all new position unread first_begin begin_count)
     (from : ℕ) (low : from ≤ position) (near : position ≤ from + 7) where
   seen-before_escape : {first count : ℕ} → HasSeen all new position first count → HasSeen all new from first count
   seen-before_escape {first} {count} seen =
@@ -196,11 +196,11 @@ module _ {all : List ℕ} {new position unread begin begins : ℕ}
       (λ k low high. neither-before all k position high (omega arith) inside last.here) seen
 
   pub seen-begin_before : length all ≤ position + 7 + new → is_prefix_of begin_update (drop position all) ≡ true
-      → HasSeen all new from position (begins + 1)
+      → HasSeen all new from position (begin_count + 1)
   seen-begin_before at_most is_begin = seen-before_escape (seen-begin last.inside last.seen at_most is_begin)
 
   pub seen-other_before : is_prefix_of begin_update (drop position all) ≡ false
-      → is_prefix_of end_update (drop position all) ≡ false → HasSeen all new from begin begins
+      → is_prefix_of end_update (drop position all) ≡ false → HasSeen all new from first_begin begin_count
   seen-other_before no_begin no_end =
       seen-before_escape (seen-other last.inside last.seen (record { no_begin = no_begin; no_end = no_end }))
 
@@ -232,9 +232,9 @@ module _ {held more text : List ℕ} {start : ℕ} (held_tail : IsHeldTail held 
       (grind (arith, nowhere i (omega arith) (rw length-take-le (omega arith))))
 
   -- Blocks in which neither sequence begins change nothing.
-  pub seen-skipped : (unread before : ℕ) {begin begins : ℕ} → unread ≤ before → before ≤ length text
-      → HasNoSequenceBetween text unread before → HasSeen all (length more) (start + before) begin begins
-      → HasSeen all (length more) (start + unread) begin begins
+  pub seen-skipped : (unread before : ℕ) {first_begin begin_count : ℕ} → unread ≤ before → before ≤ length text
+      → HasNoSequenceBetween text unread before → HasSeen all (length more) (start + before) first_begin begin_count
+      → HasSeen all (length more) (start + unread) first_begin begin_count
   seen-skipped unread before at_most within none_between seen =
       seen-down (omega arith) (omega (arith, tail-size))
       (λ k low high.
@@ -255,15 +255,16 @@ module _ {held more text : List ℕ} {start : ℕ} (held_tail : IsHeldTail held 
       (λ k low high. neither-short all k (omega (arith, tail-size)))
       (record {
         no_end = rw nothing_left;
-        begin_is = rw nothing_left (omega (arith, tail-size));
-        begins_are = rw nothing_left;
+        first_begin_is = rw nothing_left (omega (arith, tail-size));
+        begin_count_is = rw nothing_left;
       })
 
   -- The last ESC of what is unread is found, and everything after it was seen.
-  pub last_escape : (position unread : ℕ) {begin begins : ℕ} → unread ≤ length text
+  pub last_escape : (position unread : ℕ) {first_begin begin_count : ℕ} → unread ≤ length text
       → NoneAfter (Passes (is_byte 0x1b) (take unread text)) 0 (length (take unread text)) position
-      → Passes (is_byte 0x1b) (take unread text) position → HasSeen all (length more) (start + unread) begin begins
-      → IsLastEscape all (length more) (start + position) (start + unread) begin begins
+      → Passes (is_byte 0x1b) (take unread text) position
+      → HasSeen all (length more) (start + unread) first_begin begin_count
+      → IsLastEscape all (length more) (start + position) (start + unread) first_begin begin_count
   last_escape position unread within none_after is_escape seen =
       let earlier : position < unread = omega (arith, length-take-le unread text within, none_after.high) in
       record {
@@ -278,11 +279,11 @@ module _ {held more text : List ℕ} {start : ℕ} (held_tail : IsHeldTail held 
       }
 
   -- If no ESC is left, there is no end-update, as there is none in the older bytes.
-  pub seen-all : (unread begin begins : ℕ) → after_last_end held ≡ None → unread ≤ length text
+  pub seen-all : (unread first_begin begin_count : ℕ) → after_last_end held ≡ None → unread ≤ length text
       → Nowhere (Passes (is_byte 0x1b) (take unread text)) 0 (length (take unread text))
-      → HasSeen all (length more) (start + unread) begin begins
-      → FindsRelease all (length more) (record { begins = begins; released = 0 })
-  seen-all unread begin begins held_no_end within nowhere seen =
+      → HasSeen all (length more) (start + unread) first_begin begin_count
+      → FindsRelease all (length more) (record { begin_count = begin_count; released = 0 })
+  seen-all unread first_begin begin_count held_no_end within nowhere seen =
       -- Without ESC no sequence begins in what is unread, so all of the tail is seen.
       let rest =
       seen-down (omega arith) (omega (arith, tail-size))
@@ -292,7 +293,7 @@ module _ {held more text : List ℕ} {start : ℕ} (held_tail : IsHeldTail held 
       let no_end : after_last_end all ≡ None = cc (tail, after_last_end-tail held more held_no_end, rest.no_end) in
       -- So no bytes are released, and the updates that begin are those of the tail.
       record {
-        begins = rw no_end (cc (tail, rest.begins_are, begins_ending_in_last-tail held more refl));
+        begin_count = rw no_end (cc (tail, rest.begin_count_is, begins_ending_in_last-tail held more refl));
         released = rw no_end (omega arith);
       }
 
@@ -310,14 +311,14 @@ module _ (text : List ℕ) {unread before next : ℕ} (position : ℕ) (within :
   unread-decreases = omega (arith, escape-earlier, before_is, skips)
 
   -- What is seen if the ESC is read was seen from the end of the skipped blocks on.
-  pub seen-round : {held more : List ℕ} {start begin begins begin_then begins_then : ℕ}
+  pub seen-round : {held more : List ℕ} {start first_begin begin_count first_begin_then begin_count_then : ℕ}
       (held_tail : IsHeldTail held more text start) → Passes (is_byte 0x1b) (take unread text) position
       → HasNoSequenceBetween text next before
-      → HasSeen (held ++ more) (length more) (start + unread) begin begins
-      → (IsLastEscape (held ++ more) (length more) (start + position) (start + unread) begin begins
+      → HasSeen (held ++ more) (length more) (start + unread) first_begin begin_count
+      → (IsLastEscape (held ++ more) (length more) (start + position) (start + unread) first_begin begin_count
       → (from : ℕ) → from ≤ start + position → start + position ≤ from + 7
-      → HasSeen (held ++ more) (length more) from begin_then begins_then)
-      → HasSeen (held ++ more) (length more) (start + next) begin_then begins_then
+      → HasSeen (held ++ more) (length more) from first_begin_then begin_count_then)
+      → HasSeen (held ++ more) (length more) (start + next) first_begin_then begin_count_then
   seen-round {start} held_tail is_escape none_between seen reads =
       seen-skipped held_tail next before skips (omega (arith, escape-earlier, before_is, within)) none_between
       (reads (last_escape held_tail position unread within none_after is_escape seen) (start + before)

@@ -46,7 +46,7 @@ impl<A: Allocator> GrowingText<A> {
 }
 
 impl<A: Allocator> TextBuffer for GrowingText<A> {
-    ghost held = { λ buffer. string_bytes buffer.text };
+    ghost stored = { λ buffer. string_bytes buffer.text };
 
     ghost text_capacity = { λ buffer. buffer.size };
 

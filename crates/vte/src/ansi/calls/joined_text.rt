@@ -17,7 +17,7 @@ pub(crate) const TEXT_CAPACITY: usize = 1024 + SEPARATORS;
 /// and is left out otherwise.
 pub(crate) fn join_texts<B: TextBuffer>(text: &mut B, pieces: &[&[u8]], keeps_all: bool)
     requires { FitsTextCapacity (B.text_capacity text.old) (map (λ piece. piece.now) pieces.now) }
-    ensures joined { B.held text.new
+    ensures joined { B.stored text.new
         ≡ joined_texts keeps_all (map (λ piece. piece.now) pieces.now) }
     ensures same_capacity { B.text_capacity text.new ≡ B.text_capacity text.old }
 {
@@ -33,8 +33,8 @@ pub(crate) fn join_texts<B: TextBuffer>(text: &mut B, pieces: &[&[u8]], keeps_al
 
 /// Appends a text to those before it, after a `;` unless it is the first.
 fn push_part<B: TextBuffer>(text: &mut B, is_first: bool, part: &str)
-    requires { length (B.held text.old) + length part.now + 1 ≤ B.text_capacity text.old }
-    ensures pushed { B.held text.new ≡ B.held text.old ++ text_to_join is_first part.now }
+    requires { length (B.stored text.old) + length part.now + 1 ≤ B.text_capacity text.old }
+    ensures pushed { B.stored text.new ≡ B.stored text.old ++ text_to_join is_first part.now }
     ensures same_capacity { B.text_capacity text.new ≡ B.text_capacity text.old }
 {
     if !is_first {

@@ -95,8 +95,8 @@ pub(crate) fn parse_number(digits: &[u8]) -> Option<u8>
 /// Appends a number to a text.
 #[tactic(auto, using(std::proofs::lemmas::Fmt::decimal_digit, std::proofs::lemmas::Fmt::decimal_step))]
 pub(crate) fn push_number<B: TextBuffer>(text: &mut B, number: u8)
-    requires { length (B.held text.old) + length (decimal number) ≤ B.text_capacity text.old }
-    ensures pushed { B.held text.new ≡ B.held text.old ++ decimal number }
+    requires { length (B.stored text.old) + length (decimal number) ≤ B.text_capacity text.old }
+    ensures pushed { B.stored text.new ≡ B.stored text.old ++ decimal number }
     ensures same_capacity { B.text_capacity text.new ≡ B.text_capacity text.old }
 {
     if number < 10 {

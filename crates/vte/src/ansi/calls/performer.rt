@@ -23,8 +23,11 @@ use vte_types::NamedPrivateMode;
 /// What a processor keeps between events.
 #[derive(Clone, Drop)]
 pub(crate) struct ProcessorState<T: Drop, B: Drop> {
+    /// The last character that was printed, which REP repeats.
     pub(crate) preceding_char: Option<char>,
+    /// The buffer in which texts are joined from pieces of a command.
     pub(crate) text: B,
+    /// Whether an update is pending, and until when.
     pub(crate) timeout: T,
 }
 
@@ -82,8 +85,14 @@ impl<'s, 'h, H: InputAs<G>, T: Timeout + Drop, B: TextBuffer + Drop, G> Perform
         if action == 'h' && matches!(intermediates, [b'?']) {
             self.set_private_modes(params);
         } else {
-            let last = self.state.preceding_char;
-            perform_control_sequence::<H, G>(self.handler, last, params, intermediates, action);
+            let preceding_char = self.state.preceding_char;
+            perform_control_sequence::<H, G>(
+                self.handler,
+                preceding_char,
+                params,
+                intermediates,
+                action,
+            );
         }
     }
 

@@ -6,7 +6,7 @@ use arrayvec::ArrayString;
 /// Holds a text, up to its size.
 pub(crate) trait TextBuffer {
     /// The text.
-    ghost held: { Self → List ℕ };
+    ghost stored: { Self → List ℕ };
 
     /// How many bytes the text may have.
     ghost text_capacity: { Self → ℕ };
@@ -23,29 +23,29 @@ pub(crate) trait TextBuffer {
 
     /// Empties the text. Its size stays.
     fn clear(&mut self)
-        ensures holds_nothing { held self.new ≡ [] }
+        ensures holds_nothing { stored self.new ≡ [] }
         ensures same_capacity { text_capacity self.new ≡ text_capacity self.old };
 
     /// Appends a character of one byte.
     fn push(&mut self, c: char)
         requires ascii { c < 128 }
-        requires fits { length (held self.old) + 1 ≤ text_capacity self.old }
-        ensures pushed { held self.new ≡ held self.old ++ c ∷ [] }
+        requires fits { length (stored self.old) + 1 ≤ text_capacity self.old }
+        ensures pushed { stored self.new ≡ stored self.old ++ c ∷ [] }
         ensures same_capacity { text_capacity self.new ≡ text_capacity self.old };
 
     /// Appends a text.
     fn push_str(&mut self, part: &str)
-        requires { length (held self.old) + length part.now ≤ text_capacity self.old }
-        ensures pushed { held self.new ≡ held self.old ++ part.now }
+        requires { length (stored self.old) + length part.now ≤ text_capacity self.old }
+        ensures pushed { stored self.new ≡ stored self.old ++ part.now }
         ensures same_capacity { text_capacity self.new ≡ text_capacity self.old };
 
     /// Returns the text.
     fn as_str(&self) -> &str
-        ensures { result.now ≡ held self.now };
+        ensures { result.now ≡ stored self.now };
 }
 
 impl<const N: usize> TextBuffer for ArrayString<N> {
-    ghost held = { λ text. text.bytes };
+    ghost stored = { λ text. text.bytes };
 
     ghost text_capacity = { λ text. N };
 

@@ -256,8 +256,8 @@ impl<P: EventParser + Drop, B: TextBuffer + Drop, T: Timeout + Drop, A: Allocato
             (length state.held + length bytes.now) → IsNowAt (hold_turn
             (processor_meaning P.limit H.step T.set T.clear T.allows) state bytes.now)) }
     {
-        let begins = self.hold.add(bytes);
-        set_timeout_times(&mut self.state.timeout, begins);
+        let begin_count = self.hold.add(bytes);
+        set_timeout_times(&mut self.state.timeout, begin_count);
         // Nothing stays held only if an update ends and no other begins after it.
         if self.hold.len() == 0 {
             self.end_update::<H, G>(handler);

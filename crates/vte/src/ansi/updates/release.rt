@@ -12,7 +12,7 @@ const ESCAPE: u8 = 0x1b;
 #[derive(Clone, Copy)]
 pub(crate) struct Release {
     /// How many updates begin among the added bytes, after the last one that ends.
-    pub(crate) begins: usize,
+    pub(crate) begin_count: usize,
     /// How many bytes are released: none if no update ends, otherwise those before the next update,
     /// or all.
     pub(crate) released: usize,
@@ -27,8 +27,8 @@ pub(crate) fn find_release(text: &[u8], start: usize) -> Release
         → after_last_end held ≡ None
         → FindsRelease (held ++ more) (length more) result }
 {
-    let mut begin = start + text.len();
-    let mut begins = 0;
+    let mut first_begin = start + text.len();
+    let mut begin_count = 0;
     // A sequence has eight bytes, and only the first is ESC: none begins among the last seven
     // bytes, or the seven before an ESC.
     let mut unread = skip_blocks(text, text.len().saturating_sub(7));
@@ -36,15 +36,21 @@ pub(crate) fn find_release(text: &[u8], start: usize) -> Release
         unread = skip_blocks(text, position.saturating_sub(7));
         let sequence = &text[position..];
         if begins_update(sequence) {
-            begin = start + position;
-            begins += 1;
+            first_begin = start + position;
+            begin_count += 1;
         } else if ends_update(sequence) {
-            let released = begin;
-            return Release { begins, released };
+            let released = first_begin;
+            return Release {
+                begin_count,
+                released,
+            };
         }
     }
     let released = 0;
-    Release { begins, released }
+    Release {
+        begin_count,
+        released,
+    }
 }
 
 /// Goes back from a position over blocks in which neither sequence begins. Returns the position

@@ -45,6 +45,6 @@ returns-then-read-eq0-clause-reads_some c = λ already_read reads no_stops not_e
           invariant.nothing_read (omega (arith, at_0)) in
           let further : 0 < c.read_more-read.result =
           c.read_more-read.ensures.reads_some has_read_on.next has_read_on.reads (rw same c.requires.are_empty)
-          (rw (← ap (λ (held : Buffers). held.stop_kinds) same) at no_stops) in
+          (rw (← ap (λ (stored : Buffers). stored.stop_kinds) same) at no_stops) in
           absurd (omega (arith, further, c.if-read-eq0.true))
     ]

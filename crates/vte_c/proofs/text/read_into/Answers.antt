@@ -54,14 +54,15 @@ returns-clause-strips c = λ before stream rest has_stripped.
     let count = c.loop-count.count in
     let has_text = c.loop-count.invariant.written has_stripped.already_read has_stripped.reads in
     let text = plain_text (added default_limit has_stripped.already_read (take count bytes)) in
-    let held = rw c.requires.is_empty.text at (ap (λ (buffer : WrittenText). buffer.text) has_text.holds) in
+    let text_is = rw c.requires.is_empty.text at (ap (λ (buffer : WrittenText). buffer.text) has_text.holds) in
     let continues = continues-added has_stripped.already_read bytes count in
     record {
       same_name = ap (λ (buffer : WrittenText). buffer.name) has_text.holds;
       used_is =
           omega
-          (arith, ap (λ (buffer : WrittenText). buffer.used) has_text.holds, ap length held, c.requires.is_empty.used);
-      strips = rw held
+          (arith, ap (λ (buffer : WrittenText). buffer.used) has_text.holds, ap length text_is,
+          c.requires.is_empty.used);
+      strips = rw text_is
           (given-more text bytes rest count has_stripped
           (c.save.ensures (has_stripped.already_read ++ take count bytes) has_text.parsed)
           (λ more. sym (ap plain_text (continues.added_parts more) ∙ flat_map-append plain_text_of _ _)));

@@ -13,11 +13,11 @@ returns c =
     let of_writer =
     λ (text stream rest : List ℕ) (has_stripped : HasStripped c.args.parser.now text stream (c.args.bytes.now ++ rest)).
     let strips = read.ensures.strips text stream rest has_stripped in
-    let held : c.text-1.given.0 ≡ read.new.writer.bytes.now = c.text-1.given.1.1 (sym strips.same_name) in
+    let same_text : c.text-1.given.0 ≡ read.new.writer.bytes.now = c.text-1.given.1.1 (sym strips.same_name) in
     let within : used ≤ length c.args.text.now =
     omega
-    (arith, strips.used_is, length-take used read.new.writer.bytes.now, ap length held, c.text-1.given.1.0) in
-    let both : (c.text-1.given.0 ≡ read.new.writer.bytes.now) × (used ≤ length c.args.text.now) = (held, within) in
+    (arith, strips.used_is, length-take used read.new.writer.bytes.now, ap length same_text, c.text-1.given.1.0) in
+    let both : (c.text-1.given.0 ≡ read.new.writer.bytes.now) × (used ≤ length c.args.text.now) = (same_text, within) in
     both in
     record {
       returns_bytes_read = λ size. sym count;

@@ -1,11 +1,11 @@
--- What one byte makes of the numbers and of the head that are held: by the part of the head that was reached and the
--- byte's class.
+-- What one byte makes of the numbers and of the head that are collected: by the part of the head that was reached and
+-- the byte's class.
 use Rattle.std.proofs.lemmas.List.{length-take}
 use Rattle.vte_core.proofs.Common.{ap, append-nil, append_assoc, arith, Bool, Class, class_of, CollectedHead, count_of, CountsNumbers, Entry, Event, false, grouped, groups_of, has_too_many_numbers, HasReadHead, head_of, HeadProgress, HoldsHead, HoldsIntermediates, HoldsNumbers, IllShaped, inl, inr, Intermediate, Intermediates, is_colon, is_head_byte, is_intermediate, is_marker, is_parameter_byte, is_separator, is_well_shaped, length, length-append, List, Marker, max_numbers, max_value, min, nat_tests, numbers, Parameters, refl, rules, SameIntermediates, SameNumbers, sequence_event, StaysIllShaped, sym, take, take-append-le, take_all, true, with_number, ℕ, [], ◌*◌, ◌++◌, ◌+◌, ◌-◌, ◌<◌, ◌||◌, ◌∙◌, ◌∷◌, ◌≡◌, ◌≤◌, ◌⊎◌}
 use Rattle.vte_core.proofs.lemmas.bytes.Classes.{AreInClass-append}
 use Rattle.vte_core.proofs.lemmas.fields.Numbers.{count_of-grouped, grouped-push, is_digit_no_separator, number_of-push, numbered, numbers_are}
-use Rattle.vte_core.proofs.lemmas.shapes.HeadParts.{begins-intermediates, head_of-parts, held-parts, held-well_shaped, list_all-not}
-use Rattle.vte_core.specs.private.HeldHead.{HoldsWholeHead}
+use Rattle.vte_core.proofs.lemmas.shapes.HeadParts.{begins-intermediates, collected-parts, collected-well_shaped, head_of-parts, list_all-not}
+use Rattle.vte_core.specs.private.CollectedHead.{HoldsWholeHead}
 
 -- ---- numbers
 
@@ -19,9 +19,9 @@ counts-numbers collected text counts =
     sym (ap numbers (append-nil text)) ∙ counts.same_numbers []
     ∙ ap (λ n. counts.prefix ++ numbered collected.joined n ∷ []) (sym counts.number)
 
-counts-held : (collected : CollectedHead) (text : List ℕ) (counts : CountsNumbers collected text)
+counts-collected : (collected : CollectedHead) (text : List ℕ) (counts : CountsNumbers collected text)
     → count_of collected.params ≡ min 32 (length counts.prefix)
-counts-held collected text counts =
+counts-collected collected text counts =
     ap count_of counts.params ∙ count_of-grouped (take max_numbers counts.prefix)
     ∙ length-take max_numbers counts.prefix
 
@@ -31,7 +31,7 @@ pub stores-full : {collected : CollectedHead} {text : List ℕ} → CountsNumber
     → HoldsNumbers collected true text
 unfolding groups_of has_too_many_numbers
 stores-full {collected} {text} counts full =
-    let held_count = counts-held collected text counts in
+    let collected_count = counts-collected collected text counts in
     let last = numbered collected.joined collected.number in
     let n : length (counts.prefix ++ last ∷ []) ≡ length counts.prefix + 1 = length-append counts.prefix (last ∷ []) in
     record {
@@ -47,7 +47,7 @@ pub stores-push : {old new : CollectedHead} {text : List ℕ} → CountsNumbers 
     → new.params ≡ with_number old.params (numbered old.joined old.number) → HoldsNumbers new false text
 unfolding groups_of has_too_many_numbers
 stores-push {old} {text} counts room pushed =
-    let held_count = counts-held old text counts in
+    let collected_count = counts-collected old text counts in
     let last = numbered old.joined old.number in
     let n : length (counts.prefix ++ last ∷ []) ≡ length counts.prefix + 1 = length-append counts.prefix (last ∷ []) in
     let before : old.params ≡ grouped counts.prefix =
@@ -98,7 +98,7 @@ counts-nothing new params joined number =
 
 -- ---- heads
 
--- `holds-X`: the head is held after X (`HoldsHead`); `ill_shaped-X`: it stays ill-shaped after X.
+-- `holds-X`: the head is collected after X (`HoldsHead`); `ill_shaped-X`: it stays ill-shaped after X.
 
 -- Numbers that are kept are those of the same text.
 CountsNumbers-kept : {old new : CollectedHead} {text : List ℕ} → SameNumbers old new → CountsNumbers old text
@@ -111,8 +111,8 @@ HoldsIntermediates-kept : {old new : CollectedHead} {intermediates : List ℕ} �
 HoldsIntermediates-kept same_intermediates holds = search (rules, arith)
 
 -- A head can go on with an intermediate, however far it has come.
-pub holds-intermediate : {old new : CollectedHead} {progress : HeadProgress} {head : List ℕ} (b : ℕ)
-    → HoldsHead old progress head
+pub holds-intermediate : {old new : CollectedHead} {reached : HeadProgress} {head : List ℕ} (b : ℕ)
+    → HoldsHead old reached head
     → class_of b ≡ Intermediate
     → SameNumbers old new
     → ((intermediates : List ℕ) → HoldsIntermediates old intermediates
@@ -155,13 +155,13 @@ holds-marker old new head b holds is_class same_numbers holds_more =
     }
 
 -- A head without intermediates can go on with a byte of the parameters.
-after_no_intermediate : {old new : CollectedHead} (progress : HeadProgress) (head : List ℕ) (b : ℕ)
-    (holds : HoldsHead old progress head)
+after_no_intermediate : {old new : CollectedHead} (reached : HeadProgress) (head : List ℕ) (b : ℕ)
+    (holds : HoldsHead old reached head)
     → holds.intermediates ≡ []
     → is_parameter_byte (class_of b) ≡ true → SameIntermediates old new
     → ((text : List ℕ) → CountsNumbers old text → CountsNumbers new (text ++ b ∷ []))
     → HoldsHead new Parameters (head ++ b ∷ [])
-after_no_intermediate {old} progress head b holds no_intermediate is_parameter same_intermediates counts_more =
+after_no_intermediate {old} reached head b holds no_intermediate is_parameter same_intermediates counts_more =
     let kept : HoldsIntermediates old (holds.marker ++ []) = rw no_intermediate at holds.holds in
     record {
       marker = holds.marker;
@@ -178,8 +178,8 @@ after_no_intermediate {old} progress head b holds no_intermediate is_parameter s
     }
 
 -- A head that has come no further than its parameters holds no intermediate, so a byte of the parameters fits.
-pub holds-parameter : {old new : CollectedHead} {progress : HeadProgress} (head : List ℕ) (b : ℕ)
-    → (progress ≡ Entry) ⊎ (progress ≡ Parameters) → HasReadHead old progress head
+pub holds-parameter : {old new : CollectedHead} {reached : HeadProgress} (head : List ℕ) (b : ℕ)
+    → (reached ≡ Entry) ⊎ (reached ≡ Parameters) → HasReadHead old reached head
     → is_parameter_byte (class_of b) ≡ true → SameIntermediates old new
     → ((text : List ℕ) → CountsNumbers old text → CountsNumbers new (text ++ b ∷ []))
     → HoldsHead new Parameters (head ++ b ∷ [])
@@ -220,13 +220,13 @@ ill_shaped-more head b stays = record { stays = λ more. rw append_assoc (stays.
 pub ill_shaped-now : {head : List ℕ} → StaysIllShaped head → is_well_shaped (head_of head) ≡ false
 ill_shaped-now stays = rw append-nil at (stays.stays [])
 
--- At the end of a head that is well shaped, what is held is ready.
-pub head-whole : {old new : CollectedHead} (more : Bool) {ignored : Bool} {progress : HeadProgress} {head : List ℕ}
+-- At the end of a head that is well shaped, what is collected is ready.
+pub head-whole : {old new : CollectedHead} (more : Bool) {ignored : Bool} {reached : HeadProgress} {head : List ℕ}
     → ((text : List ℕ) → CountsNumbers old text → HoldsNumbers new more text)
-    → SameIntermediates old new → HoldsHead old progress head → ignored ≡ (new.too_many_intermediates || more)
+    → SameIntermediates old new → HoldsHead old reached head → ignored ≡ (new.too_many_intermediates || more)
     → HoldsWholeHead new ignored head
 head-whole more stores same_intermediates holds ignored_is =
-    search (rules, arith, held-parts, HoldsIntermediates-kept, held-well_shaped)
+    search (rules, arith, collected-parts, HoldsIntermediates-kept, collected-well_shaped)
 
 pub holds-nothing : (new : CollectedHead) → HoldsIntermediates new [] → CountsNumbers new [] → HoldsHead new Entry []
 holds-nothing new holds counts = search (rules, arith)
@@ -238,24 +238,24 @@ left_is_marker Marker is_head no_parameter no_intermediate = refl
 left_is_marker _ is_head no_parameter no_intermediate = cc
 
 -- A marker that isn't first, or a digit or separator that may not come next, makes the head ill-shaped for good.
-pub ill_shaped-late : (old : CollectedHead) (progress : HeadProgress) (head : List ℕ) (b : ℕ)
-    → HasReadHead old progress head
+pub ill_shaped-late : (old : CollectedHead) (reached : HeadProgress) (head : List ℕ) (b : ℕ)
+    → HasReadHead old reached head
     → is_head_byte (class_of b) ≡ true
     → is_intermediate (class_of b) ≡ false
-    → ((progress ≡ Entry) ⊎ (progress ≡ Parameters) → is_parameter_byte (class_of b) ≡ false)
-    → (progress ≡ Entry → ⊥) → StaysIllShaped (head ++ b ∷ [])
-ill_shaped-late old progress head b has_read is_head no_intermediate no_parameter no_entry =
+    → ((reached ≡ Entry) ⊎ (reached ≡ Parameters) → is_parameter_byte (class_of b) ≡ false)
+    → (reached ≡ Entry → ⊥) → StaysIllShaped (head ++ b ∷ [])
+ill_shaped-late old reached head b has_read is_head no_intermediate no_parameter no_entry =
     grind (arith, nat_tests, ill_shaped-marker, left_is_marker, ill_shaped-after_intermediate, ill_shaped-more)
 
 -- At the end of a head, the call has the event of the sequence.
-pub dispatched-ready : (call : List (List ℕ) → List ℕ → Bool → ℕ → Event) {held : CollectedHead} {ignored : Bool}
+pub dispatched-ready : (call : List (List ℕ) → List ℕ → Bool → ℕ → Event) {collected : CollectedHead} {ignored : Bool}
     {head : List ℕ} (final : ℕ)
-    → HoldsWholeHead held ignored head
-    → call held.params held.intermediates.items ignored final ≡ sequence_event call (head_of head) final
+    → HoldsWholeHead collected ignored head
+    → call collected.params collected.intermediates.items ignored final ≡ sequence_event call (head_of head) final
 unfolding sequence_event
 dispatched-ready call final ready = rw (ready.groups, ready.intermediates, ready.ignore) refl
 
-pub head-holds : {held : CollectedHead} {progress : HeadProgress} {head : List ℕ} → (progress ≡ IllShaped → ⊥)
-    → HasReadHead held progress head → HoldsHead held progress head
-head-holds {progress = IllShaped} well_shaped has_read = absurd (well_shaped refl)
+pub head-holds : {collected : CollectedHead} {reached : HeadProgress} {head : List ℕ} → (reached ≡ IllShaped → ⊥)
+    → HasReadHead collected reached head → HoldsHead collected reached head
+head-holds {reached = IllShaped} well_shaped has_read = absurd (well_shaped refl)
 head-holds well_shaped has_read = has_read

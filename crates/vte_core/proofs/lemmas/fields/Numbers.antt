@@ -4,7 +4,7 @@ use Rattle.std.proofs.lemmas.Int.Digits.{digits_value_push}
 use Rattle.std.proofs.lemmas.List.{length-take-le}
 use Rattle.std.proofs.lemmas.List.Splits.{slice_split_at, slice_split_none}
 use Rattle.std.specs.Option.{unwrap_or}
-use Rattle.vte_core.proofs.Common.{All, All-cons, All-drop, All-head, All-nil, All-pop, All-push, All-tail, All-take, ap, append-nil, append_assoc, AreGroups, AreSmall, arith, Bool, cases_Bool, count_of, digit_value, drop, drop-append-le, drop_all, false, filter, fold, fold_push, get_or, grouped, groups_of, inl, inr, is_colon, is_separator, IsNonEmpty, IsSmallNumber, length, length-append, length-drop, length-take, List, map, max_numbers, max_value, min, nat_tests, None, Number, number_of, numbers, numbers_from, numbers_of, Option, refl, rules, slice_split, Some, subst, suc, sum, sum_by-cons, sum_by-take-le, sum_by_push, sym, take, take-append-drop, take-append-le, take_all, take_more, true, with_number, ℕ, [], ◌*◌, ◌++◌, ◌+◌, ◌-◌, ◌<◌, ◌∙◌, ◌∷◌, ◌≡◌, ◌≤◌}
+use Rattle.vte_core.proofs.Common.{All, All-cons, All-drop, All-head, All-nil, All-pop, All-push, All-tail, All-take, AllFitU16, ap, append-nil, append_assoc, AreGroups, arith, Bool, cases_Bool, count_of, digit_value, drop, drop-append-le, drop_all, false, filter, FitsU16, fold, fold_push, get_or, grouped, groups_of, inl, inr, is_colon, is_separator, IsNonEmpty, length, length-append, length-drop, length-take, List, map, max_numbers, max_value, min, nat_tests, None, Number, number_of, numbers, numbers_from, numbers_of, Option, refl, rules, slice_split, Some, subst, suc, sum, sum_by-cons, sum_by-take-le, sum_by_push, sym, take, take-append-drop, take-append-le, take_all, take_more, true, with_number, ℕ, [], ◌*◌, ◌++◌, ◌+◌, ◌-◌, ◌<◌, ◌∙◌, ◌∷◌, ◌≡◌, ◌≤◌}
 use Rattle.vte_core.specs.private.FlatGroups.{AreFlatGroups, AreLengths, cut_by_lengths, IsLastPopped}
 
 -- ---- groups cut by lengths
@@ -64,12 +64,12 @@ filled-cut_by_lengths {lengths = n ∷ lengths} {numbers} are_lengths =
     (omega (arith, All-head (λ m. 0 < m) n lengths are_lengths.filled, length-take-le n numbers rest.0))
     (filled-cut_by_lengths (AreLengths-rest are_lengths))
 
-small-cut_by_lengths : (lengths numbers : List ℕ) → AreSmall numbers → All AreSmall (cut_by_lengths lengths numbers)
-small-cut_by_lengths [] numbers small = All-nil AreSmall
+small-cut_by_lengths : (lengths numbers : List ℕ) → AllFitU16 numbers → All AllFitU16 (cut_by_lengths lengths numbers)
+small-cut_by_lengths [] numbers small = All-nil AllFitU16
 small-cut_by_lengths (n ∷ lengths) numbers small =
-    All-cons AreSmall (take n numbers) (cut_by_lengths lengths (drop n numbers))
-    (All-take IsSmallNumber n numbers small)
-    (small-cut_by_lengths lengths (drop n numbers) (All-drop IsSmallNumber n numbers small))
+    All-cons AllFitU16 (take n numbers) (cut_by_lengths lengths (drop n numbers))
+    (All-take FitsU16 n numbers small)
+    (small-cut_by_lengths lengths (drop n numbers) (All-drop FitsU16 n numbers small))
 
 pub AreGroups-cut_by_lengths : (lengths numbers : List ℕ) → AreFlatGroups lengths numbers
     → length numbers ≤ max_numbers
@@ -241,12 +241,12 @@ pub number_of-push : (digits : List ℕ) (digit : ℕ) → 0x30 ≤ digit → di
 number_of-push digits digit low high =
     omega (arith, digits_value_push 10 digits digit, digit_value_is digit low high)
 
-abbrev pub IsSmall : Number → Type 0
-IsSmall number = number.value ≤ max_value
+abbrev pub ValueFitsU16 : Number → Type 0
+ValueFitsU16 number = number.value ≤ max_value
 
 -- There is at least one number, and each is at most 65,535.
 numbers_from-small : (joined : Bool) (digits text : List ℕ)
-    → (0 < length (numbers_from joined digits text)) × All IsSmall (numbers_from joined digits text)
+    → (0 < length (numbers_from joined digits text)) × All ValueFitsU16 (numbers_from joined digits text)
 numbers_from-small joined digits [] = search (rules, arith)
 numbers_from-small joined digits (b ∷ text) =
     search (
@@ -256,7 +256,7 @@ numbers_from-small joined digits (b ∷ text) =
       (numbers_from-small joined (digits ++ b ∷ []) text),
     )
 
-numbers_small : (text : List ℕ) → (0 < length (numbers text)) × All IsSmall (numbers text)
+numbers_small : (text : List ℕ) → (0 < length (numbers text)) × All ValueFitsU16 (numbers text)
 numbers_small text = rw (numbers_are text) (numbers_from-small false [] text)
 
 -- ---- the groups of a parameter text
@@ -332,7 +332,7 @@ filled-grouped numbers =
     } in
     All-fold keeps [] numbers (λ _ _ _. tt) (All-nil IsNonEmpty)
 
-AreGroups-grouped : (numbers : List Number) → length numbers ≤ max_numbers → All IsSmall numbers
+AreGroups-grouped : (numbers : List Number) → length numbers ≤ max_numbers → All ValueFitsU16 numbers
     → AreGroups (grouped numbers)
 AreGroups-grouped numbers at_most small =
     let P : ℕ → Type 0 = λ value. value ≤ max_value in
@@ -351,4 +351,4 @@ pub AreGroups-groups_of : (text : List ℕ) → AreGroups (groups_of text)
 unfolding groups_of
 AreGroups-groups_of text =
     AreGroups-grouped (take max_numbers (numbers text)) (omega (arith, length-take max_numbers (numbers text)))
-    (All-take IsSmall max_numbers (numbers text) (numbers_small text).1)
+    (All-take ValueFitsU16 max_numbers (numbers text) (numbers_small text).1)

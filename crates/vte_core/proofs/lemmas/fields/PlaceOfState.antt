@@ -122,12 +122,12 @@ place_of_state-same limit Escape old new AtEscape same_intermediates same_head s
     same_intermediates tt [] fields
 place_of_state-same limit EscapeIntermediate old new (InEscape bytes) same_intermediates same_head same_items fields =
     same_intermediates tt bytes fields
-place_of_state-same limit (ControlSequence progress) old new (InControlSequence read)
+place_of_state-same limit (ControlSequence reached) old new (InControlSequence read)
     same_intermediates same_head same_items fields =
-    subst (λ collected. HasReadHead collected progress read) (same_head tt tt) fields
-place_of_state-same limit (DeviceControl progress) old new (InDeviceControl read)
+    subst (λ collected. HasReadHead collected reached read) (same_head tt tt) fields
+place_of_state-same limit (DeviceControl reached) old new (InDeviceControl read)
     same_intermediates same_head same_items fields =
-    subst (λ collected. HasReadHead collected progress read) (same_head tt tt) fields
+    subst (λ collected. HasReadHead collected reached read) (same_head tt tt) fields
 place_of_state-same limit DeviceData old new InDeviceData same_intermediates same_head same_items fields = tt
 place_of_state-same limit SystemCommand old new (InSystemCommand command)
     same_intermediates same_head same_items fields =

@@ -132,13 +132,13 @@ count-end : (items : List ℕ)
     → length (filter is_data_item (items ++ semicolon ∷ [])) ≡ length (filter is_data_item items)
 count-end items = rw (filter-append is_data_item items (semicolon ∷ []), append-nil (filter is_data_item items)) refl
 
--- The flag of a store that held `before` of `count` data bytes, and holds `after` of them when n
+-- The flag of a store that had `before` of `count` data bytes, and holds `after` of them when n
 -- more have come.
 lost-more : (before after count n : ℕ) {old new : Bool} → before ≤ count → before ≤ after → after ≤ before + n
     → old ≡ nat_lt before count
     → new ≡ (old || nat_lt (after - before) n) → new ≡ nat_lt after (count + n)
-lost-more before after count n held_at_most low high old_is new_is =
-    grind (arith, nat_tests, held_at_most, low, high, old_is, new_is)
+lost-more before after count n stored_at_most low high old_is new_is =
+    grind (arith, nat_tests, stored_at_most, low, high, old_is, new_is)
 
 length-fitting : (limit : Option ℕ) (count : ℕ) (run : List ℕ) → length (fitting limit count run) ≤ length run
 length-fitting None count run = omega arith
@@ -148,27 +148,28 @@ length-fitting (Some limit) count run = omega (arith, length-take (limit - count
 
 -- Data bytes join the last piece as far as there is room, and `;` ends it. After 16 ends no item counts.
 
-pub holds_items-nothing : (limit : Option ℕ) (held : StoredCommand) → held.bytes ≡ [] → held.ends ≡ []
-    → held.lost ≡ false
-    → HoldsItems limit held []
+pub holds_items-nothing : (limit : Option ℕ) (stored : StoredCommand) → stored.bytes ≡ [] → stored.ends ≡ []
+    → stored.lost ≡ false
+    → HoldsItems limit stored []
 unfolding pieces_of kept_items
-holds_items-nothing limit held no_bytes no_ends none_lost = search (rules, arith, cut_at_ends)
+holds_items-nothing limit stored no_bytes no_ends none_lost = search (rules, arith, cut_at_ends)
 
 -- No further item counts.
 abbrev IsDone : Option ℕ → StoredCommand → Type 0
-IsDone limit held = (more : List ℕ) → pieces_from limit held.bytes held.ends more ≡ cut_pieces held.bytes held.ends
+IsDone limit stored =
+    (more : List ℕ) → pieces_from limit stored.bytes stored.ends more ≡ cut_pieces stored.bytes stored.ends
 
 -- After 16 ends, no further item counts.
-pub done-complete : {limit : Option ℕ} {held : StoredCommand} {items : List ℕ} → length held.ends ≡ max_pieces
-    → HoldsItems limit held items → IsDone limit held
-done-complete {limit} {held} complete holds more =
-    let kept = kept_after limit (length held.bytes) more in
-    rw complete at (piece_ends-complete 0 held.bytes held.ends (filter is_data_item kept)
-    (ends_after (length held.bytes) kept) (rw complete holds.end))
+pub done-complete : {limit : Option ℕ} {stored : StoredCommand} {items : List ℕ} → length stored.ends ≡ max_pieces
+    → HoldsItems limit stored items → IsDone limit stored
+done-complete {limit} {stored} complete holds more =
+    let kept = kept_after limit (length stored.bytes) more in
+    rw complete at (piece_ends-complete 0 stored.bytes stored.ends (filter is_data_item kept)
+    (ends_after (length stored.bytes) kept) (rw complete holds.end))
 
-pieces_of-done : {limit : Option ℕ} {held : StoredCommand} {items : List ℕ} (more : List ℕ) → IsDone limit held
-    → HoldsItems limit held items
-    → (later : List ℕ) → pieces_of limit ((items ++ more) ++ later) ≡ pieces_from limit held.bytes held.ends later
+pieces_of-done : {limit : Option ℕ} {stored : StoredCommand} {items : List ℕ} (more : List ℕ) → IsDone limit stored
+    → HoldsItems limit stored items
+    → (later : List ℕ) → pieces_of limit ((items ++ more) ++ later) ≡ pieces_from limit stored.bytes stored.ends later
 pieces_of-done {items} more done holds later =
     rw (append_assoc items more later) (holds.same_pieces (more ++ later) ∙ done (more ++ later) ∙ sym (done later))
 
@@ -182,9 +183,9 @@ holds_items-later limit old new items run complete are_data bytes ends lost hold
     search (rules, arith, pieces_of-done, done-complete, count-run, lost-more)
 
 -- If no more items count, a `;` changes nothing.
-pub holds_items-done : {limit : Option ℕ} {held : StoredCommand} {items : List ℕ} → IsDone limit held
-    → HoldsItems limit held items
-    → HoldsItems limit held (items ++ semicolon ∷ [])
+pub holds_items-done : {limit : Option ℕ} {stored : StoredCommand} {items : List ℕ} → IsDone limit stored
+    → HoldsItems limit stored items
+    → HoldsItems limit stored (items ++ semicolon ∷ [])
 holds_items-done {items} done holds = search (rules, arith, pieces_of-done, count-end)
 
 -- Before 16 ends, data bytes are kept as far as there is room.
@@ -207,28 +208,28 @@ holds_items-end limit old new items at_most room bytes ends lost holds =
     search (rules, arith, append_assoc, piece_ends-push, count-end)
 
 -- The pieces are what a store's ends make of its bytes.
-pub pieces_held : {limit : Option ℕ} {held : StoredCommand} {items : List ℕ} → HoldsItems limit held items
-    → pieces_of limit items ≡ cut_pieces held.bytes held.ends
-pieces_held {limit} {held} holds =
-    rw append-nil at (holds.same_pieces [] ∙ pieces_from-nothing limit held.bytes held.ends)
+pub stored_pieces : {limit : Option ℕ} {stored : StoredCommand} {items : List ℕ} → HoldsItems limit stored items
+    → pieces_of limit items ≡ cut_pieces stored.bytes stored.ends
+stored_pieces {limit} {stored} holds =
+    rw append-nil at (holds.same_pieces [] ∙ pieces_from-nothing limit stored.bytes stored.ends)
 
 -- The pieces have all bytes of the store.
-pub pieces_stored : {limit : Option ℕ} {held : StoredCommand} {items : List ℕ} → HoldsItems limit held items
-    → length held.bytes ≡ length (concat (pieces_of limit items))
-pieces_stored {held} holds =
-    rw (pieces_held holds) (omega (arith, piece_ends-stored max_pieces 0 held.bytes held.ends holds.end))
+pub stored_length : {limit : Option ℕ} {stored : StoredCommand} {items : List ℕ} → HoldsItems limit stored items
+    → length stored.bytes ≡ length (concat (pieces_of limit items))
+stored_length {stored} holds =
+    rw (stored_pieces holds) (omega (arith, piece_ends-stored max_pieces 0 stored.bytes stored.ends holds.end))
 
 -- A store knows whether data bytes were dropped.
-pub loses_held : {limit : Option ℕ} {held : StoredCommand} {items : List ℕ} → HoldsItems limit held items
-    → loses_data limit items ≡ held.lost
+pub stored_lost : {limit : Option ℕ} {stored : StoredCommand} {items : List ℕ} → HoldsItems limit stored items
+    → loses_data limit items ≡ stored.lost
 unfolding loses_data
-loses_held {limit} {held} {items} holds = rw (pieces_stored holds) at (sym holds.lost)
+stored_lost {limit} {stored} {items} holds = rw (stored_length holds) at (sym holds.lost)
 
 -- ---- one more data byte of an open command
 
 -- With fewer than 16 `;` the byte joins the last piece, and the others stay.
 
--- One more byte continues the last piece of the held bytes.
+-- One more byte continues the last piece of the stored bytes.
 record ContinuesPiece (start : ℕ) (bytes ends : List ℕ) (byte : ℕ) : Type 0 where
   pieces : List (List ℕ)
   last : List ℕ
@@ -287,17 +288,17 @@ loses_data-same : (items : List ℕ) (byte : ℕ) (pieces : List (List ℕ)) (la
 unfolding loses_data
 loses_data-same items byte pieces last before later other = search (rules, arith, count-run, concat-last, length-append)
 
-pub open_for : {held : StoredCommand} {items : List ℕ} {byte : ℕ} → HoldsItems None held items
-    → length held.ends < max_pieces
+pub open_for : {stored : StoredCommand} {items : List ℕ} {byte : ℕ} → HoldsItems None stored items
+    → length stored.ends < max_pieces
     → byte ≢ semicolon → IsOpenFor items byte
-open_for {held} {items} {byte} holds at_most other =
-    let continues = piece-goes_on max_pieces 0 held.bytes held.ends byte holds.end in
+open_for {stored} {items} {byte} holds at_most other =
+    let continues = piece-goes_on max_pieces 0 stored.bytes stored.ends byte holds.end in
     let few : length continues.pieces < max_pieces = omega (arith, continues.ended) in
     let more =
-    holds.same_pieces (byte ∷ []) ∙ pieces_from-byte None held.bytes held.ends refl byte other []
-    ∙ pieces_from-nothing None (held.bytes ++ byte ∷ []) held.ends in
+    holds.same_pieces (byte ∷ []) ∙ pieces_from-byte None stored.bytes stored.ends refl byte other []
+    ∙ pieces_from-nothing None (stored.bytes ++ byte ∷ []) stored.ends in
     let before =
-    pieces_held holds ∙ ap (take max_pieces) continues.before ∙ pieces-at_most continues.pieces continues.last few in
+    stored_pieces holds ∙ ap (take max_pieces) continues.before ∙ pieces-at_most continues.pieces continues.last few in
     let later =
     more ∙ ap (take max_pieces) continues.later ∙ pieces-at_most continues.pieces (continues.last ++ byte ∷ []) few in
     record {

@@ -3,7 +3,7 @@
 --
 -- A lemma is named by the place and what comes there, as `escape-end` for the end of a sequence right after ESC.
 use Rattle.std.proofs.lemmas.List.{length-take}
-use Rattle.vte_core.proofs.Common.{ap, append-nil, append_assoc, are_too_many, AreBrief, arith, AtEscape, bell, body_outcome, Bool, character_event, Class, class_of, cond, control_sequence_end, control_sequence_outcome, CsiDispatch, device_control_after_head, device_control_outcome, device_data_outcome, dispatches_escape, ends_device_data, ends_system_command, eqb, escape_outcome, EscapeSequence, EscDispatch, Event, Execute, executed_events, false, Final, first_two, Head, head_of, High, Hook, InControlSequence, InDeviceControl, InDeviceData, InEscape, InIgnoredString, InSystemCommand, Intermediate, InText, is_cancel, is_device_data, is_head_byte, is_truncated, is_well_formed, is_well_shaped, IsAtMostOneShort, IsBounded, IsExecuted, IsPrintable, IsShort, Leads, length, List, malformed_event, nat_le, nat_tests, Option, OscDispatch, pieces_of, Place, PlainControl, Print, Put, refl, reported_intermediates, rules, scalar_of, sequence_event, sequence_kind, sym, system_command_outcome, text_outcome, true, Unhook, ℕ, [], ◌++◌, ◌<◌, ◌∷◌, ◌≡◌, ◌≤◌}
+use Rattle.vte_core.proofs.Common.{ap, append-nil, append_assoc, are_too_many, AreBrief, arith, AtEscape, bell, body_outcome, Bool, character_event, Class, class_of, cond, control_sequence_end, control_sequence_outcome, CsiDispatch, device_control_after_head, device_control_outcome, device_data_outcome, dispatches_escape, ends_device_data, ends_system_command, eqb, escape_outcome, EscapeSequence, EscDispatch, Event, Execute, executed_events, false, Final, first_two, Head, head_of, High, Hook, InControlSequence, InDeviceControl, InDeviceData, InEscape, InIgnoredString, InSystemCommand, Intermediate, InText, is_cancel, is_device_data, is_head_byte, is_truncated, is_well_formed, is_well_shaped, IsAtMostOneCharacter, IsBounded, IsCharacterEvent, IsExecuted, IsPrintable, Leads, length, List, malformed_event, nat_le, nat_tests, Option, OscDispatch, pieces_of, Place, PlainControl, Print, Put, refl, reported_intermediates, rules, scalar_of, sequence_event, sequence_kind, sym, system_command_outcome, text_outcome, true, Unhook, ℕ, [], ◌++◌, ◌<◌, ◌∷◌, ◌≡◌, ◌≤◌}
 use Rattle.vte_core.proofs.lemmas.bytes.Classes.{below_finals, head_is_no_control, head_is_no_end, is_dropped, is_dropped_in_head, spans}
 use Rattle.vte_core.proofs.lemmas.bytes.Scalars.{well_formed_is_scalar}
 use Rattle.vte_core.proofs.lemmas.fields.Numbers.{AreGroups-groups_of, some_group}
@@ -203,7 +203,7 @@ pub text-lone : {limit : Option ℕ} {b : ℕ} → is_well_formed (b ∷ []) ≡
 text-lone {b} not_well_formed not_truncated =
     record { leads = λ rest. text_outcome-lone rest b not_well_formed not_truncated }
 
--- ---- the events of one byte are small
+-- ---- the events of one byte are brief
 
 -- A character, a control, or a dispatch whose intermediates and final byte have bounds: by the kind of event.
 
@@ -223,27 +223,29 @@ bounded-head limit head final in_range =
     let has_group = some_group head.parameter_text in
     ((groups, at_most, in_range.1, in_range.0, has_group), (groups, at_most, in_range.1, in_range.0, has_group))
 
-short-chosen : (executed : Bool) (byte scalar : ℕ) → (executed ≡ true → IsExecuted byte)
+is_character_event-chosen : (executed : Bool) (byte scalar : ℕ) → (executed ≡ true → IsExecuted byte)
     → (executed ≡ false → IsPrintable scalar)
-    → IsShort (cond executed (Execute byte) (Print scalar))
-short-chosen true byte scalar if_executed if_printed = if_executed refl
-short-chosen false byte scalar if_executed if_printed = if_printed refl
+    → IsCharacterEvent (cond executed (Execute byte) (Print scalar))
+is_character_event-chosen true byte scalar if_executed if_printed = if_executed refl
+is_character_event-chosen false byte scalar if_executed if_printed = if_printed refl
 
-pub short-character : (bytes : List ℕ) → is_well_formed bytes ≡ true → IsShort (character_event (scalar_of bytes))
+pub is_character_event-character : (bytes : List ℕ) → is_well_formed bytes ≡ true
+    → IsCharacterEvent (character_event (scalar_of bytes))
 unfolding character_event
-short-character bytes well_formed = search (rules, arith, short-chosen, well_formed_is_scalar)
+is_character_event-character bytes well_formed = search (rules, arith, is_character_event-chosen, well_formed_is_scalar)
 
-pub short-malformed : (b : ℕ) → IsShort (malformed_event (b ∷ []))
+pub is_character_event-malformed : (b : ℕ) → IsCharacterEvent (malformed_event (b ∷ []))
 unfolding malformed_event
-short-malformed b = search (rules, arith)
+is_character_event-malformed b = search (rules, arith)
 
-pub short_bounded : (limit : Option ℕ) (event : Event) → IsShort event → IsBounded limit event
-short_bounded limit event short = search (rules, arith)
+pub character_event_bounded : (limit : Option ℕ) (event : Event) → IsCharacterEvent event → IsBounded limit event
+character_event_bounded limit event short = search (rules, arith)
 
-pub one_short-from_one_byte : (limit : Option ℕ) (reported : List Event) → IsAtMostOneShort reported
+pub one_character-from_one_byte : (limit : Option ℕ) (reported : List Event) → IsAtMostOneCharacter reported
     → AreBrief limit reported
-one_short-from_one_byte limit reported one_short = search (rules, arith)
+one_character-from_one_byte limit reported one_character = search (rules, arith)
 
-pub one_short-append : (limit : Option ℕ) (prefix rest : List Event) → IsAtMostOneShort prefix → IsAtMostOneShort rest
+pub one_character-append : (limit : Option ℕ) (prefix rest : List Event) → IsAtMostOneCharacter prefix
+    → IsAtMostOneCharacter rest
     → AreBrief limit (prefix ++ rest)
-one_short-append limit prefix rest prefix_short rest_short = search (rules, arith)
+one_character-append limit prefix rest prefix_is rest_is = search (rules, arith)

@@ -1,15 +1,15 @@
 -- What one byte reports after a place, and where it leads (`Steps`), for all uses of it. `TextSteps` and `PlaceSteps`
 -- prove it of each place.
-use Rattle.vte_core.proofs.Common.{AreBrief, breaks, BytesLead, class_of, CommandToClose, Event, events, false, FitsLimit, InDeviceData, InText, is_device_data, IsAtMostOneShort, IsOutsideRuns, List, None, open_at, open_data_count, Option, Place, Print, refl, replacement, to_close_at, ToClose, ℕ, [], ◌+◌, ◌∷◌, ◌≡◌, ◌≤◌, ◌⊎◌}
+use Rattle.vte_core.proofs.Common.{AreBrief, breaks, BytesLead, class_of, CommandToClose, Event, events, false, FitsLimit, InDeviceData, InText, is_device_data, IsAtMostOneCharacter, IsOutsideRuns, List, None, open_at, open_data_count, Option, Place, Print, refl, replacement, to_close_at, ToClose, ℕ, [], ◌+◌, ◌∷◌, ◌≡◌, ◌≤◌, ◌⊎◌}
 use Rattle.vte_core.proofs.lemmas.fields.PlaceOfState.{IsReachable}
 
 -- If a character is open at the next place, at most U+FFFD was reported.
 abbrev LeavesOpen : Place → List Event → Type 0
 LeavesOpen next reported = (open_at next ≡ []) ⊎ ((reported ≡ []) ⊎ (reported ≡ Print replacement ∷ []))
 
--- Nothing was reported, or one short event after which no character is open.
+-- Nothing was reported, or one character event after which no character is open.
 abbrev pub IsSilentOrSettles : Place → List Event → Type 0
-IsSilentOrSettles next reported = (reported ≡ []) ⊎ ((open_at next ≡ []) × IsAtMostOneShort reported)
+IsSilentOrSettles next reported = (reported ≡ []) ⊎ ((open_at next ≡ []) × IsAtMostOneCharacter reported)
 
 abbrev pub IsText : Place → Type 0
 IsText (InText opened) = Unit {0}

@@ -1,12 +1,12 @@
 -- A byte in a text, by whether it ends, continues or breaks the open character (`step-text`), and CAN and SUB at all
 -- places (`byte-cancels`).
-use Rattle.vte_core.proofs.Common.{ap, append-nil, AreBrief, arith, bell, body_outcome, Cancel, cases_Bool, character_event, class_of, closing_events_at, control_sequence_end, device_control_after_head, device_data_outcome, eqb, escape, Event, Execute, executed_events, false, false≢true, inl, inr, InSystemCommand, InText, is_control_character, is_truncated, is_well_formed, IsAtMostOneShort, Leads, List, may_continue, nat_tests, open_data_count, Option, Place, Print, refl, replacement, report, rules, sym, text_outcome, to_close_at, true, ℕ, [], ◌++◌, ◌<◌, ◌∙◌, ◌∷◌, ◌≡◌}
+use Rattle.vte_core.proofs.Common.{ap, append-nil, AreBrief, arith, bell, body_outcome, Cancel, cases_Bool, character_event, class_of, closing_events_at, control_sequence_end, device_control_after_head, device_data_outcome, eqb, escape, Event, Execute, executed_events, false, false≢true, inl, inr, InSystemCommand, InText, is_control_character, is_truncated, is_well_formed, IsAtMostOneCharacter, Leads, List, may_continue, nat_tests, open_data_count, Option, Place, Print, refl, replacement, report, rules, sym, text_outcome, to_close_at, true, ℕ, [], ◌++◌, ◌<◌, ◌∙◌, ◌∷◌, ◌≡◌}
 use Rattle.vte_core.proofs.lemmas.bytes.Classes.{spans}
 use Rattle.vte_core.proofs.lemmas.bytes.Utf8.{ascii-alone, ascii-breaks, Tests}
 use Rattle.vte_core.proofs.lemmas.fields.Pieces.{few_pieces, some_pieces}
 use Rattle.vte_core.proofs.lemmas.fields.PlaceOfState.{IsReachable, may_continue-truncated}
 use Rattle.vte_core.proofs.lemmas.places.BytesInStream.{bytes_lead-byte, waits-byte}
-use Rattle.vte_core.proofs.lemmas.places.PlaceLeads.{executed_low, one_short-append, one_short-from_one_byte, short-character, short-malformed, text-lone, text-unfinished, text-well_formed}
+use Rattle.vte_core.proofs.lemmas.places.PlaceLeads.{executed_low, is_character_event-character, is_character_event-malformed, one_character-append, one_character-from_one_byte, text-lone, text-unfinished, text-well_formed}
 use Rattle.vte_core.proofs.lemmas.places.Steps.{IsSilentOrSettles, OpenPiecesFit, Steps}
 use Rattle.vte_core.proofs.lemmas.shapes.BrokenCharacters.{breaks-broken}
 use Rattle.vte_core.proofs.lemmas.shapes.FirstSegment.{text_outcome-broken, text_outcome-well_formed}
@@ -19,9 +19,9 @@ open_data_count-text : (limit : Option ℕ) (opened : List ℕ) → open_data_co
 open_data_count-text limit [] = refl
 open_data_count-text limit (a ∷ opened) = refl
 
-silent_or_settles-is_short : (next : Place) (reported : List Event) → IsSilentOrSettles next reported
-    → IsAtMostOneShort reported
-silent_or_settles-is_short next reported silent_or_settles = search (rules, arith)
+silent_or_settles-is_character : (next : Place) (reported : List Event) → IsSilentOrSettles next reported
+    → IsAtMostOneCharacter reported
+silent_or_settles-is_character next reported silent_or_settles = search (rules, arith)
 
 step-silent_or_settles : {limit : Option ℕ} {opened later : List ℕ} {byte : ℕ} {reported : List Event}
     → IsSilentOrSettles (InText later) reported → eqb byte escape ≡ false
@@ -34,8 +34,8 @@ step-silent_or_settles {limit} {opened} {later} {byte} {reported} silent_or_sett
       is_reachable = is_reachable;
       leads = bytes_lead-byte is_no_escape leads;
       brief =
-          λ size _. one_short-from_one_byte size reported
-          (silent_or_settles-is_short (InText later) reported silent_or_settles);
+          λ size _. one_character-from_one_byte size reported
+          (silent_or_settles-is_character (InText later) reported silent_or_settles);
       grows = λ _. omega (arith, open_data_count-text limit later);
       leaves = elim silent_or_settles [ inl nothing ↦ inr (inl nothing) | inr closed ↦ inl closed.0 ];
       silent_or_settles = λ _ _. silent_or_settles;
@@ -48,7 +48,8 @@ step-by_tests : {limit : Option ℕ} {opened : List ℕ} {byte : ℕ} → eqb by
     → Steps limit (InText opened) byte)
     → Steps limit (InText opened) byte
 step-by_tests {opened} {byte} is_no_escape neither = elim (cases_Bool (is_well_formed (opened ++ byte ∷ []))) [
-  | inl well_formed ↦ step-silent_or_settles (inr (refl, short-character (opened ++ byte ∷ []) well_formed))
+  | inl well_formed ↦
+      step-silent_or_settles (inr (refl, is_character_event-character (opened ++ byte ∷ []) well_formed))
       is_no_escape (text-well_formed well_formed) refl
   | inr not_well_formed ↦ elim (cases_Bool (is_truncated (opened ++ byte ∷ []))) [
     | inl truncated ↦ step-silent_or_settles (inl refl) is_no_escape text-unfinished
@@ -61,7 +62,7 @@ step-settled : {limit : Option ℕ} {byte : ℕ} → eqb byte escape ≡ false �
 step-settled {byte} is_no_escape =
     step-by_tests is_no_escape
     (λ not_well_formed not_truncated.
-    step-silent_or_settles (inr (refl, short-malformed byte)) is_no_escape
+    step-silent_or_settles (inr (refl, is_character_event-malformed byte)) is_no_escape
     (text-lone not_well_formed not_truncated) refl)
 
 -- `Steps` holds for a byte that belongs to no character with those before it.
@@ -82,8 +83,8 @@ step-broken limit opened byte is_no_escape truncated not_well_formed_after not_t
             ∙ ap (report (Print replacement ∷ [])) (alone.leads.leads rest);
       };
       brief =
-          λ size _. one_short-append size (Print replacement ∷ []) alone.reported (refl, refl)
-          (silent_or_settles-is_short alone.next alone.reported silent_or_settles);
+          λ size _. one_character-append size (Print replacement ∷ []) alone.reported (refl, refl)
+          (silent_or_settles-is_character alone.next alone.reported silent_or_settles);
       grows = λ no_limit. omega (arith, alone.grows no_limit);
       leaves =
           elim silent_or_settles [

@@ -14,18 +14,20 @@ use Rattle.vte_core.proofs.lemmas.positions.SettledStates.{settled-same_state}
 use Rattle.vte_core.proofs.lemmas.positions.Stretches.{advances-byte, advances-given, advances-then, advances-to_same}
 use Rattle.vte_core.proofs.lemmas.positions.TakenBytes.{takes_bytes-in}
 use Rattle.vte_core.specs.declared.head.HeadEnd.{HeadEnd}
-use Rattle.vte_core.specs.private.HeldHead.{ReadsHeadUpTo}
+use Rattle.vte_core.specs.private.CollectedHead.{ReadsHeadUpTo}
 use Rattle.vte_core.specs.private.Progress.{MayRead}
 use Rattle.vte_core.specs.private.ToRun.{IsOutsideRunsInState}
 
 -- ---- `ReadsHead` of no bytes, of two stretches, of a byte
 
-pub reads_head-nothing : {bytes : List ℕ} {i : ℕ} {progress : HeadProgress} {held : CollectedHead} → i ≤ length bytes
-    → ReadsHead bytes i i progress progress held held
-reads_head-nothing {bytes} {i} {progress} {held} within = search (rules, arith)
+pub reads_head-nothing : {bytes : List ℕ} {i : ℕ} {reached : HeadProgress} {collected : CollectedHead}
+    → i ≤ length bytes
+    → ReadsHead bytes i i reached reached collected collected
+reads_head-nothing {bytes} {i} {reached} {collected} within = search (rules, arith)
 
-pub reads_head-then : {bytes : List ℕ} {i j k : ℕ} {reached progress next : HeadProgress} {old mid new : CollectedHead}
-    → ReadsHead bytes i j reached progress old mid → ReadsHead bytes j k progress next mid new
+pub reads_head-then : {bytes : List ℕ} {i j k : ℕ} {reached reached_then next : HeadProgress}
+    {old mid new : CollectedHead}
+    → ReadsHead bytes i j reached reached_then old mid → ReadsHead bytes j k reached_then next mid new
     → ReadsHead bytes i k reached next old new
 reads_head-then {bytes} {i} {j} {k} reads rest =
     let whole = slice-then bytes i j k reads.in_order rest.in_order in
@@ -38,11 +40,11 @@ reads_head-then {bytes} {i} {j} {k} reads rest =
           (rest.leads _ (reads.leads head has_read));
     }
 
-pub reads_head-byte : {bytes : List ℕ} {i b : ℕ} {progress next : HeadProgress} {old new : CollectedHead}
+pub reads_head-byte : {bytes : List ℕ} {i b : ℕ} {reached next : HeadProgress} {old new : CollectedHead}
     → i < length bytes
     → b ≡ slice_index bytes i → is_head_byte (class_of b) ≡ true
-    → ((head : List ℕ) → HasReadHead old progress head → HasReadHead new next (head ++ b ∷ []))
-    → ReadsHead bytes i (i + 1) progress next old new
+    → ((head : List ℕ) → HasReadHead old reached head → HasReadHead new next (head ++ b ∷ []))
+    → ReadsHead bytes i (i + 1) reached next old new
 reads_head-byte {bytes} {i} {b} before_end byte_is is_head leads = search (rules, arith, one_byte)
 
 -- If no byte follows, the case for `None` holds.
@@ -87,29 +89,29 @@ pub data Shape : Type 0 where
   DeviceHead : Shape
 
 abbrev state_of : Shape → HeadProgress → State
-state_of ControlHead progress = ControlSequence progress
-state_of DeviceHead progress = DeviceControl progress
+state_of ControlHead reached = ControlSequence reached
+state_of DeviceHead reached = DeviceControl reached
 
 abbrev in_head : Shape → List ℕ → Place
 in_head ControlHead head = InControlSequence head
 in_head DeviceHead head = InDeviceControl head
 
-record InHeadAt (shape : Shape) (held : CollectedHead) (progress : HeadProgress) (place : Place) : Type 0 where
+record InHeadAt (shape : Shape) (collected : CollectedHead) (reached : HeadProgress) (place : Place) : Type 0 where
   head : List ℕ
   same : place ≡ in_head shape head
-  is_at : HasReadHead held progress head
+  is_at : HasReadHead collected reached head
 
-head-place : {B : Type 0} (shape : Shape) (limit : Option ℕ) (progress : HeadProgress) (parser : Machine B)
+head-place : {B : Type 0} (shape : Shape) (limit : Option ℕ) (reached : HeadProgress) (parser : Machine B)
     (place : Place)
-    → IsPlaceOfState limit (state_of shape progress) parser place
-    → InHeadAt shape parser.collected progress place
-head-place shape limit progress parser place fields = search (rules, arith)
+    → IsPlaceOfState limit (state_of shape reached) parser place
+    → InHeadAt shape parser.collected reached place
+head-place shape limit reached parser place fields = search (rules, arith)
 
-head-is_at : {B : Type 0} (shape : Shape) {limit : Option ℕ} (progress : HeadProgress) {parser : Machine B}
+head-is_at : {B : Type 0} (shape : Shape) {limit : Option ℕ} (reached : HeadProgress) {parser : Machine B}
     (head : List ℕ)
-    → parser.state ≡ state_of shape progress
-    → HasReadHead parser.collected progress head → IsAtPlace limit parser (in_head shape head)
-head-is_at shape progress head in_state has_read = search (rules, arith)
+    → parser.state ≡ state_of shape reached
+    → HasReadHead parser.collected reached head → IsAtPlace limit parser (in_head shape head)
+head-is_at shape reached head in_state has_read = search (rules, arith)
 
 head-leads : (shape : Shape) {limit : Option ℕ} (head : List ℕ) {b : ℕ} → is_head_byte (class_of b) ≡ true
     → Leads limit (in_head shape head) b [] (in_head shape (head ++ b ∷ []))
@@ -124,13 +126,13 @@ head-settled_place : (shape : Shape) (head : List ℕ) → IsSettledPlace (in_he
 head-settled_place ControlHead head = tt
 head-settled_place DeviceHead head = tt
 
-head-outside_runs : (shape : Shape) (progress : HeadProgress) (b : ℕ) → IsOutsideRunsInState (state_of shape progress) b
-head-outside_runs ControlHead progress b = tt
-head-outside_runs DeviceHead progress b = tt
+head-outside_runs : (shape : Shape) (reached : HeadProgress) (b : ℕ) → IsOutsideRunsInState (state_of shape reached) b
+head-outside_runs ControlHead reached b = tt
+head-outside_runs DeviceHead reached b = tt
 
-head-settled : (shape : Shape) (progress : HeadProgress) → IsSettled (state_of shape progress)
-head-settled ControlHead progress = tt
-head-settled DeviceHead progress = tt
+head-settled : (shape : Shape) (reached : HeadProgress) → IsSettled (state_of shape reached)
+head-settled ControlHead reached = tt
+head-settled DeviceHead reached = tt
 
 module _ {V : Type 0} {call : ChunkCall V} where
   -- A call makes progress over n bytes of a head.
@@ -157,12 +159,12 @@ module _ {V : Type 0} {call : ChunkCall V} where
       rw (far, cut) (rw (append_assoc head (b ∷ []) (take n (drop (i + 1) call.bytes))) at rest)
 
   -- The bytes of a part of a head lead from position i to position j.
-  is_at-head : {B : Type 0} {old value : V} {stream : List ℕ} {i j : ℕ} {reached progress : HeadProgress}
+  is_at-head : {B : Type 0} {old value : V} {stream : List ℕ} {i j : ℕ} {reached reached_then : HeadProgress}
       {parser next : Machine B} (shape : Shape) → parser.state ≡ state_of shape reached
-      → ReadsHead call.bytes i j reached progress parser.collected next.collected → MayGoOn call value
-      → next.state ≡ state_of shape progress → IsAtPosition call old value stream i parser
+      → ReadsHead call.bytes i j reached reached_then parser.collected next.collected → MayGoOn call value
+      → next.state ≡ state_of shape reached_then → IsAtPosition call old value stream i parser
       → IsAtPosition call old value stream j next
-  is_at-head {old} {value} {stream} {i} {j} {reached} {progress}
+  is_at-head {old} {value} {stream} {i} {j} {reached} {reached_then}
       {parser} {next} shape in_state reads may_go_on state position =
       let at_head = head-place shape call.limit reached parser position.place (is_at-in in_state position.is_at) in
       let here : ProgressAt call old value stream i (in_head shape at_head.head) =
@@ -171,7 +173,7 @@ module _ {V : Type 0} {call : ChunkCall V} where
       let run : List ℕ = take (j - i) (drop i call.bytes) in
       record {
         place = in_head shape (at_head.head ++ run);
-        is_at = head-is_at shape progress (at_head.head ++ run) state (reads.leads at_head.head at_head.is_at);
+        is_at = head-is_at shape reached_then (at_head.head ++ run) state (reads.leads at_head.head at_head.is_at);
         settled = λ _. head-settled_place shape (at_head.head ++ run);
         progress = rw end at
             (progress-head shape (j - i) at_head.head (omega (arith, reads.within, end)) reads.head_bytes may_go_on
@@ -179,14 +181,14 @@ module _ {V : Type 0} {call : ChunkCall V} where
       }
 
 module _ {V : Type 0} {call : ChunkCall V} where
-  pub advances-head : {outside B : Type 0} {value : V} {i j : ℕ} {reached progress : HeadProgress}
+  pub advances-head : {outside B : Type 0} {value : V} {i j : ℕ} {reached reached_then : HeadProgress}
       {parser next : Machine B}
       (shape : Shape) → parser.state ≡ state_of shape reached
-      → ReadsHead call.bytes i j reached progress parser.collected next.collected → MayGoOn call value
-      → next.state ≡ state_of shape progress → Advances outside call value value i j parser next
-  advances-head {progress} {next} shape in_state reads may_go_on state = record {
+      → ReadsHead call.bytes i j reached reached_then parser.collected next.collected → MayGoOn call value
+      → next.state ≡ state_of shape reached_then → Advances outside call value value i j parser next
+  advances-head {reached_then} {next} shape in_state reads may_go_on state = record {
     is_at_position = λ old stream position. is_at-head shape in_state reads may_go_on state position;
-    settled = λ _. settled-same_state state (head-settled shape progress);
+    settled = λ _. settled-same_state state (head-settled shape reached_then);
     outside_runs = λ _ old stream position.
         adds-same (reported-at
         (is_at-head {next = next} shape in_state reads (λ asks. absurd (false≢true asks)) state
@@ -194,56 +196,57 @@ module _ {V : Type 0} {call : ChunkCall V} where
   }
 
   -- A call reads a part of a head and the byte after it, if the caller says what that byte does.
-  pub advances-past_head : {outside B : Type 0} {old new : V} {i j b : ℕ} {reached progress : HeadProgress}
+  pub advances-past_head : {outside B : Type 0} {old new : V} {i j b : ℕ} {reached reached_then : HeadProgress}
       {parser next : Machine B}
-      {held : CollectedHead} (shape : Shape) → parser.state ≡ state_of shape reached
-      → ReadsHead call.bytes i j reached progress parser.collected held
+      {collected : CollectedHead} (shape : Shape) → parser.state ≡ state_of shape reached
+      → ReadsHead call.bytes i j reached reached_then parser.collected collected
       → (j < length call.bytes) × (b ≡ slice_index call.bytes j) → MayGoOn call old
       → ((place : Place) → IsAtPlace {B = B} call.limit
-      (record { state = state_of shape progress; collected = held; command = parser.command }) place
+      (record { state = state_of shape reached_then; collected = collected; command = parser.command }) place
       → IsSettledPlace place
       → TakesBytes call.step old new call.limit place (b ∷ []) next) → IsSettled next.state
       → Advances outside call old new i (j + 1) parser next
-  advances-past_head {B} {progress} {parser} {held} shape in_state reads next_byte may_go_on performs settled =
-      let head : Machine B = record { state = state_of shape progress; collected = held; command = parser.command } in
+  advances-past_head {B} {reached_then} {parser} {collected} shape in_state reads next_byte may_go_on performs settled =
+      let head : Machine B =
+      record { state = state_of shape reached_then; collected = collected; command = parser.command } in
       advances-then (advances-head {next = head} shape in_state reads may_go_on refl)
-      (advances-given (head-outside_runs shape progress _)
+      (advances-given (head-outside_runs shape reached_then _)
       (advances-byte next_byte.0 next_byte.1 may_go_on performs settled))
 
 -- For a byte of a head other than CAN, SUB and ESC, it is enough to say what it does after each such head.
 pub takes_bytes-head : {V B : Type 0} {step : V → Event → V} {old new : V} {limit : Option ℕ} {b : ℕ}
-    {parser next : Machine B} (shape : Shape) (progress : HeadProgress)
-    → parser.state ≡ state_of shape progress → ends_sequence (class_of b) ≡ false
-    → ((head : List ℕ) → HasReadHead parser.collected progress head
+    {parser next : Machine B} (shape : Shape) (reached : HeadProgress)
+    → parser.state ≡ state_of shape reached → ends_sequence (class_of b) ≡ false
+    → ((head : List ℕ) → HasReadHead parser.collected reached head
     → TakesByte step old new limit (in_head shape head) b next)
     → (place : Place) → IsAtPlace limit parser place → IsSettledPlace place
     → TakesBytes step old new limit place (b ∷ []) next
 takes_bytes-head {step} {old} {new} {limit} {b} {parser}
-    {next} shape progress in_state ordinary takes = takes_bytes-in in_state ordinary (λ place is_at.
-    let at_head = head-place shape limit progress parser place is_at in
+    {next} shape reached in_state ordinary takes = takes_bytes-in in_state ordinary (λ place is_at.
+    let at_head = head-place shape limit reached parser place is_at in
     subst (λ p. TakesByte step old new limit p b next) (sym at_head.same) (takes at_head.head at_head.is_at))
 
 -- A call reads the rest of a head and the final byte of a control sequence.
 pub advances-control_sequence : {V B outside : Type 0} {call : ChunkCall V} {old new : V} {i j k b : ℕ}
-    {reached progress : HeadProgress} {parser next : Machine B} {held : CollectedHead}
+    {reached reached_then : HeadProgress} {parser next : Machine B} {collected : CollectedHead}
     → parser.state ≡ ControlSequence reached
-    → ReadsHead call.bytes i j reached progress parser.collected held
+    → ReadsHead call.bytes i j reached reached_then parser.collected collected
     → (j < length call.bytes) × (b ≡ slice_index call.bytes j) → MayGoOn call old → is_final (class_of b) ≡ true
-    → ((head : List ℕ) → HasReadHead held progress head
+    → ((head : List ℕ) → HasReadHead collected reached_then head
     → TakesByte call.step old new call.limit (InControlSequence head) b next)
     → IsSettled next.state → k ≡ j + 1 → Advances outside call old new i k parser next
-advances-control_sequence {progress} in_state reads next_byte may_go_on final takes settled end =
+advances-control_sequence {reached_then} in_state reads next_byte may_go_on final takes settled end =
     advances-to_same (sym end)
     (advances-past_head ControlHead in_state reads next_byte may_go_on
-    (takes_bytes-head ControlHead progress refl (final_ends_nothing _ final) takes) settled)
+    (takes_bytes-head ControlHead reached_then refl (final_ends_nothing _ final) takes) settled)
 
 -- The same holds if the head is read up to its end (`ReadsHeadUpTo`), and the final byte is there.
 pub advances-final_byte : {V B outside : Type 0} {call : ChunkCall V} {old new : V} {i k b : ℕ}
-    {reached : HeadProgress} {end : HeadEnd} {parser next : Machine B} {held : CollectedHead}
+    {reached : HeadProgress} {end : HeadEnd} {parser next : Machine B} {collected : CollectedHead}
     → MayRead call old (ControlSequence reached) parser i
-    → ReadsHeadUpTo call.bytes i reached end parser.collected held → end.next_byte ≡ Some b
+    → ReadsHeadUpTo call.bytes i reached end parser.collected collected → end.next_byte ≡ Some b
     → is_final (class_of b) ≡ true
-    → ((head : List ℕ) → HasReadHead held end.progress head
+    → ((head : List ℕ) → HasReadHead collected end.progress head
     → TakesByte call.step old new call.limit (InControlSequence head) b next)
     → IsSettled next.state → k ≡ end.position + 1 → Advances outside call old new i k parser next
 advances-final_byte may_read reads next_is =

@@ -3,7 +3,7 @@
 use Rattle.vte_core.proofs.Common.{added, ap, arith, AtEscape, Bool, ChunkCall, class_of, CommandToClose, concat, Digit, eqb, escape, EscapeSequence, Event, events_from, false, HasReadWithLimit, InControlSequence, InDeviceControl, InDeviceData, InEscape, InIgnoredString, InSystemCommand, InText, is_truncated, IsAfter, IsAtPlace, IsDataOfOpenCommand, IsInsidePosition, IsPlaceOfState, IsRefusedInCommand, Leads, length, length-take, List, loses_data, Machine, None, open_command_size, open_data_count, Option, outcome, Place, Print, ProgressAt, ReadsUntilRefused, refl, replacement, rules, sequence_kind, slice_index, State, subst, sym, SystemCommand, take, Text, to_close_at, ToClose, true, ℕ, [], ◌++◌, ◌+◌, ◌<◌, ◌∙◌, ◌∷◌, ◌≡◌, ◌≢◌, ◌≤◌}
 use Rattle.vte_core.proofs.lemmas.bytes.Utf8.{ascii-breaks}
 use Rattle.vte_core.proofs.lemmas.fields.PlaceOfState.{in_command, is_at-by, is_at-place, IsReachable}
-use Rattle.vte_core.proofs.lemmas.fields.Stores.{open_for, pieces_stored}
+use Rattle.vte_core.proofs.lemmas.fields.Stores.{open_for, stored_length}
 use Rattle.vte_core.proofs.lemmas.places.BytesInStream.{bytes_lead-byte, bytes_lead-item, waits-byte}
 use Rattle.vte_core.proofs.lemmas.places.PlaceLeads.{command-item, control-head, data-put, device-head, escape-end, ignored-more, intermediate-end}
 use Rattle.vte_core.proofs.lemmas.positions.Progress.{progress-command}
@@ -174,7 +174,7 @@ pub stored_is_open : {B : Type 0} {parser : Machine B} {stream : List ℕ} → p
     → length parser.command.bytes ≡ open_command_size stream
 stored_is_open {parser} {stream} in_state has_read =
     let at_command = in_command in_state has_read.is_at in
-    pieces_stored at_command.keeps
+    stored_length at_command.keeps
     ∙ sym (ap open_data_count (to_close-at_place parser stream has_read ∙ ap (to_close_at None) at_command.same))
 
 state-by_command : {B : Type 0} {parser : Machine B} {place : Place} {pieces : List (List ℕ)} {lost : Bool}

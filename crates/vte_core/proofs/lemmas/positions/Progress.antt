@@ -10,11 +10,11 @@
 -- `progress-comes`, `progress-all_read`: the public clauses of a call that stops, and of one that reads all
 use Rattle.vte_core.proofs.Common.{added, after, ap, append-nil, append_assoc, arith, breaks, breaks_at, BytesLead, cases_Bool, cases_lt, ChunkCall, ComesTo, drop, drop_more, Event, false, inl, inr, InSystemCommand, InText, IsAfter, IsSettledPlace, IsStart, length, List, MayGoOn, open_at, open_character, Option, Place, Print, ProgressAt, ProgressInside, refl, replacement, reported_before, resumed_stream, rules, slice_index, subst, suc, sym, take, take-add, true, zero, ℕ, [], ◌++◌, ◌+◌, ◌-◌, ◌<◌, ◌∙◌, ◌∷◌, ◌≡◌, ◌≤◌}
 use Rattle.vte_core.proofs.lemmas.bytes.Each.{one_byte}
-use Rattle.vte_core.proofs.lemmas.EarlyStops.{added_from, after_from, breaks_there, goes_on_from}
 use Rattle.vte_core.proofs.lemmas.fields.PlaceOfState.{IsReachable, open_at-settled}
 use Rattle.vte_core.proofs.lemmas.places.BytesInStream.{bytes_lead-item}
 use Rattle.vte_core.proofs.lemmas.shapes.BrokenCharacters.{breaks_at-all, breaks_at-byte, breaks_at-settled, no_start, reported-all, reported-broken, reported-settled, resumed_stream-broken, resumed_stream-settled, starts-broken, starts-settled}
 use Rattle.vte_core.proofs.lemmas.streams.After.{added-leads, added-nothing, after-leads, after-nothing, after-open_character, after-to_close, after_events-append}
+use Rattle.vte_core.proofs.lemmas.streams.EarlyStops.{added_from, after_from, breaks_there, goes_on_from}
 
 -- ---- the bytes of a call from one position to the next
 

@@ -6,13 +6,13 @@ use Rattle.vte_core.proofs.Common.{added, Advances, after, All, All-append, All-
 use Rattle.vte_core.proofs.lemmas.bytes.Each.{each-one}
 use Rattle.vte_core.proofs.lemmas.bytes.Runs.{chars-one, layout-is_control_character, run-ascii, run_event-no_control, run_event-printed}
 use Rattle.vte_core.proofs.lemmas.dividing.Utf8Agrees.{cut-text, text_outcome-encodes}
-use Rattle.vte_core.proofs.lemmas.EarlyStops.{added-append}
 use Rattle.vte_core.proofs.lemmas.positions.CallEnds.{settles}
 use Rattle.vte_core.proofs.lemmas.positions.Progress.{progress-further, stretch-added}
 use Rattle.vte_core.proofs.lemmas.positions.SettledStates.{place-settled_text, settled-same_state}
 use Rattle.vte_core.proofs.lemmas.shapes.BrokenCharacters.{reported-broken, reported-settled}
 use Rattle.vte_core.proofs.lemmas.shapes.Outcomes.{with_bodies-report}
 use Rattle.vte_core.proofs.lemmas.streams.After.{added-leads, after_events-append}
+use Rattle.vte_core.proofs.lemmas.streams.EarlyStops.{added-append}
 use Rattle.vte_core.proofs.lemmas.streams.StreamSteps.{reported_by_stream}
 
 -- ---- what a text gives, and a run

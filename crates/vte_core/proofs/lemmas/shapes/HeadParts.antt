@@ -56,17 +56,18 @@ list_all-not [] b more no_intermediate = rw no_intermediate refl
 list_all-not (a ∷ bytes) b more no_intermediate = grind (arith, nat_tests, list_all-not bytes b more no_intermediate)
 
 -- `head_of` finds the parts of a head that is well shaped so far.
-pub held-parts : (marker parameters intermediates : List ℕ) → IsMarker marker → AreInClass is_parameter_byte parameters
+pub collected-parts : (marker parameters intermediates : List ℕ) → IsMarker marker
+    → AreInClass is_parameter_byte parameters
     → AreInClass is_intermediate intermediates
     → head_of (marker ++ (parameters ++ intermediates))
     ≡ record { marker = marker; parameter_text = parameters; tail = intermediates }
-held-parts marker parameters intermediates is_marker are_parameters are_intermediates =
+collected-parts marker parameters intermediates is_marker are_parameters are_intermediates =
     search (rules, arith, begins-intermediates, head_of-parts, append-nil)
 
-pub held-well_shaped : (marker parameters intermediates : List ℕ) → IsMarker marker
+pub collected-well_shaped : (marker parameters intermediates : List ℕ) → IsMarker marker
     → AreInClass is_parameter_byte parameters
     → AreInClass is_intermediate intermediates
     → is_well_shaped (head_of (marker ++ (parameters ++ intermediates))) ≡ true
 unfolding is_well_shaped
-held-well_shaped marker parameters intermediates is_marker are_parameters are_intermediates =
-    search (rules, arith, held-parts, list_all-AreInClass)
+collected-well_shaped marker parameters intermediates is_marker are_parameters are_intermediates =
+    search (rules, arith, collected-parts, list_all-AreInClass)

@@ -1,7 +1,7 @@
 -- What is written after the last group, or if there is none, is the text of the groups.
 use Rattle.std.proofs.Output.{has_written_append, has_written_of_eq, writes_in_calls_nil}
 use Rattle.vte_core.proofs.Common.{arith, common_steps, refl, rules, ◌∙◌}
-use Rattle.vte_core.proofs.lemmas.ParameterTexts.{groups_written, shown-nil}
+use Rattle.vte_core.proofs.lemmas.streams.ParameterTexts.{groups_written, shown-nil}
 use Rattle.vte_core.proofs.params.write_groups.Goals as goal
 
 pub returns-in-None : goal.returns-in-None

@@ -1,6 +1,6 @@
 -- The groups so far are written, each with a semicolon before it, and the others are left.
 use Rattle.vte_core.proofs.Common.{Bor, flat_map, HasWritten, IsPlainFormatter, List, map, ℕ, ◌++◌, ◌≡◌}
-use Rattle.vte_core.proofs.lemmas.ParameterTexts.{after_semicolon}
+use Rattle.vte_core.proofs.lemmas.streams.ParameterTexts.{after_semicolon}
 use Rattle.vte_core.proofs.params.write_groups.Given as goal
 
 abbrev pub invariant-loop-group : goal.invariant-loop-group

@@ -8,10 +8,10 @@ use crate::proved::vte_core::reader::Reader;
 
 /// Holds bytes, up to a limit or as many as there is memory for.
 pub(crate) trait Buffer {
-    /// Returns the held bytes.
+    /// Returns the stored bytes.
     fn bytes(&self) -> &[u8];
 
-    /// Drops the held bytes. Their memory stays.
+    /// Drops the stored bytes. Their memory stays.
     fn clear(&mut self);
 
     /// Returns whether the limit is reached.

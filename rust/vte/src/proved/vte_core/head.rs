@@ -120,12 +120,12 @@ impl CollectedHead {
 
     /// Collects a byte of a head, or finds the head ill-shaped. Returns the new progress.
     #[inline(always)]
-    fn collect_head_byte(&mut self, progress: HeadProgress, byte: u8) -> HeadProgress {
-        if is_parameter_byte(byte) && progress.may_have_parameters() {
+    fn collect_head_byte(&mut self, reached: HeadProgress, byte: u8) -> HeadProgress {
+        if is_parameter_byte(byte) && reached.may_have_parameters() {
             self.collect_parameter_byte(byte);
             return HeadProgress::Parameters;
         }
-        if let HeadProgress::IllShaped = progress {
+        if let HeadProgress::IllShaped = reached {
             return HeadProgress::IllShaped;
         }
         if is_intermediate(byte) {
@@ -133,7 +133,7 @@ impl CollectedHead {
             return HeadProgress::Intermediates;
         }
         // A marker is only at the beginning.
-        if let HeadProgress::Entry = progress {
+        if let HeadProgress::Entry = reached {
             self.collect(byte);
             return HeadProgress::Parameters;
         }

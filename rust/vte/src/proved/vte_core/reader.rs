@@ -2,7 +2,8 @@
 //! The only module that has the bytes of a call, and the only way to report events.
 //!
 //! A function of the parser that takes a byte and its position doesn't read that byte again: its
-//! caller has read it.
+//! caller has read it. Other modules read bytes only by functions of this one, which the contracts
+//! count as *looks*.
 
 mod advance;
 #[cfg(any(feature = "std", feature = "ansi"))]

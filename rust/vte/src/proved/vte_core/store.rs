@@ -122,7 +122,7 @@ impl<const N: usize> CommandStore<Option<ArrayVec<u8, N>>> {
         (bytes, self.ends.as_slice(), self.lost)
     }
 
-    /// Replaces what is held. The ends are left out if they can't be ends of pieces.
+    /// Replaces what is stored. The ends are left out if they can't be ends of pieces.
     pub(crate) fn restore(&mut self, bytes: &[u8], ends: &[usize], lost: bool) {
         self.ends.clear();
         self.bytes = Some(ArrayVec::new());

@@ -7,6 +7,7 @@ use crate::proved::event_log::{run, run_text, Device, Fault, Sink, Source};
 use std::io::{self, ErrorKind};
 use std::process::ExitCode;
 
+// `./vtlog` reads the values of `VERSION`, `HELP` and `HINT` from this text.
 const VERSION: &str = "vtlog 0.1.0\n";
 
 const HELP: &str = "\

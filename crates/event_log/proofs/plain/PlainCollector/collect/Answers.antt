@@ -1,13 +1,13 @@
 -- The text of a chunk has at most eight bytes for each of its own, so there is room for all of it (`text-kept`).
-use Rattle.event_log.proofs.Common.{ap, arith, default_limit, HeldText, length, rules, sym, take-append-drop, ◌<◌, ◌∙◌}
-use Rattle.event_log.proofs.lemmas.HeldTexts.{room-for_unit}
+use Rattle.event_log.proofs.Common.{ap, arith, CollectedText, default_limit, length, rules, sym, take-append-drop, ◌<◌, ◌∙◌}
+use Rattle.event_log.proofs.lemmas.CollectedTexts.{room-for_unit}
 use Rattle.event_log.proofs.lemmas.Lengths.{text-kept}
 use Rattle.event_log.proofs.plain.PlainCollector.collect.Goals as goal
 
 pub loop-self-preserved : goal.loop-self-preserved
 loop-self-preserved c =
     let chunk = c.split_at.result.0.now in
-    let used = ap (λ (held : HeldText). length held.bytes) c.self.view_is in
+    let used = ap (λ (collected : CollectedText). length collected.bytes) c.self.view_is in
     let half = room-for_unit c.loop-self.self (sym c.terminated.ensures ∙ c.if-not-terminated.true) in
     let left : 0 < length c.loop-self.unread.now = search rules in
     let not_empty : 0 < length chunk = omega arith in

@@ -1,4 +1,4 @@
--- What is held, and then the text of what is unread, adds up to the total text. Each round reads a byte or more.
+-- What is collected, and then the text of what is unread, adds up to the total text. Each round reads a byte or more.
 use Rattle.event_log.proofs.Common.{AddsUpTo, empty_text, HasKept, length, List, plain_text_of, ℕ, [], ◌≡◌, ◌≤◌}
 use Rattle.event_log.proofs.plain.PlainCollector.collect.Given as goal
 

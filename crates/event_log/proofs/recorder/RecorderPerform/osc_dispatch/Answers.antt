@@ -1,7 +1,7 @@
 -- The parts of the line are pushed one after another, and it is taken whole or not at all (`line-taken`).
 use Rattle.event_log.proofs.Common.{line_of}
+use Rattle.event_log.proofs.lemmas.CollectedTexts.{line-taken}
 use Rattle.event_log.proofs.lemmas.Fields.{extends_then}
-use Rattle.event_log.proofs.lemmas.HeldTexts.{line-taken}
 use Rattle.event_log.proofs.recorder.RecorderPerform.osc_dispatch.Goals as goal
 
 pub returns : goal.returns

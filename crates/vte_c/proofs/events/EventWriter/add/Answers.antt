@@ -6,8 +6,9 @@ use Rattle.vte_c.proofs.lemmas.Buffers.{holds-nothing}
 
 pub finish_event-requires : goal.finish_event-requires
 finish_event-requires c =
-    let held = c.write-end.ensures.holds _ _ (holds-nothing c.args.self.now) in
-    omega (arith, c.write-end.ensures.not_before_start, ap (λ (written : Buffers). written.data_used) held.same_buffers)
+    let stored = c.write-end.ensures.holds _ _ (holds-nothing c.args.self.now) in
+    omega
+    (arith, c.write-end.ensures.not_before_start, ap (λ (written : Buffers). written.data_used) stored.same_buffers)
 
 pub returns : goal.returns
 returns c = c.finish_event.ensures _ _ (c.write-end.ensures.holds _ _ (holds-nothing c.args.self.now))

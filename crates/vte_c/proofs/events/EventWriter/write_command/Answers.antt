@@ -17,4 +17,4 @@ returns-then-is_wanted c =
     let written =
     rw (c.with_count-record.ensures, c.with_flag.ensures, c.new.ensures) at (c.finish_event.ensures _ _ holds) in
     rw (sym c.is_wanted.ensures ∙ c.if-is_wanted.true, c.pause_if.ensures, at_limit, length-map)
-    (ap (λ (held : Buffers). paused_if (is_at_limit (length c.args.pieces.now) size) held) written)
+    (ap (λ (stored : Buffers). paused_if (is_at_limit (length c.args.pieces.now) size) stored) written)

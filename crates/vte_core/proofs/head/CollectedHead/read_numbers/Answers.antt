@@ -15,7 +15,7 @@ pub loop-position-preserved : goal.loop-position-preserved
 unfolding class_of
 loop-position-preserved c =
     let invariant = c.loop-position.invariant in
-    let held = c.loop-position.self in
+    let collected = c.loop-position.self in
     record {
       reads = elim c.match-digit_of.branch [
         -- The byte is a digit.

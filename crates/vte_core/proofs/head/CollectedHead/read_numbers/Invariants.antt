@@ -2,7 +2,7 @@
 use Rattle.vte_core.proofs.Common.{length, looks_of, None, progress_after, ReadsHead, ◌+◌, ◌-◌, ◌≡◌, ◌≤◌}
 use Rattle.vte_core.proofs.head.CollectedHead.read_numbers.Given as goal
 use Rattle.vte_core.specs.Parameters.{max_value}
-use Rattle.vte_core.specs.private.HeldHead.{with_open_number}
+use Rattle.vte_core.specs.private.CollectedHead.{with_open_number}
 
 abbrev pub invariant-loop-position : goal.invariant-loop-position
 invariant-loop-position l = record {

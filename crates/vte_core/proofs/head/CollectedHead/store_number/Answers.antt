@@ -1,4 +1,4 @@
--- The open number joins those that are held if there is room, and else is only counted as one too many.
+-- The open number joins those that are collected if there is room, and else is only counted as one too many.
 use Rattle.vte_core.proofs.Common.{arith, count_of, ◌<◌}
 use Rattle.vte_core.proofs.head.CollectedHead.store_number.Goals as goal
 use Rattle.vte_core.proofs.lemmas.fields.Heads.{stores-full, stores-push}

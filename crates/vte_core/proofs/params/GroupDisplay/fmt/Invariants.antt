@@ -1,6 +1,6 @@
 -- The numbers so far are written, each after the first with a colon before it.
 use Rattle.vte_core.proofs.Common.{decimal, flat_map, get_or, HasWritten, IsPlainFormatter, take, ◌++◌}
-use Rattle.vte_core.proofs.lemmas.ParameterTexts.{after_colon}
+use Rattle.vte_core.proofs.lemmas.streams.ParameterTexts.{after_colon}
 use Rattle.vte_core.proofs.params.GroupDisplay.fmt.Given as goal
 
 abbrev pub invariant-loop-number : goal.invariant-loop-number

@@ -7,7 +7,7 @@ use Rattle.vte_core.proofs.store.CommandStore.end_piece.Goals as goal
 
 pub returns-then-not-is_full-2-clause-holds : goal.returns-then-not-is_full-2-clause-holds
 returns-then-not-is_full-2-clause-holds g c = λ items keeps.
-    let before = subst (λ held. HoldsItems g.B.Buffer.limit held items) (sym c.self.view_is) keeps in
+    let before = subst (λ stored. HoldsItems g.B.Buffer.limit stored items) (sym c.self.view_is) keeps in
     let not_full = eqb-false _ _ (sym c.is_full.ensures.value ∙ c.if-not-is_full.true) in
     let room = not-false _ (sym c.is_full-then-not-is_full.ensures ∙ c.if-not-is_full-2.true) in
     holds_items-end _ _ _ items (omega (arith, c.is_full.ensures.fits, not_full)) room refl
@@ -15,8 +15,9 @@ returns-then-not-is_full-2-clause-holds g c = λ items keeps.
 
 pub returns-else-not-is_full-clause-holds : goal.returns-else-not-is_full-clause-holds
 returns-else-not-is_full-clause-holds g c = λ items keeps.
-    let before = subst (λ held. HoldsItems g.B.Buffer.limit held items) (sym c.self.view_is) keeps in
-    subst (λ held. HoldsItems g.B.Buffer.limit held (items ++ 59 ∷ [])) c.self.view_is (elim c.else-not-is_full.branch [
+    let before = subst (λ stored. HoldsItems g.B.Buffer.limit stored items) (sym c.self.view_is) keeps in
+    subst (λ stored. HoldsItems g.B.Buffer.limit stored (items ++ 59 ∷ [])) c.self.view_is
+    (elim c.else-not-is_full.branch [
       | else-not-is_full-via-then-not-is_full+else-not-is_full-2 branch ↦
           holds_items-done
           (pieces_from-full _ _ _

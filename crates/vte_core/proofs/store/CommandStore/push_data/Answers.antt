@@ -8,7 +8,7 @@ pub returns-clause-holds : goal.returns-clause-holds
 returns-clause-holds g c = λ items keeps.
     let args = c.args in
     let run = take (args.to - args.from) (drop args.from args.input.bytes.now) in
-    let before = subst (λ held. HoldsItems g.B.Buffer.limit held items) (sym c.self.view_is) keeps in
+    let before = subst (λ stored. HoldsItems g.B.Buffer.limit stored items) (sym c.self.view_is) keeps in
     let size : length run ≡ args.to - args.from =
     omega (arith, length-take {A = ℕ}, length-drop {A = ℕ}, c.requires.range.within, c.requires.range.in_order) in
     elim c.if-not-is_full.branch [

@@ -45,10 +45,10 @@ impl<B: Buffer> Machine<B> {
         &mut self,
         reader: Reader,
         performer: &mut P,
-        progress: HeadProgress,
+        reached: HeadProgress,
         byte: u8,
     ) {
-        if let HeadProgress::IllShaped = progress {
+        if let HeadProgress::IllShaped = reached {
             self.state = State::IgnoredString;
             return;
         }

@@ -92,10 +92,10 @@ impl<B: Buffer> Machine<B> {
             State::EscapeIntermediate => {
                 self.read_intermediates::<P, G, MAY_STOP>(reader, performer, input, from)
             }
-            State::ControlSequence(progress) => self
-                .read_numbers_and_rest::<P, G, MAY_STOP>(reader, performer, input, progress, from),
-            State::DeviceControl(progress) => {
-                self.read_device_control::<P, G, MAY_STOP>(reader, performer, input, progress, from)
+            State::ControlSequence(reached) => self
+                .read_numbers_and_rest::<P, G, MAY_STOP>(reader, performer, input, reached, from),
+            State::DeviceControl(reached) => {
+                self.read_device_control::<P, G, MAY_STOP>(reader, performer, input, reached, from)
             }
             State::DeviceData => {
                 self.read_device_data::<P, G, MAY_STOP>(reader, performer, input, from)

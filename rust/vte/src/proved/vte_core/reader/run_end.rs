@@ -12,6 +12,8 @@ use crate::proved::vte_core::utf8::{
 };
 
 /// How many bytes of a run are read one by one or by words, before blocks.
+// Blocks from the 24th byte on took 1.14 times the instructions on lines of prose
+// (docs/DECISIONS.md).
 const SHORT_RUN: usize = 96;
 
 /// The same for a run without ASCII, whose characters cost more one by one.
@@ -73,8 +75,7 @@ impl Reader {
         }
     }
 
-    /// Returns the end of a run that already reaches `from`. The character before `from` isn't
-    /// ASCII.
+    /// After a character that isn't ASCII, returns the end of a run that already reaches `from`.
     // The loop is that of `find_run_end_up_to`, but blocks begin later once the run has had ASCII.
     #[inline(never)]
     pub(crate) fn find_run_end_after_non_ascii<P: CountedPerform<G> + ?Sized, G: Granularity>(
@@ -104,8 +105,8 @@ impl Reader {
         self.find_run_end_by_blocks(input, end, layout)
     }
 
-    /// Returns the end of a run that already reaches `from`. With `layout`, HT, LF and CR don't end
-    /// it.
+    /// By bytes and words, then by blocks, returns the end of a run that already reaches `from`.
+    /// With `layout`, HT, LF and CR don't end it.
     #[inline(always)]
     pub(crate) fn find_run_end(self, input: &[u8], from: usize, layout: bool) -> usize {
         let to = input.len().min(from + SHORT_RUN);
@@ -117,8 +118,8 @@ impl Reader {
         }
     }
 
-    /// Returns the end of a run that already reaches `from`. The search also stops at the first
-    /// character of the run that ends at `to` or later.
+    /// Up to `to`, by bytes and words alone, returns the end of a run that already reaches `from`.
+    /// The search also stops at the first character of the run that ends at `to` or later.
     #[inline(always)]
     fn find_run_end_up_to(self, input: &[u8], from: usize, to: usize, layout: bool) -> usize {
         let mut end = from;
@@ -136,7 +137,7 @@ impl Reader {
         end
     }
 
-    /// Returns the end of a long run that already reaches `from`.
+    /// By blocks from the start, returns the end of a long run that already reaches `from`.
     #[inline(never)]
     fn find_run_end_by_blocks(self, input: &[u8], from: usize, layout: bool) -> usize {
         let end = self.skip_run_blocks(input, from, layout);

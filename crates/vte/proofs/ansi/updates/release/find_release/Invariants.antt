@@ -5,9 +5,9 @@ use Rattle.vte.proofs.lemmas.updates.Seen.{HasSeen}
 
 abbrev pub invariant-loop-position : goal.invariant-loop-position
 invariant-loop-position l = record {
-  at_most : l.begins + l.unread ≤ length l.text;
+  at_most : l.begin_count + l.unread ≤ length l.text;
   seen : (held more : List ℕ) → IsHeldTail held more l.text l.start
-      → HasSeen (held ++ more) (length more) (l.start + l.unread) l.begin l.begins;
+      → HasSeen (held ++ more) (length more) (l.start + l.unread) l.first_begin l.begin_count;
 }
 
 abbrev pub decreases-loop-position : goal.decreases-loop-position

@@ -1,7 +1,7 @@
 -- Data of a command were dropped if the store says so: by the state, and so the place, of the parser.
 use Rattle.vte_core.proofs.Common.{arith, HoldsItems, InSystemCommand, InText, IsAtPlace, IsPlaceOfState, List, Machine, Option, Place, rules, SaysLoss, State, sym, SystemCommand, to_close_at, ℕ, [], ◌∷◌}
 use Rattle.vte_core.proofs.lemmas.fields.PlaceOfState.{is_at-place}
-use Rattle.vte_core.proofs.lemmas.fields.Stores.{loses_held}
+use Rattle.vte_core.proofs.lemmas.fields.Stores.{stored_lost}
 use Rattle.vte_core.proofs.lemmas.streams.After.{after-to_close}
 use Rattle.vte_core.proofs.parser.machine.Machine.command_lost_data.Goals as goal
 
@@ -15,7 +15,7 @@ by_place : {B : Type 0} (limit : Option ℕ) (parser : Machine B) (place : Place
 by_place limit parser (InText []) s = tt
 by_place limit parser (InText (a ∷ u)) s = tt
 by_place limit parser (InSystemCommand items) s =
-    sym (loses_held (by_state limit parser.state parser items s.fields))
+    sym (stored_lost (by_state limit parser.state parser items s.fields))
 by_place limit parser _ s = tt
 
 pub returns-clause-open : goal.returns-clause-open

@@ -20,7 +20,7 @@ returns-in-IllShaped-clause-takes g c = λ head s.
 -- A well-shaped head is reported by `Hook`.
 pub returns-clause-takes : goal.returns-clause-takes
 returns-clause-takes g c = λ head s.
-    let head_end = c.end_head-ignore.ensures c.args.progress head (head-holds c.in_default.not-IllShaped s) in
+    let head_end = c.end_head-ignore.ensures c.args.reached head (head-holds c.in_default.not-IllShaped s) in
     record {
       reported = sequence_event Hook (head_of head) c.args.byte ∷ [];
       next = InDeviceData;

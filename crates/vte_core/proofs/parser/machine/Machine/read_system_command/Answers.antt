@@ -3,7 +3,7 @@
 use Rattle.vte_core.proofs.Common.{arith, HoldsItems, IsCommandData, length, Machine, ne_eqb, refl, rules, subst, sym, [], ◌++◌, ◌<◌, ◌∙◌, ◌∷◌, ◌≡◌}
 use Rattle.vte_core.proofs.lemmas.bytes.Classes.{other_is_control}
 use Rattle.vte_core.proofs.lemmas.fields.PlaceOfState.{is_at-by}
-use Rattle.vte_core.proofs.lemmas.fields.Stores.{pieces_held}
+use Rattle.vte_core.proofs.lemmas.fields.Stores.{stored_pieces}
 use Rattle.vte_core.proofs.lemmas.places.PlaceLeads.{command-bell, command-control, command-item}
 use Rattle.vte_core.proofs.lemmas.positions.DataStretches.{advances-items}
 use Rattle.vte_core.proofs.lemmas.positions.SettledStates.{settled-same_state}
@@ -54,7 +54,7 @@ returns-clause-advances g c =
           (advances-given tt (advances-in in_state before_end here.1 requires.may_go_on ordinary
           (takes-in_system_command after_data
           (λ items keeps. takes-byte
-          (rw (pieces_held keeps) branch.dispatch.ensures.value) (record { fields = (refl, refl) })
+          (rw (stored_pieces keeps) branch.dispatch.ensures.value) (record { fields = (refl, refl) })
           (command-bell (other_is_control byte ordinary no_data branch.if-byte-eq59.false)
           (rw branch.if-byte-eq-BELL.true refl)))) tt))
       -- Another control is dropped.

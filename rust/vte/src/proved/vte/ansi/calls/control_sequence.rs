@@ -21,7 +21,7 @@ use crate::proved::vte_types::{
 #[allow(clippy::collapsible_match)]
 pub(crate) fn perform_control_sequence<H: InputAs<G> + ?Sized, G>(
     handler: &mut H,
-    last: Option<char>,
+    preceding_char: Option<char>,
     params: &Params,
     intermediates: &[u8],
     action: char,
@@ -33,7 +33,7 @@ pub(crate) fn perform_control_sequence<H: InputAs<G> + ?Sized, G>(
                 handler.identify_terminal(intermediates.first().map(|byte| char::from(*byte)));
             }
         }
-        ([], _) => perform_without_intermediates::<H, G>(handler, last, params, action),
+        ([], _) => perform_without_intermediates::<H, G>(handler, preceding_char, params, action),
         ([b'?'], 'W') => {
             if numbers.next_or(0) == 5 {
                 handler.set_tabs(8);
@@ -75,7 +75,7 @@ pub(crate) fn perform_control_sequence<H: InputAs<G> + ?Sized, G>(
 #[inline]
 fn perform_without_intermediates<H: InputAs<G> + ?Sized, G>(
     handler: &mut H,
-    last: Option<char>,
+    preceding_char: Option<char>,
     params: &Params,
     action: char,
 ) {
@@ -84,7 +84,7 @@ fn perform_without_intermediates<H: InputAs<G> + ?Sized, G>(
         '@' => handler.insert_blank(usize::from(numbers.next_or(1))),
         'A' => handler.move_up(usize::from(numbers.next_or(1))),
         'B' | 'e' => handler.move_down(usize::from(numbers.next_or(1))),
-        'b' => repeat::<H, G>(handler, last, numbers.next_or(1)),
+        'b' => repeat::<H, G>(handler, preceding_char, numbers.next_or(1)),
         'C' | 'a' => handler.move_forward(usize::from(numbers.next_or(1))),
         'D' => handler.move_backward(usize::from(numbers.next_or(1))),
         'd' => handler.goto_line(i32::from(numbers.next_or(1)) - 1),
@@ -123,8 +123,8 @@ fn perform_without_intermediates<H: InputAs<G> + ?Sized, G>(
 }
 
 /// Passes on the last printed character `count` times, if there is one.
-fn repeat<H: InputAs<G> + ?Sized, G>(handler: &mut H, last: Option<char>, count: u16) {
-    if let Some(c) = last {
+fn repeat<H: InputAs<G> + ?Sized, G>(handler: &mut H, preceding_char: Option<char>, count: u16) {
+    if let Some(c) = preceding_char {
         for _ in 0..count {
             handler.input_char(c);
         }

@@ -166,8 +166,8 @@ impl<P: EventParser, B: TextBuffer, T: Timeout> Engine<P, B, T> {
         handler: &mut H,
         bytes: &[u8],
     ) {
-        let begins = self.hold.add(bytes);
-        set_timeout_times(&mut self.state.timeout, begins);
+        let begin_count = self.hold.add(bytes);
+        set_timeout_times(&mut self.state.timeout, begin_count);
         // Nothing stays held only if an update ends and no other begins after it.
         if self.hold.len() == 0 {
             self.end_update::<H, G>(handler);

@@ -49,7 +49,7 @@ impl SyncState {
         let start = len.saturating_sub(7);
         let release = find_release(&self.bytes.as_slice()[start..], start);
         self.released = release.released;
-        release.begins
+        release.begin_count
     }
 
     /// Releases all held bytes, when an update is stopped.

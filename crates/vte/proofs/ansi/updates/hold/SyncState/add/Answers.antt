@@ -40,5 +40,5 @@ returns g c =
     record {
       held_is = rw (bytes_are, release.released) (stays-is (old ++ c.args.more.now));
       released_is = rw (bytes_are, release.released) refl;
-      begins_are = release.begins;
+      begin_count_is = release.begin_count;
     }

@@ -1,8 +1,8 @@
 -- Early stops. What is reported before a position, and what goes on from there, is what the whole gives
 -- (`goes_on_from`); from one position to the next at most one unit is reported. By what a byte does to an open
 -- character.
-use Rattle.vte_core.proofs.Common.{add-one, added, ap, append-nil, append_assoc, AreBrief, arith, Bool, breaks, breaks_at, cases_Bool, drop, drop-append_seam, Event, false, false≢true, get_or, if◌then◌else◌, inl, inr, IsAfter, IsAtMostOneShort, IsStart, length, List, None, open_at, open_character, Option, Place, Print, refl, replacement, reported_before, resumed_stream, rules, subst, suc, sym, take, take-append-drop, take_more, true, zero, ℕ, [], ◌++◌, ◌+◌, ◌<◌, ◌∙◌, ◌∷◌, ◌≡◌, ◌≤◌, ◌⊎◌}
-use Rattle.vte_core.proofs.lemmas.places.PlaceLeads.{one_short-append}
+use Rattle.vte_core.proofs.Common.{add-one, added, ap, append-nil, append_assoc, AreBrief, arith, Bool, breaks, breaks_at, cases_Bool, drop, drop-append_seam, Event, false, false≢true, get_or, if◌then◌else◌, inl, inr, IsAfter, IsAtMostOneCharacter, IsStart, length, List, None, open_at, open_character, Option, Place, Print, refl, replacement, reported_before, resumed_stream, rules, subst, suc, sym, take, take-append-drop, take_more, true, zero, ℕ, [], ◌++◌, ◌+◌, ◌<◌, ◌∙◌, ◌∷◌, ◌≡◌, ◌≤◌, ◌⊎◌}
+use Rattle.vte_core.proofs.lemmas.places.PlaceLeads.{one_character-append}
 use Rattle.vte_core.proofs.lemmas.places.Steps.{text_at}
 use Rattle.vte_core.proofs.lemmas.shapes.BrokenCharacters.{breaks_at-byte, breaks_at-settled, starts-broken, starts-settled}
 use Rattle.vte_core.proofs.lemmas.streams.After.{added-nothing, after-open_character}
@@ -48,7 +48,7 @@ module _ {limit : Option ℕ} (P Q : List Event → Type 0) (stream bytes : List
 -- The byte reports at most a short event, and nothing if it leaves the character open.
 abbrev ReportsAtMostOneShort : Option ℕ → List ℕ → ℕ → Type 0
 ReportsAtMostOneShort limit stream b =
-    IsAtMostOneShort (added limit stream (b ∷ []))
+    IsAtMostOneCharacter (added limit stream (b ∷ []))
     × ((open_character (stream ++ b ∷ []) ≡ []) ⊎ (added limit stream (b ∷ []) ≡ []))
 
 reports_little : (limit : Option ℕ) (stream : List ℕ) (b : ℕ) → (open_character stream ≡ [] → ⊥)
@@ -72,8 +72,8 @@ pub added-append : (limit : Option ℕ) (stream prefix rest : List ℕ)
     → added limit stream (prefix ++ rest) ≡ added limit stream prefix ++ added limit (stream ++ prefix) rest
 added-append limit stream prefix rest = search (rules, arith, events_grow, append_assoc, drop-append_seam)
 
-one_short-replacement : IsAtMostOneShort (Print replacement ∷ [])
-one_short-replacement = (refl, refl)
+one_character-replacement : IsAtMostOneCharacter (Print replacement ∷ [])
+one_character-replacement = (refl, refl)
 
 -- The bytes after a prefix add what they add to its stream or, after a character that they break, to the empty one.
 pub added_from : (limit : Option ℕ) (stream prefix rest : List ℕ) (broken : Bool)
@@ -109,12 +109,12 @@ record Added (limit : Option ℕ) (stream bytes : List ℕ) (i : ℕ) : Type 0 w
   unit : List Event
   parts : added limit stream (take i bytes) ≡ before ++ unit
   brief : AreBrief limit unit
-  one_short : (open_character (stream ++ take i bytes) ≡ [] → ⊥) → IsAtMostOneShort unit
+  one_character : (open_character (stream ++ take i bytes) ≡ [] → ⊥) → IsAtMostOneCharacter unit
   at_start : (before ≡ []) ⊎ AreReportedAtStart limit stream bytes i before
 
 one_short-opens : (limit : Option ℕ) (stream : List ℕ) (b : ℕ) → (open_character (stream ++ b ∷ []) ≡ [] → ⊥)
-    → IsAtMostOneShort (added limit stream (b ∷ []))
-one_short-opens limit stream b some_open = search (rules, arith, opens_silently, one_short-replacement)
+    → IsAtMostOneCharacter (added limit stream (b ∷ []))
+one_short-opens limit stream b some_open = search (rules, arith, opens_silently, one_character-replacement)
 
 is_empty_or_not : (bytes : List ℕ) → (bytes ≡ []) ⊎ (bytes ≡ [] → ⊥)
 is_empty_or_not [] = inl refl
@@ -153,7 +153,7 @@ module _ (limit : Option ℕ) (stream bytes : List ℕ) (i : ℕ) (before_end : 
             ap (added limit stream) take-next
             ∙ added_from limit stream (take i bytes) (b ∷ []) (breaks_at stream bytes i) next_breaks;
         brief = bytes_are_brief limit from b;
-        one_short =
+        one_character =
             λ some_open.
             one_short-opens limit from b
             (λ same.
@@ -174,11 +174,11 @@ module _ (limit : Option ℕ) (stream bytes : List ℕ) (i : ℕ) (before_end : 
         parts =
             ap (added limit stream) take-next ∙ added-append limit stream (take i bytes) (b ∷ [])
             ∙ ap (λ (events : List Event). events ++ last) adds.parts ∙ append_assoc adds.before adds.unit last;
-        brief = one_short-append limit adds.unit last (adds.one_short some_open) little.0;
-        one_short =
+        brief = one_character-append limit adds.unit last (adds.one_character some_open) little.0;
+        one_character =
             λ open_there. elim little.1 [
               | inl settled ↦ absurd (open_there (open_character-next ∙ settled))
-              | inr nothing ↦ rw (nothing, append-nil) (adds.one_short some_open)
+              | inr nothing ↦ rw (nothing, append-nil) (adds.one_character some_open)
             ];
         at_start = elim adds.at_start [
           | inl settled ↦ inl settled
@@ -207,7 +207,7 @@ added_to limit stream bytes zero within = record {
   unit = [];
   parts = added-nothing limit stream;
   brief = tt;
-  one_short = λ _. tt;
+  one_character = λ _. tt;
   at_start = inl refl;
 }
 added_to limit stream bytes (suc i) within =
@@ -233,9 +233,9 @@ reports_units limit stream bytes i within = record {
     by_break : (broken : Bool) → breaks_at stream bytes i ≡ broken
         → AreBrief limit (a.unit ++ (if broken then Print replacement ∷ [] else []))
     by_break true is_broken =
-        one_short-append limit a.unit (Print replacement ∷ [])
-        (a.one_short (λ none_open. false≢true (sym (breaks_at-settled stream bytes i none_open) ∙ is_broken)))
-        one_short-replacement
+        one_character-append limit a.unit (Print replacement ∷ [])
+        (a.one_character (λ none_open. false≢true (sym (breaks_at-settled stream bytes i none_open) ∙ is_broken)))
+        one_character-replacement
     by_break false is_broken = rw append-nil a.brief
 
 -- ---- what is reported before a position, and then what follows adds, is what all bytes add

@@ -4,12 +4,12 @@ use Rattle.std.proofs.lemmas.Fmt.{decimal_is_IsNumeral}
 use Rattle.std.proofs.lemmas.List.Folds.{flat_map-map}
 use Rattle.std.proofs.lemmas.Str.Parse.{digit_from_value}
 use Rattle.std.specs.Str.Parse.{AllDigits, digits_value}
-use Rattle.vte_core.proofs.Common.{All, All-append, All-cons, All-head, All-map, All-nil, All-tail, ap, append-nil, append_assoc, AreInClass, AreParameters, AreSmall, arith, Bool, BytesLead, class_of, colon, count_of, CsiDispatch, decimal, DispatchesShown, drop, false, flat_map, flat_map-append, fold, fold-append, get_or, groups_of, has_too_many_numbers, head_of, if◌then◌else◌, InControlSequence, InText, is_colon, is_parameter_byte, is_separator, is_well_shaped, IsNonEmpty, join_with_byte, length, List, map, max_numbers, max_value, nat_tests, Number, number_of, numbers, numbers_from, Option, refl, rules, semicolon, sequence_event, sequence_kind, shown, sym, take, take_all, true, with_number, ℕ, [], ◌++◌, ◌-◌, ◌∙◌, ◌∷◌, ◌≡◌, ◌≤◌}
+use Rattle.vte_core.proofs.Common.{All, All-append, All-cons, All-head, All-map, All-nil, All-tail, AllFitU16, ap, append-nil, append_assoc, AreInClass, AreParameters, arith, Bool, BytesLead, class_of, colon, count_of, CsiDispatch, decimal, DispatchesShown, drop, false, flat_map, flat_map-append, fold, fold-append, get_or, groups_of, has_too_many_numbers, head_of, if◌then◌else◌, InControlSequence, InText, is_colon, is_parameter_byte, is_separator, is_well_shaped, IsNonEmpty, join_with_byte, length, List, map, max_numbers, max_value, nat_tests, Number, number_of, numbers, numbers_from, Option, refl, rules, semicolon, sequence_event, sequence_kind, shown, sym, take, take_all, true, with_number, ℕ, [], ◌++◌, ◌-◌, ◌∙◌, ◌∷◌, ◌≡◌, ◌≤◌}
 use Rattle.vte_core.proofs.lemmas.bytes.Classes.{head_ends_nothing, parameter_is_head}
-use Rattle.vte_core.proofs.lemmas.fields.Numbers.{count_of-grouped, is_digit_no_separator, IsNoSeparator, IsSmall, numbered, numbers_are, with_number-begins, with_number-joins}
+use Rattle.vte_core.proofs.lemmas.fields.Numbers.{count_of-grouped, is_digit_no_separator, IsNoSeparator, numbered, numbers_are, ValueFitsU16, with_number-begins, with_number-joins}
 use Rattle.vte_core.proofs.lemmas.places.BytesInStream.{bytes_lead-append, bytes_lead-byte, bytes_lead-escape, bytes_lead-nothing, no_escape}
 use Rattle.vte_core.proofs.lemmas.places.PlaceLeads.{control-dispatched, control-head, escape-key}
-use Rattle.vte_core.proofs.lemmas.shapes.HeadParts.{held-parts, held-well_shaped}
+use Rattle.vte_core.proofs.lemmas.shapes.HeadParts.{collected-parts, collected-well_shaped}
 use Rattle.vte_core.proofs.lemmas.streams.StreamSteps.{reported_by_stream}
 
 -- ---- what is written
@@ -102,14 +102,14 @@ digits_after joined digits (b ∷ more) text none_separates =
     let rest = digits_after joined (digits ++ b ∷ []) more text (All-tail IsNoSeparator b more none_separates) in
     rw (All-head IsNoSeparator b more none_separates) (rw (append_assoc digits (b ∷ []) more) at rest)
 
-spelled_after : (joined : Bool) (digits : List ℕ) {numbers : List Number} → All IsSmall numbers
+spelled_after : (joined : Bool) (digits : List ℕ) {numbers : List Number} → All ValueFitsU16 numbers
     → numbers_from joined digits (flat_map spelled numbers) ≡ numbered joined (number_of digits) ∷ numbers
 spelled_after joined digits {numbers = []} all_small = refl
 spelled_after joined digits {numbers = n ∷ numbers} all_small =
-    let small = All-head IsSmall n numbers all_small in
+    let small = All-head ValueFitsU16 n numbers all_small in
     let rest = digits_after n.joined [] (decimal n.value) (flat_map spelled numbers)
     (no_separators-decimal n.value small)
-    ∙ spelled_after n.joined (decimal n.value) (All-tail IsSmall n numbers all_small)
+    ∙ spelled_after n.joined (decimal n.value) (All-tail ValueFitsU16 n numbers all_small)
     ∙ ap (λ value. numbered n.joined value ∷ numbers) (number_of-decimal n.value small) in
     rw (is_separator-separator n, is_colon-separator n)
     (ap (λ (l : List Number). numbered joined (number_of digits) ∷ l) rest)
@@ -147,20 +147,20 @@ shown-spelled : (groups : List (List ℕ)) → AreParameters groups
 shown-spelled [] are_parameters = absurd (omega (arith, are_parameters.some))
 shown-spelled (first ∷ groups) are_parameters = search (rules, arith, shown_from_front, groups-spelled)
 
-IsSmall-in_group : (group : List ℕ) → AreSmall group → All IsSmall (in_group group)
+ValueFitsU16-in_group : (group : List ℕ) → AllFitU16 group → All ValueFitsU16 (in_group group)
 unfolding in_group
-IsSmall-in_group [] small = All-nil IsSmall
-IsSmall-in_group (n ∷ ns) small =
+ValueFitsU16-in_group [] small = All-nil ValueFitsU16
+ValueFitsU16-in_group (n ∷ ns) small =
     let P : ℕ → Type 0 = λ value. value ≤ max_value in
-    All-cons IsSmall (numbered false n) (map (numbered true) ns) (All-head P n ns small)
-    (All-map IsSmall (numbered true) ns (All-tail P n ns small))
+    All-cons ValueFitsU16 (numbered false n) (map (numbered true) ns) (All-head P n ns small)
+    (All-map ValueFitsU16 (numbered true) ns (All-tail P n ns small))
 
-IsSmall-groups : (groups : List (List ℕ)) → All AreSmall groups → All IsSmall (flat_map in_group groups)
-IsSmall-groups [] small = All-nil IsSmall
-IsSmall-groups (group ∷ groups) small =
-    All-append IsSmall (in_group group) (flat_map in_group groups)
-    (IsSmall-in_group group (All-head AreSmall group groups small))
-    (IsSmall-groups groups (All-tail AreSmall group groups small))
+ValueFitsU16-groups : (groups : List (List ℕ)) → All AllFitU16 groups → All ValueFitsU16 (flat_map in_group groups)
+ValueFitsU16-groups [] small = All-nil ValueFitsU16
+ValueFitsU16-groups (group ∷ groups) small =
+    All-append ValueFitsU16 (in_group group) (flat_map in_group groups)
+    (ValueFitsU16-in_group group (All-head AllFitU16 group groups small))
+    (ValueFitsU16-groups groups (All-tail AllFitU16 group groups small))
 
 grouped-joined : (before : List (List ℕ)) (group ns : List ℕ)
     → fold with_number (before ++ group ∷ []) (map (numbered true) ns) ≡ before ++ (group ++ ns) ∷ []
@@ -187,7 +187,7 @@ grouped-groups before ((n ∷ ns) ∷ groups) filled =
 -- The text of groups gives back the numbers in the groups.
 numbers-shown : (groups : List (List ℕ)) → AreParameters groups → numbers (shown groups) ≡ flat_map in_group groups
 numbers-shown groups are_parameters =
-    let all = IsSmall-groups groups are_parameters.groups_are.small in
+    let all = ValueFitsU16-groups groups are_parameters.groups_are.small in
     let later =
     ap (numbers_from false []) (shown-spelled groups are_parameters) ∙ spelled_after false [] all in
     numbers_are (shown groups) ∙ ap (drop 1) later
@@ -230,19 +230,19 @@ parameters-digits (d ∷ ds) more digits are_parameters = (
   parameters-digits ds more (All-tail IsDigit d ds digits) are_parameters,
 )
 
-parameters-spelled : (numbers : List Number) → All IsSmall numbers
+parameters-spelled : (numbers : List Number) → All ValueFitsU16 numbers
     → AreInClass is_parameter_byte (flat_map spelled numbers)
 parameters-spelled [] all_small = tt
 parameters-spelled (number ∷ numbers) all_small =
     let rest =
     parameters-digits (decimal number.value) (flat_map spelled numbers)
-    (digits-decimal number.value (All-head IsSmall number numbers all_small))
-    (parameters-spelled numbers (All-tail IsSmall number numbers all_small)) in
+    (digits-decimal number.value (All-head ValueFitsU16 number numbers all_small))
+    (parameters-spelled numbers (All-tail ValueFitsU16 number numbers all_small)) in
     (separator_is_parameter number, rest)
 
 parameters-shown : (groups : List (List ℕ)) → AreParameters groups → AreInClass is_parameter_byte (shown groups)
 parameters-shown groups are_parameters =
-    search (rules, arith, shown-spelled, parameters-spelled, in_group, IsSmall-groups)
+    search (rules, arith, shown-spelled, parameters-spelled, in_group, ValueFitsU16-groups)
 
 -- ---- a control sequence
 
@@ -266,7 +266,7 @@ bytes_lead-shown : (limit : Option ℕ) (bytes : List ℕ) → AreInClass is_par
 unfolding class_of sequence_kind
 bytes_lead-shown limit bytes are_parameters =
     let well_shaped : is_well_shaped (head_of bytes) ≡ true =
-    rw append-nil at (held-well_shaped [] bytes [] tt are_parameters tt) in
+    rw append-nil at (collected-well_shaped [] bytes [] tt are_parameters tt) in
     let begun =
     bytes_lead-append
     (bytes_lead-escape refl)
@@ -282,6 +282,6 @@ pub shown_dispatched : (limit : Option ℕ) (groups : List (List ℕ)) → ArePa
 unfolding sequence_event
 shown_dispatched limit groups are_parameters =
     let are_parameter_bytes = parameters-shown groups are_parameters in
-    let parts = rw append-nil at (held-parts [] (shown groups) [] tt are_parameter_bytes tt) in
+    let parts = rw append-nil at (collected-parts [] (shown groups) [] tt are_parameter_bytes tt) in
     reported_by_stream refl (bytes_lead-shown limit (shown groups) are_parameter_bytes)
     ∙ rw (parts, groups_of-shown groups are_parameters, has_too_many_numbers-shown groups are_parameters) refl

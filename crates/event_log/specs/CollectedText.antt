@@ -4,11 +4,11 @@ use Rattle.event_log.specs.declared.lines.Lines.{Lines}
 use Rattle.vte_core.specs.Event.{Event}
 
 -- The text, and whether something was dropped.
-pub record HeldText : Type 0 where
+pub record CollectedText : Type 0 where
   pub bytes : List ℕ
   pub lost : Bool
 
-abbrev pub empty_text : HeldText
+abbrev pub empty_text : CollectedText
 empty_text = record { bytes = []; lost = false }
 
 -- How many bytes a collector holds at most.
@@ -20,18 +20,19 @@ abbrev pub has_room_after : List ℕ → List ℕ → Bool
 has_room_after bytes text = nat_le (length bytes + length text) capacity
 
 -- A text is appended whole if there is room for it, and dropped otherwise.
-unfoldable pub held_with_text : HeldText → List ℕ → HeldText
-held_with_text held text =
-    if has_room_after held.bytes text then record { bytes = held.bytes ++ text; lost = held.lost }
-    else record { bytes = held.bytes; lost = true }
+unfoldable pub with_text : CollectedText → List ℕ → CollectedText
+with_text collected text =
+    if has_room_after collected.bytes text
+    then record { bytes = collected.bytes ++ text; lost = collected.lost }
+    else record { bytes = collected.bytes; lost = true }
 
-abbrev pub held_with_event : (Event → List ℕ) → HeldText → Event → HeldText
-held_with_event text_of held event = held_with_text held (text_of event)
+abbrev pub with_event : (Event → List ℕ) → CollectedText → Event → CollectedText
+with_event text_of collected event = with_text collected (text_of event)
 
 -- Whether more than half of the capacity is in use.
-abbrev pub is_to_be_written : HeldText → Bool
-is_to_be_written held = nat_lt (capacity / 2) (length held.bytes)
+abbrev pub is_to_be_written : CollectedText → Bool
+is_to_be_written collected = nat_lt (capacity / 2) (length collected.bytes)
 
 -- What a `Lines` holds.
-abbrev pub held_text_of : Lines → HeldText
-held_text_of lines = record { bytes = lines.bytes.items; lost = lines.lost }
+abbrev pub collected_text_of : Lines → CollectedText
+collected_text_of lines = record { bytes = lines.bytes.items; lost = lines.lost }

@@ -10,7 +10,7 @@ use Rattle.vte_core.specs.Head.{head_of, is_well_shaped, reported_intermediates}
 use Rattle.vte_core.specs.Intermediates.{are_too_many, first_two}
 use Rattle.vte_core.specs.Parameters.{grouped, groups_of, has_too_many_numbers, is_colon, is_separator, max_numbers, Number, number_of, numbers}
 
--- The first two intermediates are held, and whether there are more.
+-- The first two intermediates are collected, and whether there are more.
 pub record HoldsIntermediates (collected : CollectedHead) (intermediates : List ℕ) : Type 0 where
   pub kept : collected.intermediates.items ≡ first_two intermediates
   pub too_many_intermediates : collected.too_many_intermediates ≡ are_too_many intermediates
@@ -24,7 +24,7 @@ numbers_from joined digits (b ∷ text) =
     ∷ numbers_from (is_colon b) [] text
     else numbers_from joined (digits ++ b ∷ []) text
 
--- The last number of the text is being read; of those before it the first 32 are held.
+-- The last number of the text is being read; of those before it the first 32 are collected.
 pub record CountsNumbers (collected : CollectedHead) (text : List ℕ) : Type 0 where
   pub prefix : List Number
   pub digits : List ℕ
@@ -33,18 +33,18 @@ pub record CountsNumbers (collected : CollectedHead) (text : List ℕ) : Type 0 
   pub params : collected.params ≡ grouped (take max_numbers prefix)
   pub number : collected.number ≡ number_of digits
 
--- The first 32 numbers of the text are held.
+-- The first 32 numbers of the text are collected.
 pub record HoldsNumbers (collected : CollectedHead) (has_more : Bool) (text : List ℕ) : Type 0 where
   pub groups : collected.params ≡ groups_of text
   pub more : has_more ≡ has_too_many_numbers text
 
--- The held numbers are the same.
+-- The collected numbers are the same.
 pub record SameNumbers (old new : CollectedHead) : Type 0 where
   pub params : new.params ≡ old.params
   pub joined : new.joined ≡ old.joined
   pub number : new.number ≡ old.number
 
--- The held intermediates are the same.
+-- The collected intermediates are the same.
 pub record SameIntermediates (old new : CollectedHead) : Type 0 where
   pub intermediates : new.intermediates ≡ old.intermediates
   pub too_many_intermediates : new.too_many_intermediates ≡ old.too_many_intermediates
@@ -64,8 +64,8 @@ Reaches Parameters marker parameters intermediates =
 Reaches Intermediates marker parameters intermediates = 0 < length intermediates
 Reaches IllShaped marker parameters intermediates = ⊥
 
--- The head is well shaped so far, and its numbers and intermediates are held.
-pub record HoldsHead (collected : CollectedHead) (progress : HeadProgress)
+-- The head is well shaped so far, and its numbers and intermediates are collected.
+pub record HoldsHead (collected : CollectedHead) (reached : HeadProgress)
     (head : List ℕ) : Type 0 where
   pub marker : List ℕ
   pub parameters : List ℕ
@@ -74,7 +74,7 @@ pub record HoldsHead (collected : CollectedHead) (progress : HeadProgress)
   pub is_marker : IsMarker marker
   pub are_parameters : AreInClass is_parameter_byte parameters
   pub are_intermediates : AreInClass is_intermediate intermediates
-  pub reaches : Reaches progress marker parameters intermediates
+  pub reaches : Reaches reached marker parameters intermediates
   pub holds : HoldsIntermediates collected (marker ++ intermediates)
   pub counts : CountsNumbers collected parameters
 
@@ -84,7 +84,7 @@ pub record StaysIllShaped (head : List ℕ) : Type 0 where
 
 abbrev pub HasReadHead : CollectedHead → HeadProgress → List ℕ → Type 0
 HasReadHead collected IllShaped head = StaysIllShaped head
-HasReadHead collected progress head = HoldsHead collected progress head
+HasReadHead collected reached head = HoldsHead collected reached head
 
 -- ---- a complete head
 
@@ -112,13 +112,13 @@ with_open_number collected number = record {
 }
 
 -- The bytes from position i to position j are read as part of a head, whatever its shape.
-pub record ReadsHead (bytes : List ℕ) (i j : ℕ) (reached progress : HeadProgress)
+pub record ReadsHead (bytes : List ℕ) (i j : ℕ) (reached reached_then : HeadProgress)
     (old new : CollectedHead) : Type 0 where
   pub in_order : i ≤ j
   pub within : j ≤ length bytes
   pub head_bytes : AreInClass is_head_byte (take (j - i) (drop i bytes))
   pub leads : (head : List ℕ) → HasReadHead old reached head
-      → HasReadHead new progress (head ++ take (j - i) (drop i bytes))
+      → HasReadHead new reached_then (head ++ take (j - i) (drop i bytes))
 
 -- A head is read from position i up to `end`, and the byte there, if there is one, was looked at.
 pub record ReadsHeadUpTo (bytes : List ℕ) (i : ℕ) (reached : HeadProgress) (end : HeadEnd)

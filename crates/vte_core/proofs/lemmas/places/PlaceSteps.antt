@@ -1,5 +1,5 @@
--- After every place every byte reports at most two events, of which the second is short, and leads to a place
--- (`steps`): by cases of the place and of the byte's class, each by a lemma of `PlaceLeads`.
+-- `Steps` holds for every reachable place and every byte (`steps`): by cases of the place and of the byte's class, each
+-- by a lemma of `PlaceLeads`.
 use Rattle.vte_core.proofs.Common.{AreBrief, arith, AtEscape, bell, breaks, Cancel, cases_Bool, Class, class_of, closing_events_at, Delete, dispatches_escape, ends_sequence, eqb, escape, EscapeSequence, Event, Execute, false, false≢true, Final, head_of, High, InControlSequence, InDeviceControl, InDeviceData, InEscape, InIgnoredString, inl, inr, InSystemCommand, Intermediate, InText, is_head_byte, is_well_shaped, kept_items, Leads, List, nat_tests, None, open_at, open_data_count, Option, pieces_of, Place, PlainControl, refl, rules, sequence_event, sequence_kind, SequenceKind, sym, to_close_at, true, ℕ, [], ◌++◌, ◌+◌, ◌<◌, ◌∙◌, ◌∷◌, ◌≡◌, ◌≤◌}
 use Rattle.vte_core.proofs.lemmas.bytes.Classes.{below_finals, ends_not_cancel, is_dropped, is_dropped_in_head, Spans, spans}
 use Rattle.vte_core.proofs.lemmas.fields.Pieces.{few_pieces, pieces_push, some_pieces}

@@ -38,7 +38,7 @@ pub use Rattle.vte_core.specs.EarlyStop.{breaks, ComesTo, IsStart, NoCharacterSt
 unfoldable pub use Rattle.vte_core.specs.EarlyStop.{breaks_at, reported_before, resumed_stream}
 unfoldable pub use Rattle.vte_core.specs.Escape.{escape_outcome}
 pub use Rattle.vte_core.specs.Event.{after, CsiDispatch, EscDispatch, Event, Execute, Hook, OscDispatch, Print, Put, replacement, Unhook}
-pub use Rattle.vte_core.specs.EventBounds.{AreBrief, FitsLimit, IsBounded, IsExecuted, IsPrintable, IsShort}
+pub use Rattle.vte_core.specs.EventBounds.{AreBrief, FitsLimit, HasBoundedFields, IsBounded, IsExecuted, IsPrintable, IsShort}
 pub use Rattle.vte_core.specs.Head.{Head, head_after, reported_intermediates}
 unfoldable pub use Rattle.vte_core.specs.Head.{head_of, is_well_shaped, sequence_event}
 pub use Rattle.vte_core.specs.Intermediates.{are_too_many, first_two}

@@ -1,4 +1,6 @@
+-- The modules that proofs share. The other folders have the answers, and are named after the code.
+
 -- Words from std and specs/.
 pub mod Common
--- What answers cite. The other folders have the answers, and are named after the code.
+-- What answers cite.
 pub mod lemmas

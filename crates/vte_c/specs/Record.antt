@@ -39,9 +39,13 @@ data_of (Put byte) = byte ∷ []
 data_of (OscDispatch pieces bell) = flat_map piece_bytes pieces
 data_of _ = []
 
+-- How many data bytes of a command are kept, as `default_limit` says.
+abbrev pub max_piece_bytes : ℕ
+max_piece_bytes = 1024
+
 -- A command with so many pieces, or data of this size, may have lost data.
 abbrev pub is_at_limit : ℕ → ℕ → Bool
-is_at_limit pieces size = nat_le max_pieces pieces || nat_le 1024 size
+is_at_limit pieces size = nat_le max_pieces pieces || nat_le max_piece_bytes size
 
 abbrev pub may_have_lost : Event → Bool
 may_have_lost (OscDispatch pieces bell) =
@@ -51,10 +55,13 @@ may_have_lost _ = false
 -- The maximum number of data bytes of what one byte of a stream adds: a command, each of whose 16
 -- pieces has its length before it, and a character after it.
 abbrev pub max_data_per_byte : ℕ
-max_data_per_byte = 1024 + 4 * max_pieces + 4
+max_data_per_byte = max_piece_bytes + 4 * max_pieces + 4
 
 -- The minimum room, for at least what two bytes of a stream add: how many records the caller's
 -- buffer must have, how many data bytes its area, and how many bytes the buffer of `vte_strip`.
+-- Two bytes add at most four events. At most one of them is a command, of at most 1,088 data bytes,
+-- because the next command begins with two bytes. Each other event has at most 96 data bytes: 32
+-- groups of one number. `min_data` is more than their sum, 1,376.
 abbrev pub min_events : ℕ
 min_events = 4
 

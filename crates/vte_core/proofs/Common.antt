@@ -38,7 +38,7 @@ pub use Rattle.vte_core.specs.EarlyStop.{breaks, ComesTo, IsStart, NoCharacterSt
 unfoldable pub use Rattle.vte_core.specs.EarlyStop.{breaks_at, reported_before, resumed_stream}
 unfoldable pub use Rattle.vte_core.specs.Escape.{escape_outcome}
 pub use Rattle.vte_core.specs.Event.{after, CsiDispatch, EscDispatch, Event, Execute, Hook, OscDispatch, Print, Put, replacement, Unhook}
-pub use Rattle.vte_core.specs.EventBounds.{AreBrief, FitsLimit, IsBounded, IsCharacterEvent, IsExecuted, IsPrintable}
+pub use Rattle.vte_core.specs.EventBounds.{AreBrief, FitsLimit, HasBoundedFields, IsBounded, IsCharacterEvent, IsExecuted, IsPrintable}
 pub use Rattle.vte_core.specs.Head.{Head, head_after, reported_intermediates}
 unfoldable pub use Rattle.vte_core.specs.Head.{head_of, is_well_shaped, sequence_event}
 pub use Rattle.vte_core.specs.Intermediates.{are_too_many, first_two}
@@ -46,7 +46,7 @@ pub use Rattle.vte_core.specs.Laws.{AreParameters, CountsData, DispatchesShown}
 pub use Rattle.vte_core.specs.LongParser.{IsDataOfOpenCommand, open_command_size, open_data_count, read_count}
 pub use Rattle.vte_core.specs.Looks.{looks_of, per_byte}
 pub use Rattle.vte_core.specs.Outcome.{CharacterToClose, closing_events, CommandToClose, events_before_escape, leaves, NothingToClose, open_bytes, Outcome, report, SaysLoss, ToClose}
-pub use Rattle.vte_core.specs.OutsideRuns.{AddsOutsideRuns, IsOutsideRuns, PrintsNoAscii, ReportsOutsideRuns}
+pub use Rattle.vte_core.specs.OutsideRuns.{IsOutsideRuns, PrintsNoAscii, ReportsOutsideRuns}
 pub use Rattle.vte_core.specs.Parameters.{AllFitU16, AreGroups, colon, count_of, FitsU16, grouped, is_colon, is_separator, IsNonEmpty, max_numbers, max_value, Number, number_of, numbers_of, semicolon, with_number}
 unfoldable pub use Rattle.vte_core.specs.Parameters.{groups_of, has_too_many_numbers, numbers, shown}
 pub use Rattle.vte_core.specs.private.AtPlace.{HasReadWithLimit, IsAtPlace, IsPlaceOfState}
@@ -56,7 +56,7 @@ pub use Rattle.vte_core.specs.private.OpenCharacter.{bytes_of, Extends, may_cont
 unfoldable pub use Rattle.vte_core.specs.private.OpenCharacter.{second_range}
 pub use Rattle.vte_core.specs.private.Place.{AtEscape, BytesLead, closing_events_at, InControlSequence, InDeviceControl, InDeviceData, InEscape, InIgnoredString, InSystemCommand, InText, IsAfter, IsSettledPlace, Leads, Place, rest_outcome, to_close_at}
 unfoldable pub use Rattle.vte_core.specs.private.Place.{outcome_from}
-pub use Rattle.vte_core.specs.private.Progress.{Advances, AnyEvents, chunk_call, ChunkCall, EventsOutsideRuns, IsAtPosition, IsInsidePosition, IsRefusedInCommand, IsSettled, MayGoOn, ProgressAt, ProgressInside, ReadsUntilRefused, ReadsUpTo}
+pub use Rattle.vte_core.specs.private.Progress.{AddsOutsideRuns, Advances, AnyEvents, chunk_call, ChunkCall, EventsOutsideRuns, IsAtPosition, IsInsidePosition, IsRefusedInCommand, IsSettled, MayGoOn, ProgressAt, ProgressInside, ReadsUntilRefused, ReadsUpTo}
 pub use Rattle.vte_core.specs.private.Runs.{AreIgnored, ArePrintedAscii, ArePut, IsIgnored, IsPrintedAscii, IsRun, IsUtf8Run, PrintsRun}
 pub use Rattle.vte_core.specs.private.Scans.{ArePositions, Scans}
 pub use Rattle.vte_core.specs.private.Store.{cut_data, cut_pieces, ends_after, fitting, HoldsItems, pieces_from, PiecesEnd, SameItems}

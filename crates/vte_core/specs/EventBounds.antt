@@ -24,17 +24,20 @@ abbrev pub IsExecuted : ℕ → Type 0
 IsExecuted byte = is_control_character byte ≡ true
 
 -- A control sequence or a device control string: at least one group, and a final byte among 40..7E.
-abbrev pub HasBoundedFields : List (List ℕ) → List ℕ → ℕ → Type 0
-HasBoundedFields groups intermediates final =
-    AreGroups groups × (length intermediates ≤ max_intermediates) × (final < 0x7f) × (0x40 ≤ final)
-    × (0 < length groups)
+pub record HasBoundedFields (groups : List (List ℕ)) (intermediates : List ℕ) (final : ℕ) : Type 0
+    where
+  pub groups_are : AreGroups groups
+  pub some_groups : 0 < length groups
+  pub few_intermediates : length intermediates ≤ max_intermediates
+  pub final_at_least : 0x40 ≤ final
+  pub final_below : final < 0x7f
 
 -- The limits of an event. The final byte of an escape sequence is among 30..7E.
 abbrev pub IsBounded : Option ℕ → Event → Type 0
 IsBounded limit (Print c) = IsPrintable c
 IsBounded limit (Execute byte) = IsExecuted byte
-IsBounded limit (Hook groups intermediates ignore final) = HasBoundedFields groups intermediates
-    final
+IsBounded limit (Hook groups intermediates ignore final) =
+    HasBoundedFields groups intermediates final
 IsBounded limit (Put byte) = IsDeviceData byte
 IsBounded limit Unhook = ⊤
 IsBounded limit (OscDispatch pieces bell_terminated) =
@@ -42,7 +45,7 @@ IsBounded limit (OscDispatch pieces bell_terminated) =
 IsBounded limit (CsiDispatch groups intermediates ignore final) =
     HasBoundedFields groups intermediates final
 IsBounded limit (EscDispatch intermediates ignore final) =
-    (length intermediates ≤ max_intermediates) × (final < 0x7f) × (0x30 ≤ final)
+    (length intermediates ≤ max_intermediates) × (0x30 ≤ final) × (final < 0x7f)
 
 -- A printed character or an executed byte.
 abbrev pub IsCharacterEvent : Event → Type 0

@@ -1,6 +1,6 @@
 -- Events other than those of runs.
 use Rattle.std.specs.List.{All}
-use Rattle.std.specs.Prelude.{drop, List, Option, ℕ, [], ⊤, ◌++◌, ◌≡◌, ◌≤◌}
+use Rattle.std.specs.Prelude.{drop, List, Option, ℕ, [], ⊤, ◌≡◌, ◌≤◌}
 use Rattle.vte_core.specs.EarlyStop.{reported_before}
 use Rattle.vte_core.specs.Event.{Event, Print, Put, replacement}
 use Rattle.vte_core.specs.Stream.{open_character}
@@ -25,9 +25,3 @@ pub record ReportsOutsideRuns (limit : Option ℕ) (stream bytes : List ℕ) (n 
   pub after_first : All IsOutsideRuns (drop 1 (reported_before limit stream bytes n))
   -- The character that an earlier call began isn't ASCII.
   pub no_ascii : All PrintsNoAscii (reported_before limit stream bytes n)
-
--- What is reported between two positions of a call belongs into no run.
-pub record AddsOutsideRuns (limit : Option ℕ) (stream bytes : List ℕ) (i j : ℕ) : Type 0 where
-  pub events : List Event
-  pub events_are : All IsOutsideRuns events
-  pub parts : reported_before limit stream bytes j ≡ reported_before limit stream bytes i ++ events

@@ -37,7 +37,8 @@ next_escape from stream =
     let start = min from (length stream) in
     start + position_or_len (λ b. b == escape) (drop start stream)
 
--- The parts after the first `skip` bytes.
+-- The parts after the first `skip` bytes. A part ends with the ESC at `cut`. Only the bytes before
+-- this ESC are skipped then, so that the next part starts with it.
 abbrev pub parts_after : ℕ → ℕ → List ℕ → List (List ℕ)
 parts_after size skip [] = []
 parts_after size (suc skip) (b ∷ stream) = parts_after size skip stream

@@ -92,9 +92,17 @@ length-line : (event : Event) → IsBounded default_limit event → length (line
 unfolding line_of hex_byte pieces_fields
 length-line (Print c) bounded = omega (arith, length-line_of_character c)
 length-line (Hook groups intermediates ignore final) bounded =
-    simp length-append (omega (arith, length-sequence_fields groups intermediates ignore final bounded.0))
+    simp length-append (omega (
+      arith,
+      length-sequence_fields groups intermediates ignore final bounded.groups_are,
+      bounded.few_intermediates,
+    ))
 length-line (CsiDispatch groups intermediates ignore final) bounded =
-    simp length-append (omega (arith, length-sequence_fields groups intermediates ignore final bounded.0))
+    simp length-append (omega (
+      arith,
+      length-sequence_fields groups intermediates ignore final bounded.groups_are,
+      bounded.few_intermediates,
+    ))
 length-line (OscDispatch pieces bell) bounded =
     let count : length (decimal (length pieces)) ≤ 2 =
     length-decimal-le 2 (length pieces) (omega arith) (omega arith) (omega arith) in

@@ -51,9 +51,10 @@ max_event_data = 1088
 
 data_of-at_most : (event : Event) → IsBounded default_limit event → length (data_of event) ≤ max_event_data
 data_of-at_most (Print c) bounded = omega (arith, length-encode c, (len_utf8_bounds c).1)
-data_of-at_most (Hook groups ints ignore final) bounded = omega (arith, group_bytes-at_most groups bounded.0)
+data_of-at_most (Hook groups ints ignore final) bounded = omega (arith, group_bytes-at_most groups bounded.groups_are)
 data_of-at_most (OscDispatch pieces bell) bounded = omega (arith, length-piece_bytes pieces, bounded.0, bounded.1)
-data_of-at_most (CsiDispatch groups ints ignore final) bounded = omega (arith, group_bytes-at_most groups bounded.0)
+data_of-at_most (CsiDispatch groups ints ignore final) bounded =
+    omega (arith, group_bytes-at_most groups bounded.groups_are)
 data_of-at_most _ bounded = omega arith
 
 -- The second event that a byte adds is a character event, with little data.

@@ -1,4 +1,5 @@
--- The definitions compute.
+-- Each example is what the definitions compute. For `text_is_left` they compute two printed characters, of which
+-- the second isn't outside of runs.
 use Rattle.vte_core.proofs.Common.{All, All-head, arith, body_outcome, breaks_at, character_event, class_of, control_sequence_end, control_sequence_outcome, device_control_after_head, device_control_outcome, device_data_outcome, drop, escape_outcome, events, executed_events, groups_of, has_too_many_numbers, head_of, is_truncated, is_well_formed, is_well_shaped, IsOutsideRuns, kept_items, loses_data, malformed_event, numbers, open_character, Option, outcome, pieces_of, Print, reported_before, resumed_stream, rules, segment_event, sequence_event, sequence_kind, subst, system_command_outcome, text_outcome, trailing_count, utf8_rows, ℕ, [], ◌∷◌, ◌≡◌}
 use Rattle.vte_core.proofs.laws.worked_examples.Goals as goal
 use Rattle.vte_core.specs.Examples.{LeavesTextToRun}

@@ -1,5 +1,5 @@
--- After every place every byte reports at most two events, of which the second is a character event, and
--- leads to a place (`steps`): by cases of the place and of the byte's class, each by a lemma of `PlaceLeads`.
+-- `Steps` holds for every reachable place and every byte (`steps`): by cases of the place and of the byte's class, each
+-- by a lemma of `PlaceLeads`.
 use Rattle.vte_core.proofs.Common.{AreBrief, arith, AtEscape, bell, breaks, Cancel, cases_Bool, Class, class_of, closing_events_at, Delete, dispatches_escape, ends_sequence, eqb, escape, EscapeSequence, Event, Execute, false, false≢true, Final, head_of, High, InControlSequence, InDeviceControl, InDeviceData, InEscape, InIgnoredString, inl, inr, InSystemCommand, Intermediate, InText, is_head_byte, is_well_shaped, kept_items, Leads, List, nat_tests, None, open_at, open_data_count, Option, pieces_of, Place, PlainControl, refl, rules, sequence_event, sequence_kind, SequenceKind, sym, to_close_at, true, ℕ, [], ◌++◌, ◌+◌, ◌<◌, ◌∙◌, ◌∷◌, ◌≡◌, ◌≤◌}
 use Rattle.vte_core.proofs.lemmas.bytes.Classes.{below_finals, ends_not_cancel, is_dropped, is_dropped_in_head, Spans, spans}
 use Rattle.vte_core.proofs.lemmas.fields.Pieces.{few_pieces, pieces_push, some_pieces}
@@ -91,7 +91,7 @@ step-at_escape_final : {limit : Option ℕ} {b : ℕ} {kind : SequenceKind} → 
 step-at_escape_final {b} {kind = EscapeSequence} is_no_escape is_final is_kind =
     let range = spans b is_final in
     step-leaving_nothing is_no_escape (tt, tt) (escape-end is_final refl is_kind)
-    (λ _ _. (omega arith, range.1, omega arith))
+    (λ _ _. (omega arith, omega arith, range.1))
     (λ _. tt)
 step-at_escape_final {kind = key} is_no_escape is_final is_kind =
     step-silent is_no_escape (tt, tt) (escape-key key is_final is_kind refl)
@@ -103,7 +103,7 @@ step-at_escape is_no_escape (intermediate is_intermediate) =
     step-silent is_no_escape (tt, tt) (escape-intermediate is_intermediate)
 step-at_escape {b} is_no_escape (parameter low high _ ends) =
     step-leaving_nothing is_no_escape (tt, tt) (escape-end refl ends (below_finals b high))
-    (λ _ _. (omega arith, omega arith, low)) (λ _. tt)
+    (λ _ _. (omega arith, low, omega arith)) (λ _. tt)
 step-at_escape is_no_escape (final is_final) = step-at_escape_final is_no_escape is_final refl
 step-at_escape is_no_escape (dropped is_dropped_class) =
     step-silent is_no_escape (tt, tt) (byte-dropped refl refl is_dropped_class)
@@ -114,7 +114,7 @@ step-in_escape_end : {limit : Option ℕ} {intermediates : List ℕ} {b : ℕ} �
     → dispatches_escape (class_of b) ≡ true → Steps limit (InEscape intermediates) b
 step-in_escape_end {intermediates} is_no_escape low high ends =
     step-leaving_nothing is_no_escape (tt, tt) (intermediate-end refl ends)
-    (λ _ _. (two_at_most intermediates, high, low)) (λ _. tt)
+    (λ _ _. (two_at_most intermediates, low, high)) (λ _. tt)
 
 step-in_escape : {limit : Option ℕ} {intermediates : List ℕ} {b : ℕ} → eqb b escape ≡ false → Ordinary b
     → Steps limit (InEscape intermediates) b

@@ -10,10 +10,10 @@ use Rattle.vte_core.specs.declared.parser.long_parser.LongParser.{LongParser}
 use Rattle.vte_core.specs.declared.reader.run.Run.{Run}
 use Rattle.vte_core.specs.declared.reader.run.RunRange.{RunRange}
 use Rattle.vte_core.specs.EarlyStop.{NeverStopsBefore}
-use Rattle.vte_core.specs.LongParser.{HasReadLong}
+use Rattle.vte_core.specs.LongParser.{HasReadLong, long_parser_facts}
 use Rattle.vte_core.specs.LongParserCalls.{IsRefusedMemory, ReadsLong}
 use Rattle.vte_core.specs.Looks.{total_looks}
-use Rattle.vte_core.specs.Parser.{machine_facts}
+use Rattle.vte_core.specs.Parser.{machine_facts, ParserFacts}
 use Rattle.vte_core.specs.private.Costs.{Costs}
 use Rattle.vte_core.specs.private.ToRun.{bytes_at, ComesToRun, IsTaken}
 
@@ -79,6 +79,31 @@ module _ {A V : Type 0} {step : V → Event → V} {old new : V} {bytes : List �
     looks_at_least = costs.looks_at_least;
   }
 
+  -- A call ensures `ReadsLong` if it isn't refused memory, and if it is.
+  reads_long-ok : {is_terminated : V → Bool} {rate n : ℕ} {Answer Drove : Type 0} {answer : Answer}
+      {drove : Result Drove Refused} {Reads : Answer → V → V → List ℕ → ParserFacts → ParserFacts → Type 0}
+      → Reads answer old new bytes (long_parser_facts parser) (long_parser_facts next)
+      → Costs rate bytes drove n parser.machine next.machine (total_looks parser.looks) (total_looks next.looks)
+      → ReadsLong rate step is_terminated old new bytes parser next (Ok answer) Reads
+  reads_long-ok reads costs = record {
+    reads = reads;
+    refuses = tt;
+    keeps_memory = costs.keeps_memory;
+    stores = stores_pieces next.machine;
+  }
+
+  reads_long-refused : {is_terminated : V → Bool} {rate n : ℕ} {Answer Drove : Type 0} {refused : Refused}
+      {drove : Result Drove Refused} {Reads : Answer → V → V → List ℕ → ParserFacts → ParserFacts → Type 0}
+      → IsRefusedMemory rate step is_terminated old new bytes parser next refused.read
+      → Costs rate bytes drove n parser.machine next.machine (total_looks parser.looks) (total_looks next.looks)
+      → ReadsLong rate step is_terminated old new bytes parser next (Err refused) Reads
+  reads_long-refused refuses costs = record {
+    reads = tt;
+    refuses = refuses;
+    keeps_memory = costs.keeps_memory;
+    stores = stores_pieces next.machine;
+  }
+
 module _ {A V : Type 0} {step : V → Event → V} {is_terminated : V → Bool} {old new : V} {bytes : List ℕ}
     {parser next : LongParser A} where
   -- A call that may stop ensures `IsRefusedMemory` if it is refused memory.
@@ -100,24 +125,17 @@ module _ {A V : Type 0} {step : V → Event → V} {is_terminated : V → Bool} 
       (total_looks parser.looks) (total_looks next.looks)
       → ReadsLong (per_byte 5) step (λ _. false) old new bytes parser next (Err refused)
       (λ (_ : Unit {0}). ReadsBytes step)
-  advance-refused refused refuses costs = record {
-    reads = tt;
-    refuses = is_refused (λ _. false) refuses costs (λ stream has_read start before starts. refl) refl;
-    keeps_memory = costs.keeps_memory;
-    stores = stores_pieces next.machine;
-  }
+  advance-refused refused refuses costs =
+      reads_long-refused (is_refused (λ _. false) refuses costs (λ stream has_read start before starts. refl) refl)
+      costs
 
   pub advance-read : {read : ℕ}
       → ReadsUpTo (chunk_call false step is_terminated None bytes) old new read parser.machine next.machine
       → Costs (per_byte 5) bytes (Ok read) read parser.machine next.machine
       (total_looks parser.looks) (total_looks next.looks)
       → ReadsLong (per_byte 5) step (λ _. false) old new bytes parser next (Ok tt) (λ (_ : Unit {0}). ReadsBytes step)
-  advance-read reads costs = record {
-    reads = reads-bytes (all_read-unless_asked _ _ reads.within reads.may_stop) reads costs;
-    refuses = tt;
-    keeps_memory = costs.keeps_memory;
-    stores = stores_pieces next.machine;
-  }
+  advance-read reads costs =
+      reads_long-ok (reads-bytes (all_read-unless_asked _ _ reads.within reads.may_stop) reads costs) costs
 
   -- The next lemmas are for `advance_until_terminated`.
   pub advance-until : (result : Result ℕ Refused)
@@ -130,18 +148,8 @@ module _ {A V : Type 0} {step : V → Event → V} {is_terminated : V → Bool} 
       (total_looks next.looks)
       → ReadsLong (per_byte 5) step is_terminated old new bytes parser next result
       (ReadsUntilTerminated step is_terminated)
-  advance-until (Ok read) reads refuses costs = record {
-    reads = reads-until refl reads costs;
-    refuses = tt;
-    keeps_memory = costs.keeps_memory;
-    stores = stores_pieces next.machine;
-  }
-  advance-until (Err refused) reads refuses costs = record {
-    reads = tt;
-    refuses = is_refused-asked refuses costs;
-    keeps_memory = costs.keeps_memory;
-    stores = stores_pieces next.machine;
-  }
+  advance-until (Ok read) reads refuses costs = reads_long-ok (reads-until refl reads costs) costs
+  advance-until (Err refused) reads refuses costs = reads_long-refused (is_refused-asked refuses costs) costs
 
   -- The next lemmas are for `advance_to_run`.
   pub to_run-refused : (refused : Refused) {drove : Result RunRange Refused}
@@ -151,12 +159,7 @@ module _ {A V : Type 0} {step : V → Event → V} {is_terminated : V → Bool} 
       (total_looks parser.looks) (total_looks next.looks)
       → ReadsLong (per_byte 7) step is_terminated old new bytes parser next (Err refused)
       (ReadsToRun step is_terminated)
-  to_run-refused refused refuses costs = record {
-    reads = tt;
-    refuses = is_refused-asked refuses costs;
-    keeps_memory = costs.keeps_memory;
-    stores = stores_pieces next.machine;
-  }
+  to_run-refused refused refuses costs = reads_long-refused (is_refused-asked refuses costs) costs
 
   pub to_run-read : (run : Run) {range : RunRange}
       → ComesToRun (chunk_call true step is_terminated None bytes) old new range parser.machine next.machine
@@ -165,15 +168,13 @@ module _ {A V : Type 0} {step : V → Event → V} {is_terminated : V → Bool} 
       (total_looks parser.looks) (total_looks next.looks)
       → ((stream : List ℕ) → HasReadLong parser stream → ReportsOutsideRuns None stream bytes range.start)
       → ReadsLong (per_byte 7) step is_terminated old new bytes parser next (Ok run) (ReadsToRun step is_terminated)
-  to_run-read run comes starts ends taken costs others = record {
-    reads = record {
-      returns = returns-run run comes starts ends taken refl;
-      reads = reads-run run comes starts ends taken;
-      outside_runs = λ stream has_read. rw starts (others stream has_read);
-      looks_at_most = rw ends costs.looks_at_most_if_ok;
-      looks_at_least = rw ends costs.looks_at_least;
-    };
-    refuses = tt;
-    keeps_memory = costs.keeps_memory;
-    stores = stores_pieces next.machine;
-  }
+  to_run-read run comes starts ends taken costs others =
+      reads_long-ok
+      (record {
+        returns = returns-run run comes starts ends taken refl;
+        reads = reads-run run comes starts ends taken;
+        outside_runs = λ stream has_read. rw starts (others stream has_read);
+        looks_at_most = rw ends costs.looks_at_most_if_ok;
+        looks_at_least = rw ends costs.looks_at_least;
+      })
+      costs

@@ -1,4 +1,5 @@
--- A lemma of turns: `until_refused-goes_on`.
+-- A refused turn leaves nothing held and is outside an update, so the rest is taken by the turn that would have taken
+-- it (`until_refused-goes_on`).
 use Rattle.vte.proofs.ansi.laws.refused_calls_go_on.Goals as goal
 use Rattle.vte.proofs.lemmas.turns.RefusedTurns.{until_refused-goes_on}
 

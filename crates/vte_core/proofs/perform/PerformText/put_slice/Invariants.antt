@@ -1,4 +1,4 @@
--- What is left to put gives what all gives.
+-- The bytes that are left to put lead from the performer so far to where all of them lead.
 use Rattle.vte_core.proofs.Common.{after, drop, map, Put, ◌≡◌}
 use Rattle.vte_core.proofs.perform.PerformText.put_slice.Given as goal
 

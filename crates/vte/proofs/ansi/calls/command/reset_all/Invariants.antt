@@ -1,4 +1,4 @@
--- The numbers that are left give what all give.
+-- The indices from this one to 255 lead from the handler so far to where all 256 lead.
 use Rattle.vte.proofs.ansi.calls.command.reset_all.Given as goal
 use Rattle.vte.proofs.Common.{after, all_reset, map, range_with_len, ResetColor, ◌-◌, ◌≡◌}
 

@@ -1,4 +1,4 @@
--- The numbers that are left give what all give.
+-- The indices among the texts that are left lead from the handler so far to where those of all texts lead.
 use Rattle.vte.proofs.ansi.calls.command.reset_colors.Given as goal
 use Rattle.vte.proofs.Common.{after, decimal_number, drop, filter_map, map, ResetColor, ◌≡◌}
 

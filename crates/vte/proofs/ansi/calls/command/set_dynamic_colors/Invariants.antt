@@ -1,4 +1,4 @@
--- The texts that are left give what all give.
+-- The texts that are left, the next of them for this code, lead from the handler so far to where all texts lead.
 use Rattle.vte.proofs.ansi.calls.command.set_dynamic_colors.Given as goal
 use Rattle.vte.proofs.Common.{after, drop, dynamic_calls, map, ◌+◌, ◌≡◌}
 

@@ -1,4 +1,4 @@
--- The entries that are left give what all give.
+-- The palette entries that are left, each of two texts, lead from the handler so far to where all of them lead.
 use Rattle.vte.proofs.ansi.calls.command.set_palette.Given as goal
 use Rattle.vte.proofs.Common.{after, length, map, palette_entries_calls, ◌≡◌}
 

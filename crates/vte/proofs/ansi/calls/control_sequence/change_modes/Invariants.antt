@@ -1,4 +1,4 @@
--- What is left to change gives what all gives.
+-- The modes that are left lead from the handler so far to where all of them lead; the iterator over them is finite.
 use Rattle.vte.proofs.ansi.calls.control_sequence.change_modes.Given as goal
 use Rattle.vte.proofs.Common.{after, change_calls, first_numbers, ◌≡◌}
 

@@ -1,4 +1,4 @@
--- What is left to hand over gives what all gives.
+-- The repetitions that are left lead from the handler so far to where all of them lead.
 use Rattle.vte.proofs.ansi.calls.control_sequence.repeat.Given as goal
 use Rattle.vte.proofs.Common.{after, Input, replicate, ◌-◌, ◌≡◌}
 

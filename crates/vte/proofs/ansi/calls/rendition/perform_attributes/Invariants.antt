@@ -1,4 +1,4 @@
--- What is left to call gives what all calls give.
+-- The attributes of the groups that are left lead from the handler so far to where those of all groups lead.
 use Rattle.vte.proofs.ansi.calls.rendition.perform_attributes.Given as goal
 use Rattle.vte.proofs.Common.{after, attribute_calls, length, ◌≡◌}
 

@@ -1,4 +1,4 @@
--- Once more is one more.
+-- Setting the timeout `count` times and then once more sets it `count + 1` times (`timeout_set_times-add`).
 use Rattle.vte.proofs.ansi.updates.engine.set_timeout_times.Goals as goal
 use Rattle.vte.proofs.Common.{◌∙◌}
 use Rattle.vte.proofs.lemmas.EventCalls.{timeout_set_times-add}

@@ -1,4 +1,4 @@
--- The groups that are left give what all give.
+-- The private modes of the groups that are left lead from the value so far to where those of all groups lead.
 use Rattle.vte.proofs.ansi.calls.performer.Performer.set_private_modes.Given as goal
 use Rattle.vte.proofs.Common.{performer_value, timeout_meaning, with_private_modes, ◌≡◌}
 

@@ -1,5 +1,6 @@
 /* Feeds bytes to parsers of random content, with buffers of exactly their size, so that a sanitizer
  * reports an access past one. */
+#include "check.h"
 #include "vte.h"
 #include <stdlib.h>
 #include <string.h>
@@ -36,23 +37,23 @@ int main(void) {
         size_t read = vte_feed(&parser, (const uint8_t *)ends, sizeof ends - 1, VTE_ALL_KINDS, 0,
                                events, event_room, data, data_room, &counts);
         int has_room = event_room >= VTE_MIN_EVENTS && data_room >= VTE_MIN_DATA;
-        if (!has_answered(read, sizeof ends - 1, has_room)) return 1;
+        CHECK(has_answered(read, sizeof ends - 1, has_room));
         for (size_t i = 0; i < counts.events; i++) {
             vte_items items = vte_items_of(&events[i], data);
             if (events[i].kind == VTE_TEXT || events[i].kind == VTE_DATA) {
                 size_t end = (size_t)events[i].start + events[i].code;
-                if (end > (events[i].flag ? counts.data : sizeof ends - 1)) return 1;
+                CHECK(end <= (events[i].flag ? counts.data : sizeof ends - 1));
             }
             if (events[i].kind == VTE_OSC)
-                while (vte_next_piece(&items))
-                    if (items.next > data + counts.data) return 1;
+                while (vte_next_piece(&items)) CHECK(items.next <= data + counts.data);
             if (events[i].kind == VTE_CSI || events[i].kind == VTE_HOOK)
-                while (vte_next_group(&items))
-                    if (items.next > data + counts.data) return 1;
+                while (vte_next_group(&items)) CHECK(items.next <= data + counts.data);
         }
         read = vte_strip(&other, (const uint8_t *)ends, sizeof ends - 1, text, text_room, &written);
-        if (!has_answered(read, sizeof ends - 1, text_room >= VTE_MIN_TEXT)) return 1;
-        if (counts.events > event_room || counts.data > data_room || written > text_room) return 1;
+        CHECK(has_answered(read, sizeof ends - 1, text_room >= VTE_MIN_TEXT));
+        CHECK(counts.events <= event_room);
+        CHECK(counts.data <= data_room);
+        CHECK(written <= text_room);
         free(events);
         free(data);
         free(text);

@@ -10,6 +10,7 @@
 #else
 #include "vte_handler.h"
 #endif
+#include "check.h"
 #include <stdio.h>
 #include <stdlib.h>
 #include <string.h>
@@ -33,15 +34,15 @@ static void write_color(vte_color of) {
 static void must_be_busy(void) {
     size_t read = 7;
     vte_sync sync;
-    if (vte_processor_advance(processor, (const uint8_t *)"x", 1, &read) != VTE_BUSY || read != 0
-        || vte_processor_stop_sync(processor) != VTE_BUSY
-        || vte_processor_sync(processor, &sync) != VTE_BUSY
-        || vte_processor_free(processor) != VTE_BUSY)
-        abort();
+    CHECK(vte_processor_advance(processor, (const uint8_t *)"x", 1, &read) == VTE_BUSY);
+    CHECK(read == 0);
+    CHECK(vte_processor_stop_sync(processor) == VTE_BUSY);
+    CHECK(vte_processor_sync(processor, &sync) == VTE_BUSY);
+    CHECK(vte_processor_free(processor) == VTE_BUSY);
 }
 
 static void begin(const char *name, void *user) {
-    if (user != &processor) abort();
+    CHECK(user == &processor);
     fputs(name, stdout);
 }
 
@@ -76,16 +77,16 @@ static void *const user = &processor;
 /* Makes a processor of a part of the table, which it copies, as the address sanitizer sees. */
 static vte_processor *processor_of(size_t size) {
     vte_handler *part = (vte_handler *)malloc(size);
-    if (part == NULL) exit(1);
+    CHECK(part != NULL);
     memcpy((void *)part, &table, size);
     vte_processor *made = vte_processor_new(part, size, user);
     free(part);
-    if (made == NULL) exit(1);
+    CHECK(made != NULL);
     return made;
 }
 
 static void renew(void) {
-    if (vte_processor_free(processor) != VTE_OK) abort();
+    CHECK(vte_processor_free(processor) == VTE_OK);
     processor = processor_of(sizeof table);
 }
 
@@ -93,7 +94,7 @@ static void renew(void) {
 static uint64_t now = 12345678901;
 
 int __wrap_clock_gettime(clockid_t clock, struct timespec *time) {
-    if (clock != CLOCK_MONOTONIC) abort();
+    CHECK(clock == CLOCK_MONOTONIC);
     now += 777777777;
     time->tv_sec = (time_t)(now / 1000000000);
     time->tv_nsec = (long)(now % 1000000000);
@@ -104,14 +105,14 @@ int __wrap_clock_gettime(clockid_t clock, struct timespec *time) {
 static int digit(char c) { return c <= '9' ? c - '0' : c - 'a' + 10; }
 
 /* Reads bytes in hex, from memory of exactly their size. */
-static int advance(const char *hex) {
+static void advance(const char *hex) {
     size_t length = strlen(hex) / 2, read = length + 1;
     uint8_t *bytes = (uint8_t *)malloc(length ? length : 1);
     for (size_t i = 0; i < length; i++)
         bytes[i] = (uint8_t)(digit(hex[2 * i]) << 4 | digit(hex[2 * i + 1]));
-    int status = vte_processor_advance(processor, bytes, length, &read);
+    CHECK(vte_processor_advance(processor, bytes, length, &read) == VTE_OK);
+    CHECK(read == length);
     free(bytes);
-    return status == VTE_OK && read == length;
 }
 
 int main(void) {
@@ -120,14 +121,17 @@ int main(void) {
     vte_processor_free(processor_of(3 * sizeof table.bell));
     while (getline(&line, &capacity, stdin) > 0) {
         line[strcspn(line, "\n")] = 0;
-        if (strcmp(line, "new") == 0) renew(), puts("new");
-        else if (strncmp(line, "advance ", 8) == 0 && !advance(line + 8)) return 1;
-        else if (strcmp(line, "stop_sync") == 0 && vte_processor_stop_sync(processor)) return 1;
+        if (strcmp(line, "new") == 0) {
+            renew();
+            puts("new");
+        } else if (strncmp(line, "advance ", 8) == 0) advance(line + 8);
+        else if (strcmp(line, "stop_sync") == 0)
+            CHECK(vte_processor_stop_sync(processor) == VTE_OK);
         vte_sync sync;
         memset(&sync, 0x55, sizeof sync);
-        if (vte_processor_sync(processor, &sync) != VTE_OK || sync.is_pending > 1
-            || sync.deadline != (sync.is_pending ? now + 150000000 : 0))
-            return 1;
+        CHECK(vte_processor_sync(processor, &sync) == VTE_OK);
+        CHECK(sync.is_pending <= 1);
+        CHECK(sync.deadline == (sync.is_pending ? now + 150000000 : 0));
         printf("held %zu %d\n", sync.bytes_count, sync.is_pending);
     }
     vte_processor_free(processor);

@@ -5,6 +5,7 @@
  * `stops N` are the masks of vte_feed, `losses` writes of each command only whether it lost data,
  * `strip` writes the text, with room for ROOM bytes, and `long` keeps commands of any length, if
  * this is compiled with WITH_LONG. */
+#include "check.h"
 #ifdef WITH_LONG
 #include "vte_long.h"
 #else
@@ -92,7 +93,7 @@ static size_t size_of(size_t asked, size_t least, size_t most) {
 /* Allocates exactly this many bytes, so that a sanitizer sees an access past them. */
 static void *room_for(size_t size) {
     void *memory = malloc(size ? size : 1);
-    if (memory == NULL) exit(1);
+    CHECK(memory != NULL);
     memset(memory, 0xa5, size);
     return memory;
 }
@@ -118,7 +119,7 @@ static size_t feed_long(vte_long_parser *parser, const uint8_t *bytes, size_t le
     vte_counts counts;
     size_t read =
         vte_long_feed(parser, bytes, length, kinds, stops, events, event_room, &data, &counts);
-    if (read == VTE_REFUSED) exit(1);
+    CHECK(read != VTE_REFUSED);
     for (size_t i = 0; i < counts.events; i++) show(&events[i], bytes, data);
     free(events);
     return read;
@@ -161,7 +162,7 @@ int main(int argc, char **argv) {
     vte_parser parser = {{0}};
 #ifdef WITH_LONG
     vte_long_parser *long_parser = vte_long_parser_new();
-    if (long_parser == NULL) return 1;
+    CHECK(long_parser != NULL);
 #endif
     for (;;) {
         size_t most = size_of(chunk, 1, 300);

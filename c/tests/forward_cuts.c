@@ -1,5 +1,6 @@
 /* Runs forward.c on streams, each of which ends with NUL: whole, byte by byte, and cut in two at
  * every position. Writes what it passes on of the whole, or where a cut changes that, and NUL. */
+#include "check.h"
 #include <stdio.h>
 #include <stdlib.h>
 #include <string.h>
@@ -12,7 +13,8 @@ static size_t length, at, cut, step;
 static ssize_t next_chunk(int file, void *bytes, size_t capacity) {
     size_t end = step ? at + step : at < cut ? cut : length;
     size_t count = (end < length ? end : length) - at;
-    if (count > capacity || file != 0) abort();
+    CHECK(count <= capacity);
+    CHECK(file == 0);
     memcpy(bytes, stream + at, count);
     at += count;
     return (ssize_t)count;
@@ -31,7 +33,7 @@ static char *passed_on(size_t *size) {
     held = NULL;
     at = held_length = held_room = escape = 0;
     stdout = open_memstream(&passed, size);
-    if (forward() != 0) abort();
+    CHECK(forward() == 0);
     fclose(stdout);
     stdout = real;
     return passed;

@@ -1,6 +1,7 @@
 /* Refuses memory at each allocation in turn, linked with --wrap for malloc, realloc and free: the
  * parser without a limit and the processor say so, and go on with standard input, some bytes at a
  * time. Writes how many were refused, if each run passes on the same, and gives all memory back. */
+#include "check.h"
 #include "vte_handler.h"
 #include "vte_long.h"
 #include <stdio.h>
@@ -25,11 +26,22 @@ static int refuses(void) {
     return 1;
 }
 
-void *__wrap_malloc(size_t size) { return refuses() ? NULL : (used++, __real_malloc(size)); }
-void *__wrap_realloc(void *pointer, size_t size) {
-    return refuses() ? NULL : (used += pointer == NULL, __real_realloc(pointer, size));
+void *__wrap_malloc(size_t size) {
+    if (refuses()) return NULL;
+    used++;
+    return __real_malloc(size);
 }
-void __wrap_free(void *pointer) { used -= pointer != NULL, __real_free(pointer); }
+
+void *__wrap_realloc(void *pointer, size_t size) {
+    if (refuses()) return NULL;
+    used += pointer == NULL;
+    return __real_realloc(pointer, size);
+}
+
+void __wrap_free(void *pointer) {
+    used -= pointer != NULL;
+    __real_free(pointer);
+}
 
 static uint8_t stream[400000], written[2 * sizeof stream], wanted[sizeof written];
 static size_t stream_length, written_length;
@@ -39,18 +51,23 @@ static size_t most;
 static uint32_t kinds;
 
 static void put(const void *bytes, size_t length) {
-    if (written_length + length > sizeof written) abort();
+    CHECK(written_length + length <= sizeof written);
     memcpy(written + written_length, bytes, length);
     written_length += length;
+}
+
+static void put_piece(const uint8_t *bytes, size_t length) {
+    put("[", 1);
+    put(bytes, length);
 }
 
 static void show(const vte_event *event, const uint8_t *bytes, const uint8_t *data) {
     vte_items pieces = vte_items_of(event, data);
     if (event->kind == VTE_TEXT) put(vte_text_of(event, bytes, data), event->code);
-    else if (event->kind == VTE_OSC)
-        while (vte_next_piece(&pieces)) put("[", 1), put(pieces.at, pieces.length);
-    else put("!", 1);
-    if (event->kind == VTE_OSC && vte_next_piece(&pieces)) abort();
+    else if (event->kind == VTE_OSC) {
+        while (vte_next_piece(&pieces)) put_piece(pieces.at, pieces.length);
+        CHECK(!vte_next_piece(&pieces));
+    } else put("!", 1);
 }
 
 /* Returns 0 if memory was refused for the parser itself. */
@@ -64,24 +81,41 @@ static int read_long(void) {
         size_t length = stream_length - at < most ? stream_length - at : most;
         size_t read =
             vte_long_feed(parser, stream + at, length, kinds, 0, events, 4096, &data, &counts);
-        if (read == VTE_REFUSED ? !refused || counts.events != 0 : read == 0) abort();
+        if (read == VTE_REFUSED) {
+            CHECK(refused);
+            CHECK(counts.events == 0);
+            continue;
+        }
+        CHECK(read != 0);
         for (size_t i = 0; i < counts.events; i++) show(&events[i], stream + at, data);
-        if (read != VTE_REFUSED) at += read;
+        at += read;
     }
     size_t least = vte_long_feed(parser, stream, 1, kinds, 0, events, 3, &data, &counts);
-    if (least != VTE_NO_ROOM) abort();
+    CHECK(least == VTE_NO_ROOM);
     vte_long_parser_free(parser);
     return 1;
 }
 
-static void input(void *user, const uint8_t *text, size_t length) { (void)user, put(text, length); }
+static void input(void *user, const uint8_t *text, size_t length) {
+    (void)user;
+    put(text, length);
+}
+
 static void title(void *user, const uint8_t *text, size_t length) {
-    (void)user, put("[", 1), put(text, length);
+    (void)user;
+    put_piece(text, length);
 }
+
 static void store(void *user, uint8_t clipboard, const uint8_t *text, size_t length) {
-    title(user, text, length), put(&clipboard, 1);
+    (void)user;
+    put_piece(text, length);
+    put(&clipboard, 1);
 }
-static void unset(void *user, uint16_t mode) { (void)user, put(&mode, sizeof mode); }
+
+static void unset(void *user, uint16_t mode) {
+    (void)user;
+    put(&mode, sizeof mode);
+}
 
 static int process(void) {
     vte_handler calls = {
@@ -89,11 +123,12 @@ static int process(void) {
     vte_processor *processor = vte_processor_new(&calls, sizeof calls, NULL);
     if (processor == NULL) return 0;
     /* a stop doesn't allocate, and makes a call */
-    if (vte_processor_stop_sync(processor) != VTE_OK) abort();
+    CHECK(vte_processor_stop_sync(processor) == VTE_OK);
     for (size_t at = 0; at < stream_length;) {
         size_t read, length = stream_length - at < most ? stream_length - at : most;
         int status = vte_processor_advance(processor, stream + at, length, &read);
-        if (status == VTE_OK ? read != length : status != VTE_NO_MEMORY || read >= length) abort();
+        CHECK(status == VTE_OK || status == VTE_NO_MEMORY);
+        CHECK(status == VTE_OK ? read == length : read < length);
         at += read;
     }
     vte_processor_free(processor);
@@ -104,24 +139,29 @@ static int process(void) {
  * were refused. */
 static int try_all(int (*way)(void)) {
     int count = 0;
-    left = -1, written_length = 0;
-    if (!way()) abort();
+    left = -1;
+    written_length = 0;
+    CHECK(way());
     size_t wanted_length = written_length;
     memcpy(wanted, written, wanted_length);
     do {
-        left = count++, refused = 0, written_length = 0;
+        left = count++;
+        refused = 0;
+        written_length = 0;
         int done = way();
-        if (used != 0) abort();
-        if (done ? written_length != wanted_length || memcmp(written, wanted, wanted_length) != 0
-                 : !refused)
-            abort();
+        CHECK(used == 0);
+        if (done) {
+            CHECK(written_length == wanted_length);
+            CHECK(memcmp(written, wanted, wanted_length) == 0);
+        } else CHECK(refused);
     } while (refused);
     return count - 1;
 }
 
 int main(int argc, char **argv) {
     if (argc != 3) return 2;
-    most = strtoul(argv[1], NULL, 10), kinds = (uint32_t)strtoul(argv[2], NULL, 10);
+    most = strtoul(argv[1], NULL, 10);
+    kinds = (uint32_t)strtoul(argv[2], NULL, 10);
     stream_length = fread(stream, 1, sizeof stream, stdin);
     printf("%d %d\n", try_all(read_long), try_all(process));
     return 0;

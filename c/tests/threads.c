@@ -1,6 +1,7 @@
 /* Uses two parsers in two threads, and one processor in two: a call gets VTE_BUSY while another is
  * under way. Under the thread sanitizer, with the library compiled for it, it is seen that the
  * functions of the table never run at once. */
+#include "check.h"
 #include "vte_handler.h"
 #include "vte_long.h"
 #include <pthread.h>
@@ -65,25 +66,26 @@ static void *process(void *user) {
     return NULL;
 }
 
-static int in_two_threads(void *(*what)(void *)) {
+static void run_in_two_threads(void *(*what)(void *)) {
     static int numbers[] = {0, 1};
     pthread_t other;
     void *failed;
-    if (pthread_create(&other, NULL, what, &numbers[1]) != 0) return 1;
-    int has_failed = what(&numbers[0]) != NULL;
-    pthread_join(other, &failed);
-    return has_failed || failed != NULL;
+    CHECK(pthread_create(&other, NULL, what, &numbers[1]) == 0);
+    CHECK(what(&numbers[0]) == NULL);
+    CHECK(pthread_join(other, &failed) == 0);
+    CHECK(failed == NULL);
 }
 
 int main(void) {
     const vte_handler calls = {.input = input};
     pthread_barrier_init(&start, NULL, 2);
     processor = vte_processor_new(&calls, sizeof calls, &inputs);
-    if (processor == NULL || in_two_threads(parse)) return 1;
+    CHECK(processor != NULL);
+    run_in_two_threads(parse);
     /* on a busy machine one thread may have ended before the other begins */
-    for (int i = 0; i < 100 && busy[0] + busy[1] == 0; i++)
-        if (in_two_threads(process)) return 1;
-    if (vte_processor_free(processor) != VTE_OK || inputs != done[0] + done[1]) return 2;
+    for (int i = 0; i < 100 && busy[0] + busy[1] == 0; i++) run_in_two_threads(process);
+    CHECK(vte_processor_free(processor) == VTE_OK);
+    CHECK(inputs == done[0] + done[1]);
     printf("%s\n", busy[0] + busy[1] > 0 ? "busy" : "never busy");
     return 0;
 }

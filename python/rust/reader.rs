@@ -10,9 +10,9 @@ use vte::Refused;
 const SLICE: usize = 1 << 12;
 /// How many values are recorded before objects are made of them: few, because their memory is then
 /// at hand.
-const MAX_SIZE: usize = 1 << 11;
+const MAX_COUNT: usize = 1 << 11;
 /// The same for an input that is read without the lock, which would be taken again each time.
-const MAX_SIZE_WITHOUT_LOCK: usize = 1 << 15;
+const MAX_COUNT_WITHOUT_LOCK: usize = 1 << 15;
 
 /// Records what a stream adds.
 pub trait Reader: Send {
@@ -61,12 +61,12 @@ where
 /// Reads until objects are to be made. Returns how much was read, and whether memory was refused.
 fn read_some(reader: &mut impl Reader, source: &[u8]) -> (usize, bool) {
     let mut position = 0;
-    let max_size = if source.len() >= LONG {
-        MAX_SIZE_WITHOUT_LOCK
+    let max_count = if source.len() >= LONG {
+        MAX_COUNT_WITHOUT_LOCK
     } else {
-        MAX_SIZE
+        MAX_COUNT
     };
-    while position < source.len() && !reader.tape().is_full(max_size) && !reader.has_stopped() {
+    while position < source.len() && !reader.tape().is_full(max_count) && !reader.has_stopped() {
         match reader.read(&source[position..]) {
             Ok(read) => position += read,
             Err(Refused { read }) => return (position + read, true),

@@ -49,7 +49,7 @@ impl Refusal {
                 // first, since what this has no memory for stays on the tape
                 let made = made.or_else(|| tape.list_of_some(py));
                 drop(self);
-                Err(refused(py, read, made, tape.has_lost()))
+                Err(refused(py, read, made, tape.take_loss()))
             }
             answered => {
                 KEPT.get(py).set(self.0);

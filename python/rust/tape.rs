@@ -300,13 +300,13 @@ impl Tape {
     }
 
     /// Whether so many values are recorded, or memory was refused to one.
-    pub fn is_full(&self, max_size: usize) -> bool {
-        self.values.len() >= max_size || self.is_refused
+    pub fn is_full(&self, max_count: usize) -> bool {
+        self.values.len() >= max_count || self.is_refused
     }
 
-    /// Returns once whether there was no memory to record something. Then all that wasn't made is
-    /// dropped.
-    pub fn has_lost(&mut self) -> bool {
+    /// Returns whether there was no memory to record something. If so, all that wasn't made is
+    /// dropped, and the next call returns false.
+    pub fn take_loss(&mut self) -> bool {
         let is_refused = self.is_refused;
         if is_refused {
             let made = std::mem::take(&mut self.made);

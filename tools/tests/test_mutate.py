@@ -8,12 +8,33 @@ from tests.support import Tool, write
 PATH, MUST_FAIL = "tools/mutants/c/m.edit", "crates/c/must-fail/other.edit"
 MUTANT = "# A rule.\nfile: src/lib.rt\nold: one\nnew: two\n# refused at abc1234 by goal\n"
 
+SOURCE = """\
+const C: u8 = 0;
+
+#[inline]
+pub(crate) fn g() {}
+
+impl<T: Fn() -> u8> B<T> {
+    fn d() {
+    }
+}
+
+impl<'a> io::Read
+    for &'a B<Vec<u8>>
+{
+    /// Reads.
+    fn h() {}
+}
+"""
+
 
 @pytest.fixture
 def copy(tmp_path_factory):
     """A folder for a copy, beside that of a crate with a mutant."""
-    for file in "crates.txt", "HANDLES", "crates/c/src/a/b.rt", MUST_FAIL, PATH:
+    for file in "crates.txt", "HANDLES", MUST_FAIL, PATH:
         write(file, MUTANT)
+    write("crates/c/src/a.rt", "pub struct B<T>(T);\n\nfn e() {}\n")
+    write("crates/c/src/a/b.rt", SOURCE)
     write("crates/c/src/lib.rt", "fn d() { f(one); f(two); }")
     return tmp_path_factory.mktemp("copy")
 
@@ -31,9 +52,10 @@ def copy(tmp_path_factory):
     *((PATH, "# refused at abc1234 by goal\n", verdict, "it wasn't refused: run tools/mutate")
       for verdict in ("", "# not refused at abc1234\n")),
     *((PATH, "by goal", f"by {verdict}", None)
-      for verdict in ("returns-then-x of a::B+C::d", "a goal of src/a/b.rt:1")),
-    *((PATH, "by goal", f"by x of {gone}", f"its verdict names {gone}, which is gone")
-      for gone in ("a::gone", "src/a/gone.rt:1")),
+      for verdict in ("returns-then-x of a::B+C::d", "x of a::b::B::d", "x of a::BRead::h",
+                      "x of a::e", "x of d", "a goal of src/a/b.rt")),
+    *((PATH, "by goal", f"by x of {gone}", f"its verdict names {gone}, which isn't there")
+      for gone in ("a::gone", "a::g", "a::B::h", "src/a/gone.rt", "src/a/b.rt:1")),
     *((PATH, " by goal", verdict, "its verdict names no goal")
       for verdict in (" by a goal", ": `goal`: why")),
     ("crates/c/must-fail/m.edit", "", "", "it is also in must-fail/")])
@@ -57,7 +79,10 @@ def mutate(output, *words):
         "not refused", "refused, as it must be: why")),
     *((f"refused, as it must be: {why}", 0, f"# refused at abc1234 by {goal}") for goal, why in {
         "x-y": "`x-y`: why (`x`)",
-        "x of src/a/b.rt:2": "note: src/a/b.rt:2:1: what `q` requires isn't proved (`x`); `y`",
+        "x of src/a/b.rt": "note: src/a/b.rt:2:1: what `q` requires isn't proved (`x`); `y`",
+        "x of a::b::g": "note: src/a/b.rt:3:1: what `q` requires isn't proved (`x`)",
+        "x of a::B::d": "note: src/a/b.rt:8:1: what `q` requires isn't proved (`x`)",
+        "x of a::BRead::h": "note: src/a/b.rt:14:1: what `q` requires isn't proved (`x`)",
         "x of a::b": "./proofs/a/b/Answers.antt:1:2: error: `x`: `y`",
         "x of a": "answers in ./proofs/a/Answers.antt; `search` did not prove `x`, `y`",
         "a goal of a": "answers in ./proofs/a/Answers.antt"}.items())])

@@ -2,8 +2,8 @@
 
 use linked_list_allocator::LocalHeap;
 use std::alloc::{Allocator, Global};
-use std::io::{self, ErrorKind};
-use test_lines::{Answers, CallLines, TestTimeout};
+use std::io;
+use test_lines::{Answers, CallLines, TestTimeout, require_memory};
 use vte::ansi::Processor;
 
 /// The size of the buffer that a processor allocates.
@@ -14,10 +14,7 @@ pub(crate) fn new_processor<A: Allocator>(
     alloc: A,
     answers: Answers,
 ) -> io::Result<Processor<TestTimeout, A>> {
-    match Processor::new(alloc, TestTimeout::new(answers)) {
-        Ok(processor) => Ok(processor),
-        Err(_timeout) => Err(io::Error::from(ErrorKind::OutOfMemory)),
-    }
+    Ok(require_memory(Processor::new(alloc, TestTimeout::new(answers)))?)
 }
 
 /// The memory of one processor and of the lines of one handler.

@@ -10,12 +10,14 @@
 mod call_lines;
 mod event_lines;
 mod hex;
+mod memory;
 mod timeout;
 mod variant;
 mod visitor;
 
 pub use call_lines::CallLines;
 pub use event_lines::{EventLines, Stop};
+pub use memory::require_memory;
 pub use timeout::{Answers, TestTimeout};
 pub use variant::Variant;
 pub use visitor::{CallVisitor, visit_call};

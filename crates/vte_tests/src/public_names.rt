@@ -4,6 +4,7 @@ use std::fmt::Debug;
 use std::hash::{DefaultHasher, Hash, Hasher};
 use std::test::Fail;
 use std::time::Duration;
+use test_lines::require_memory;
 use vte::ansi::cursor_icon::CursorIcon;
 use vte::ansi::{
     Attr, BoundedProcessor, ByCall, C0, CharsetIndex, ClearMode, Clock, Color, CursorShape,
@@ -281,45 +282,42 @@ fn ring<H: Handler>(handler: &mut H) {
 }
 
 #[test]
-fn a_processor_makes_calls(rt: HostRuntime) {
+fn a_processor_makes_calls(rt: HostRuntime) -> Result<(), Fail> {
     let mut called = ByCall(Called(0));
     ring(&mut called);
     let mut timeout = StdSyncHandler::new(Stopped);
     assert!(rt; !timeout.pending_timeout() && timeout.sync_timeout().is_none());
     timeout.clear_timeout();
-    match Processor::new(rt.alloc(), timeout) {
-        Ok(mut processor) => {
-            ansi::laws::replay(
-                &mut processor,
-                &mut called,
-                &[Step::Advance(b"b\x1b[?2026hc"), Step::StopSync],
-            );
-            assert_eq!(rt; (called.0.0, processor.sync_bytes_count()), (3, 0));
-            assert!(rt; !processor.command_lost_data());
-        }
-        Err(_timeout) => assert!(rt; false, "there is room"),
-    }
+    let mut processor = require_memory(Processor::new(rt.alloc(), timeout))?;
+    ansi::laws::replay(
+        &mut processor,
+        &mut called,
+        &[Step::Advance(b"b\x1b[?2026hc"), Step::StopSync],
+    );
+    assert_eq!(rt; (called.0.0, processor.sync_bytes_count()), (3, 0));
+    assert!(rt; !processor.command_lost_data());
     assert_eq!(rt; (C0::ESC, C0::DEL), (0x1b, 0x7f));
+    Ok(())
 }
 
 #[test]
-fn a_processor_may_have_any_limit(rt: HostRuntime) {
+fn a_processor_may_have_any_limit(rt: HostRuntime) -> Result<(), Fail> {
     let mut called = ByCall(Called(0));
-    match BoundedProcessor::<_, _, 4>::new(rt.alloc(), StdSyncHandler::new(Stopped)) {
-        Ok(mut processor) => {
-            processor.advance(&mut called, b"a\x1b]2;title");
-            assert!(rt; processor.command_lost_data());
-            processor.advance_text(&mut called, b"\x1b]2;tie\x07\x1b[?2026hb");
-            assert!(rt; !processor.command_lost_data());
-            assert_eq!(rt; (called.0.0, processor.sync_bytes_count()), (1, 1));
-            processor.stop_sync(&mut called);
-            processor.advance(&mut called, b"\x1b[?2026hc");
-            processor.stop_sync_text(&mut called);
-            assert!(rt; processor.sync_timeout().sync_timeout().is_none());
-            assert_eq!(rt; called.0.0, 3);
-        }
-        Err(_timeout) => assert!(rt; false, "there is room"),
-    }
+    let mut processor = require_memory(BoundedProcessor::<_, _, 4>::new(
+        rt.alloc(),
+        StdSyncHandler::new(Stopped),
+    ))?;
+    processor.advance(&mut called, b"a\x1b]2;title");
+    assert!(rt; processor.command_lost_data());
+    processor.advance_text(&mut called, b"\x1b]2;tie\x07\x1b[?2026hb");
+    assert!(rt; !processor.command_lost_data());
+    assert_eq!(rt; (called.0.0, processor.sync_bytes_count()), (1, 1));
+    processor.stop_sync(&mut called);
+    processor.advance(&mut called, b"\x1b[?2026hc");
+    processor.stop_sync_text(&mut called);
+    assert!(rt; processor.sync_timeout().sync_timeout().is_none());
+    assert_eq!(rt; called.0.0, 3);
+    Ok(())
 }
 
 #[test]

@@ -6,7 +6,7 @@ use event_log::{Device, Source, run, run_text};
 use std::alloc::{AllocError, Allocator, Global};
 use std::process::Abort;
 use std::test::Fail;
-use test_lines::{Answers, CallLines, EventLines, Stop, TestTimeout};
+use test_lines::{Answers, CallLines, EventLines, Stop, TestTimeout, require_memory};
 use vte::ansi::{ByCall, Processor};
 use vte_core::{LongParser, Parser};
 
@@ -124,22 +124,18 @@ fn calls_of(
     stops: &mut Streams,
 ) -> Result<CallLines, Fail> {
     let mut handler = ByCall(CallLines::new(rt.alloc()));
-    match Processor::new(rt.alloc(), TestTimeout::new(answers)) {
-        Ok(mut processor) => {
-            for chunk in chunks {
-                if in_runs {
-                    processor.advance_text(&mut handler, chunk);
-                } else {
-                    processor.advance(&mut handler, chunk);
-                }
-                if stops.below(8) == 0 {
-                    stop(&mut processor, in_runs, &mut handler);
-                }
-            }
+    let mut processor = require_memory(Processor::new(rt.alloc(), TestTimeout::new(answers)))?;
+    for chunk in chunks {
+        if in_runs {
+            processor.advance_text(&mut handler, chunk);
+        } else {
+            processor.advance(&mut handler, chunk);
+        }
+        if stops.below(8) == 0 {
             stop(&mut processor, in_runs, &mut handler);
         }
-        Err(_timeout) => assert!(rt; false, "out of memory"),
     }
+    stop(&mut processor, in_runs, &mut handler);
     Ok(handler.0)
 }
 

@@ -4,7 +4,7 @@ use linked_list_allocator::LocalHeap;
 use std::alloc::Allocator;
 use std::test::Fail;
 use std::time::Duration;
-use test_lines::{Answers, CallLines, TestTimeout};
+use test_lines::{Answers, CallLines, TestTimeout, require_memory};
 use vte::ansi::{ByCall, Clock, Processor, StdSyncHandler, Timeout};
 
 /// The size of the buffer that a processor allocates.
@@ -53,19 +53,15 @@ fn processor_takes_no_memory_beyond_its_hold(rt: HostRuntime) -> Result<(), Fail
     // The heap has no room beyond the first allocation.
     let heap = LocalHeap::new(rt.alloc(), HOLD)?;
     let mut handler = ByCall(CallLines::new(rt.alloc()));
-    match Processor::new(&heap, TestTimeout::new(Answers::Counting)) {
-        Ok(mut processor) => {
-            assert_eq!(rt; heap.free(), 0);
-            advance(
-                &mut processor,
-                &mut handler,
-                b"\x1b[?2026h\x1b[31mab\x1b]2;title\x07",
-            );
-            advance(&mut processor, &mut handler, b"\x1b[?2026l");
-            assert_eq!(rt; heap.used(), HOLD);
-        }
-        Err(_timeout) => assert!(rt; false, "there is room"),
-    }
+    let mut processor = require_memory(Processor::new(&heap, TestTimeout::new(Answers::Counting)))?;
+    assert_eq!(rt; heap.free(), 0);
+    advance(
+        &mut processor,
+        &mut handler,
+        b"\x1b[?2026h\x1b[31mab\x1b]2;title\x07",
+    );
+    advance(&mut processor, &mut handler, b"\x1b[?2026l");
+    assert_eq!(rt; heap.used(), HOLD);
     assert_eq!(rt;
         handler.0.text().unwrap_or("refused"),
         "set_private_mode Named(SyncUpdate)\n\
@@ -78,37 +74,36 @@ fn processor_takes_no_memory_beyond_its_hold(rt: HostRuntime) -> Result<(), Fail
 
 /// Fails if a turn uses an older answer of the timeout, even if nothing was set or cleared since.
 #[test]
-fn a_turn_reuses_an_older_answer(rt: HostRuntime) {
+fn a_turn_reuses_an_older_answer(rt: HostRuntime) -> Result<(), Fail> {
     let mut handler = ByCall(CallLines::new(rt.alloc()));
-    match Processor::new(rt.alloc(), TestTimeout::new(Answers::Expiring)) {
-        Ok(mut processor) => {
-            advance(&mut processor, &mut handler, b"\x1b[?2026hx");
-            assert_eq!(rt; processor.sync_bytes_count(), 1);
-            processor.sync_timeout().expire();
-            advance(&mut processor, &mut handler, b"y");
-            assert_eq!(rt; processor.sync_bytes_count(), 0);
-        }
-        Err(_timeout) => assert!(rt; false, "there is room"),
-    }
+    let mut processor = require_memory(Processor::new(
+        rt.alloc(),
+        TestTimeout::new(Answers::Expiring),
+    ))?;
+    advance(&mut processor, &mut handler, b"\x1b[?2026hx");
+    assert_eq!(rt; processor.sync_bytes_count(), 1);
+    processor.sync_timeout().expire();
+    advance(&mut processor, &mut handler, b"y");
+    assert_eq!(rt; processor.sync_bytes_count(), 0);
     assert_eq!(rt;
         handler.0.text().unwrap_or("refused"),
         "set_private_mode Named(SyncUpdate)\ninput 0078\n\
          unset_private_mode Named(SyncUpdate)\ninput 0079\n"
     );
     let mut handler = ByCall(CallLines::new(rt.alloc()));
-    match Processor::new(rt.alloc(), TestTimeout::new(Answers::Alternating)) {
-        Ok(mut processor) => {
-            for (bytes, held) in [("a", 1), ("", 1), ("b", 0), ("c", 1)] {
-                advance(&mut processor, &mut handler, bytes.as_bytes());
-                assert_eq!(rt; processor.sync_bytes_count(), held, "{bytes}");
-            }
-        }
-        Err(_timeout) => assert!(rt; false, "there is room"),
+    let mut processor = require_memory(Processor::new(
+        rt.alloc(),
+        TestTimeout::new(Answers::Alternating),
+    ))?;
+    for (bytes, held) in [("a", 1), ("", 1), ("b", 0), ("c", 1)] {
+        advance(&mut processor, &mut handler, bytes.as_bytes());
+        assert_eq!(rt; processor.sync_bytes_count(), held, "{bytes}");
     }
     assert_eq!(rt;
         handler.0.text().unwrap_or("refused"),
         "input 0061\nunset_private_mode Named(SyncUpdate)\ninput 0062\n"
     );
+    Ok(())
 }
 
 #[test]

@@ -2,11 +2,11 @@
 
 extern crate alloc;
 
+#[path = "support/allocator.rs"]
+mod allocator;
 #[cfg(all(feature = "std", target_os = "linux"))]
 #[path = "memory/measured.rs"]
 mod measured;
-#[path = "support/memory.rs"]
-mod memory;
 #[allow(dead_code, unused_imports)]
 #[path = "../src/prelude.rs"]
 mod prelude;
@@ -17,7 +17,7 @@ mod refused_command;
 mod shown;
 mod support;
 
-use memory::{counted, ends_without, refused};
+use allocator::{counted, ends_without, refused};
 use refused_command::CuttingParser;
 use shown::Shown;
 use support::Pending;

@@ -1,6 +1,6 @@
 //! What the system says that a program takes.
 
-use super::memory::{holds_alone, status};
+use super::allocator::{holds_alone, status};
 use super::shown::Shown;
 use super::support::Pending;
 use vte::ansi::Processor;

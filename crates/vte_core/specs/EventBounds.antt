@@ -25,12 +25,12 @@ IsExecuted byte = is_control_character byte ≡ true
 
 -- A control sequence or a device control string: at least one group, and a final byte among 40..7E.
 pub record HasBoundedFields (groups : List (List ℕ)) (intermediates : List ℕ) (final : ℕ) : Type 0
-    where
-  pub groups_are : AreGroups groups
-  pub some_groups : 0 < length groups
-  pub few_intermediates : length intermediates ≤ max_intermediates
-  pub final_at_least : 0x40 ≤ final
-  pub final_below : final < 0x7f
+  where
+    pub groups_are : AreGroups groups
+    pub some_groups : 0 < length groups
+    pub few_intermediates : length intermediates ≤ max_intermediates
+    pub final_at_least : 0x40 ≤ final
+    pub final_below : final < 0x7f
 
 -- The limits of an event. The final byte of an escape sequence is among 30..7E.
 abbrev pub IsBounded : Option ℕ → Event → Type 0

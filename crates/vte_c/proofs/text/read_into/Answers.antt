@@ -59,9 +59,12 @@ returns-clause-strips c = λ before stream rest has_stripped.
     record {
       same_name = ap (λ (buffer : WrittenText). buffer.name) has_text.holds;
       used_is =
-          omega
-          (arith, ap (λ (buffer : WrittenText). buffer.used) has_text.holds, ap length text_is,
-          c.requires.is_empty.used);
+          omega (
+            arith,
+            ap (λ (buffer : WrittenText). buffer.used) has_text.holds,
+            ap length text_is,
+            c.requires.is_empty.used,
+          );
       strips = rw text_is
           (given-more text bytes rest count has_stripped
           (c.save.ensures (has_stripped.already_read ++ take count bytes) has_text.parsed)

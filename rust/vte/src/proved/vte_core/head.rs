@@ -8,7 +8,7 @@ use crate::proved::vte_core::params::Params;
 use crate::proved::vte_core::reader::Reader;
 
 /// How many intermediates of a sequence are kept, a marker among them.
-const MAX_INTERMEDIATES: usize = 2;
+pub(crate) const MAX_INTERMEDIATES: usize = 2;
 
 /// How far a head has been read.
 #[derive(Clone, Copy)]
@@ -146,10 +146,10 @@ impl CollectedHead {
     pub(crate) fn read_numbers(
         &mut self,
         reader: Reader,
-        reached: HeadProgress,
-        reads_separators: bool,
         input: &[u8],
         from: usize,
+        reached: HeadProgress,
+        reads_separators: bool,
     ) -> HeadEnd {
         // A local, because the field would be cut to 16 bits and stored at each digit.
         let mut number = u32::from(self.number);
@@ -188,9 +188,9 @@ impl CollectedHead {
     pub(crate) fn read_head(
         &mut self,
         reader: Reader,
-        reached: HeadProgress,
         input: &[u8],
         from: usize,
+        reached: HeadProgress,
     ) -> HeadEnd {
         let mut progress = reached;
         let mut position = from;

@@ -6,7 +6,7 @@ use core::fmt;
 use core::iter::FusedIterator;
 
 /// How many numbers of a sequence are kept.
-const MAX_NUMBERS: usize = 32;
+pub(crate) const MAX_NUMBERS: usize = 32;
 
 /// The numbers of a sequence, in groups that are never empty.
 #[derive(Clone)]

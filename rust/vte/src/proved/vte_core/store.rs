@@ -8,7 +8,7 @@ use crate::proved::vte_core::buffer::Buffer;
 use crate::proved::vte_core::reader::{CountedPerform, Granularity, Reader};
 
 /// How many pieces of a command are kept.
-const MAX_PIECES: usize = 16;
+pub(crate) const MAX_PIECES: usize = 16;
 
 /// The items of a command, as far as they are kept.
 #[derive(Clone)]

@@ -41,9 +41,9 @@ impl<B: Buffer> Machine<B> {
             return next + 1;
         }
         if first < 0xf0 {
-            self.complete_three::<P, G, MAY_STOP>(reader, performer, first, second, input, next)
+            self.complete_three::<P, G, MAY_STOP>(reader, performer, input, next, first, second)
         } else {
-            self.complete_four::<P, G, MAY_STOP>(reader, performer, first, second, input, from)
+            self.complete_four::<P, G, MAY_STOP>(reader, performer, input, from, first, second)
         }
     }
 
@@ -57,10 +57,10 @@ impl<B: Buffer> Machine<B> {
         &mut self,
         reader: Reader,
         performer: &mut P,
-        first: u8,
-        second: u8,
         input: &[u8],
         second_position: usize,
+        first: u8,
+        second: u8,
     ) -> usize {
         if !may_begin_three(first, second) {
             performer.print_char(reader, char::REPLACEMENT_CHARACTER);
@@ -91,10 +91,10 @@ impl<B: Buffer> Machine<B> {
         &mut self,
         reader: Reader,
         performer: &mut P,
-        first: u8,
-        second: u8,
         input: &[u8],
         from: usize,
+        first: u8,
+        second: u8,
     ) -> usize {
         let next = from + 1;
         if !may_begin_four(first, second) {
@@ -105,9 +105,9 @@ impl<B: Buffer> Machine<B> {
             return self.continue_near_end::<P, G, MAY_STOP>(
                 reader,
                 performer,
-                Unfinished::Two(first, second),
                 input,
                 next + 1,
+                Unfinished::Two(first, second),
             );
         }
         let third = reader.byte_at(input, next + 1);
@@ -138,11 +138,11 @@ impl<B: Buffer> Machine<B> {
         &mut self,
         reader: Reader,
         performer: &mut P,
-        begun: Unfinished,
         input: &[u8],
         from: usize,
+        begun: Unfinished,
     ) -> usize {
-        self.continue_character::<P, G, MAY_STOP>(reader, performer, begun, input, from)
+        self.continue_character::<P, G, MAY_STOP>(reader, performer, input, from, begun)
     }
 
     /// Reads the bytes that continue an unfinished character. A byte that breaks it is left unread,
@@ -156,9 +156,9 @@ impl<B: Buffer> Machine<B> {
         &mut self,
         reader: Reader,
         performer: &mut P,
-        begun: Unfinished,
         input: &[u8],
         from: usize,
+        begun: Unfinished,
     ) -> usize {
         let mut unfinished = begun;
         for position in from..input.len() {

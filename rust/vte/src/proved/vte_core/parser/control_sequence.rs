@@ -28,7 +28,7 @@ impl<B: Buffer> Machine<B> {
     ) -> usize {
         let head = self
             .collected
-            .read_numbers(reader, HeadProgress::Entry, false, input, from);
+            .read_numbers(reader, input, from, HeadProgress::Entry, false);
         if let Some(byte) = head.next_byte {
             if is_final(byte) {
                 return self.end_control_sequence(reader, performer, head, false, byte);
@@ -40,8 +40,8 @@ impl<B: Buffer> Machine<B> {
                     reader,
                     performer,
                     input,
-                    HeadProgress::Parameters,
                     head.position + 1,
+                    HeadProgress::Parameters,
                 );
             }
         }
@@ -50,8 +50,8 @@ impl<B: Buffer> Machine<B> {
             reader,
             performer,
             input,
-            head.progress,
             head.position,
+            head.progress,
         )
     }
 
@@ -62,10 +62,10 @@ impl<B: Buffer> Machine<B> {
         reader: Reader,
         performer: &mut P,
         input: &[u8],
-        reached: HeadProgress,
         from: usize,
+        reached: HeadProgress,
     ) -> usize {
-        self.read_numbers_and_rest::<P, G, MAY_STOP>(reader, performer, input, reached, from)
+        self.read_numbers_and_rest::<P, G, MAY_STOP>(reader, performer, input, from, reached)
     }
 
     /// Continues a control sequence, whose head was read as far as `reached`. There is a short path
@@ -81,16 +81,16 @@ impl<B: Buffer> Machine<B> {
         reader: Reader,
         performer: &mut P,
         input: &[u8],
-        reached: HeadProgress,
         from: usize,
+        reached: HeadProgress,
     ) -> usize {
         if !reached.may_have_parameters() || self.collected.joined {
             return self
-                .read_rest_of_head::<P, G, MAY_STOP>(reader, performer, input, reached, from);
+                .read_rest_of_head::<P, G, MAY_STOP>(reader, performer, input, from, reached);
         }
         let head = self
             .collected
-            .read_numbers(reader, reached, true, input, from);
+            .read_numbers(reader, input, from, reached, true);
         if let Some(byte) = head.next_byte {
             if is_final(byte) {
                 return self.end_control_sequence(reader, performer, head, false, byte);
@@ -104,8 +104,8 @@ impl<B: Buffer> Machine<B> {
             reader,
             performer,
             input,
-            head.progress,
             head.position,
+            head.progress,
         )
     }
 
@@ -120,10 +120,10 @@ impl<B: Buffer> Machine<B> {
         reader: Reader,
         performer: &mut P,
         input: &[u8],
-        reached: HeadProgress,
         from: usize,
+        reached: HeadProgress,
     ) -> usize {
-        let head = self.collected.read_head(reader, reached, input, from);
+        let head = self.collected.read_head(reader, input, from, reached);
         self.state = State::ControlSequence(head.progress);
         if let Some(byte) = head.next_byte {
             if is_final(byte) {

@@ -23,10 +23,10 @@ impl<B: Buffer> Machine<B> {
         reader: Reader,
         performer: &mut P,
         input: &[u8],
-        reached: HeadProgress,
         from: usize,
+        reached: HeadProgress,
     ) -> usize {
-        let head = self.collected.read_head(reader, reached, input, from);
+        let head = self.collected.read_head(reader, input, from, reached);
         self.state = State::DeviceControl(head.progress);
         if let Some(byte) = head.next_byte {
             if is_final(byte) {

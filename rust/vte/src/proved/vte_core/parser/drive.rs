@@ -59,7 +59,7 @@ impl<B: Buffer> Machine<B> {
                 if begun.is_empty() {
                     return 0;
                 }
-                self.continue_character::<P, G, MAY_STOP>(reader, performer, begun, input, 0)
+                self.continue_character::<P, G, MAY_STOP>(reader, performer, input, 0, begun)
             }
             _ => 0,
         }
@@ -93,9 +93,9 @@ impl<B: Buffer> Machine<B> {
                 self.read_intermediates::<P, G, MAY_STOP>(reader, performer, input, from)
             }
             State::ControlSequence(reached) => self
-                .read_numbers_and_rest::<P, G, MAY_STOP>(reader, performer, input, reached, from),
+                .read_numbers_and_rest::<P, G, MAY_STOP>(reader, performer, input, from, reached),
             State::DeviceControl(reached) => {
-                self.read_device_control::<P, G, MAY_STOP>(reader, performer, input, reached, from)
+                self.read_device_control::<P, G, MAY_STOP>(reader, performer, input, from, reached)
             }
             State::DeviceData => {
                 self.read_device_data::<P, G, MAY_STOP>(reader, performer, input, from)

@@ -24,7 +24,7 @@ impl<B: Buffer> Machine<B> {
             if begun.is_empty() {
                 return Ok(self.read_last_of_text(reader, performer, input));
             }
-            return Ok(self.read_continuing_byte(reader, performer, begun, input));
+            return Ok(self.read_continuing_byte(reader, performer, input, begun));
         }
         if let State::ControlSequence(reached) = self.state {
             return Ok(self.read_parameter_byte(reader, performer, input, reached));
@@ -74,8 +74,8 @@ impl<B: Buffer> Machine<B> {
         &mut self,
         reader: Reader,
         performer: &mut P,
-        begun: Unfinished,
         input: &[u8],
+        begun: Unfinished,
     ) -> usize {
         let byte = reader.byte_at(input, 0);
         match begun.extend(byte) {
@@ -125,7 +125,7 @@ impl<B: Buffer> Machine<B> {
                 return 1;
             }
         }
-        self.read_rest_of_head::<P, G, false>(reader, performer, input, reached, 0)
+        self.read_rest_of_head::<P, G, false>(reader, performer, input, 0, reached)
     }
 
     /// Reads a byte of the data of a device control string, or the byte that ends it.
@@ -160,10 +160,10 @@ impl<B: Buffer> Machine<B> {
                 self.read_intermediates::<P, G, false>(reader, performer, input, 0)
             }
             State::ControlSequence(reached) => {
-                self.read_rest_of_head::<P, G, false>(reader, performer, input, reached, 0)
+                self.read_rest_of_head::<P, G, false>(reader, performer, input, 0, reached)
             }
             State::DeviceControl(reached) => {
-                self.read_device_control::<P, G, false>(reader, performer, input, reached, 0)
+                self.read_device_control::<P, G, false>(reader, performer, input, 0, reached)
             }
             State::DeviceData => self.read_data_byte(reader, performer, input),
             State::SystemCommand => {

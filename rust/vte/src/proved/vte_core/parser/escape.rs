@@ -62,8 +62,8 @@ impl<B: Buffer> Machine<B> {
                     reader,
                     performer,
                     input,
-                    HeadProgress::Entry,
                     next,
+                    HeadProgress::Entry,
                 );
             }
             // Another ESC changes nothing: nothing was collected since the one before.

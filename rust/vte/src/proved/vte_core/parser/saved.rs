@@ -2,9 +2,10 @@
 //! A parser as plain data, for callers that can hold nothing else.
 
 use crate::adapter::array_vec::{ArrayVec, Element};
-use crate::proved::vte_core::head::HeadProgress;
-use crate::proved::vte_core::params::Params;
+use crate::proved::vte_core::head::{HeadProgress, MAX_INTERMEDIATES};
+use crate::proved::vte_core::params::{Params, MAX_NUMBERS};
 use crate::proved::vte_core::parser::{Parser, State, Unfinished, MAX_OSC_RAW};
+use crate::proved::vte_core::store::MAX_PIECES;
 
 /// A parser as plain data, laid out as a C struct. All zeros is a new parser, and any other bytes
 /// are some parser.
@@ -14,15 +15,15 @@ pub struct Saved {
     /// How many intermediates are collected of a sequence.
     intermediate_count: usize,
     /// These intermediates, at the front.
-    intermediates: [u8; 2],
+    intermediates: [u8; MAX_INTERMEDIATES],
     /// How many groups its parameters have.
     group_count: usize,
     /// The lengths of the groups.
-    lengths: [u8; 32],
+    lengths: [u8; MAX_NUMBERS],
     /// How many numbers all groups have together.
     number_count: usize,
     /// The numbers of all groups, one after another.
-    numbers: [u16; 32],
+    numbers: [u16; MAX_NUMBERS],
     /// The number that is being read.
     number: u16,
     /// Whether it follows a colon: 0 is false.
@@ -36,7 +37,7 @@ pub struct Saved {
     /// How many ends of pieces are kept of the command.
     end_count: usize,
     /// These ends, as positions in the bytes.
-    ends: [usize; 16],
+    ends: [usize; MAX_PIECES],
     /// Whether data bytes of the command were lost.
     lost: u8,
     /// The number of the state, and the bytes of an unfinished character.
@@ -114,18 +115,18 @@ impl Saved {
     pub fn new() -> Self {
         Saved {
             intermediate_count: 0,
-            intermediates: [0; 2],
+            intermediates: [0; MAX_INTERMEDIATES],
             group_count: 0,
-            lengths: [0; 32],
+            lengths: [0; MAX_NUMBERS],
             number_count: 0,
-            numbers: [0; 32],
+            numbers: [0; MAX_NUMBERS],
             number: 0,
             joined: 0,
             too_many_intermediates: 0,
             byte_count: 0,
             bytes: [0; MAX_OSC_RAW],
             end_count: 0,
-            ends: [0; 16],
+            ends: [0; MAX_PIECES],
             lost: 0,
             state: [0; 4],
         }

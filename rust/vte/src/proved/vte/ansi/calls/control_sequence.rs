@@ -40,9 +40,23 @@ pub(crate) fn perform_control_sequence<H: InputAs<G> + ?Sized, G>(
             }
         }
         ([b'?'], 'l') => change_modes(handler, params, ModeChange::ResetPrivate),
-        ([b'$'], 'p') => handler.report_mode(Mode::new(numbers.next_or(0))),
-        ([b'?', b'$'], 'p') => handler.report_private_mode(PrivateMode::new(numbers.next_or(0))),
-        ([b' '], 'q') => set_cursor_style(handler, numbers.next_or(0)),
+        ([b'?'], 'm') => {
+            if matches!(numbers.next(), Some([4])) {
+                handler.report_modify_other_keys();
+            }
+        }
+        ([b'?'], 'u') => handler.report_keyboard_mode(),
+        ([b'>'], 'm') => {
+            if numbers.next_or(1) == 4 {
+                set_other_keys(handler, numbers.next_or(0));
+            }
+        }
+        ([b'>'], 'u') => handler.push_keyboard_mode(read_keyboard_modes(numbers.next_or(0))),
+        ([b'='], 'u') => {
+            let modes = read_keyboard_modes(numbers.next_or(0));
+            handler.set_keyboard_mode(modes, read_keyboard_behavior(numbers.next_or(1)));
+        }
+        ([b'<'], 'u') => handler.pop_keyboard_modes(numbers.next_or(1)),
         ([b' '], 'k') => {
             let path = read_character_path(numbers.next_or(0));
             let update = read_scp_update_mode(numbers.next_or(0));
@@ -50,23 +64,9 @@ pub(crate) fn perform_control_sequence<H: InputAs<G> + ?Sized, G>(
                 handler.set_scp(path, update);
             }
         }
-        ([b'>'], 'm') => {
-            if numbers.next_or(1) == 4 {
-                set_other_keys(handler, numbers.next_or(0));
-            }
-        }
-        ([b'?'], 'm') => {
-            if matches!(numbers.next(), Some([4])) {
-                handler.report_modify_other_keys();
-            }
-        }
-        ([b'>'], 'u') => handler.push_keyboard_mode(read_keyboard_modes(numbers.next_or(0))),
-        ([b'<'], 'u') => handler.pop_keyboard_modes(numbers.next_or(1)),
-        ([b'='], 'u') => {
-            let modes = read_keyboard_modes(numbers.next_or(0));
-            handler.set_keyboard_mode(modes, read_keyboard_behavior(numbers.next_or(1)));
-        }
-        ([b'?'], 'u') => handler.report_keyboard_mode(),
+        ([b' '], 'q') => set_cursor_style(handler, numbers.next_or(0)),
+        ([b'$'], 'p') => handler.report_mode(Mode::new(numbers.next_or(0))),
+        ([b'?', b'$'], 'p') => handler.report_private_mode(PrivateMode::new(numbers.next_or(0))),
         _ => {}
     }
 }
@@ -84,10 +84,8 @@ fn perform_without_intermediates<H: InputAs<G> + ?Sized, G>(
         '@' => handler.insert_blank(usize::from(numbers.next_or(1))),
         'A' => handler.move_up(usize::from(numbers.next_or(1))),
         'B' | 'e' => handler.move_down(usize::from(numbers.next_or(1))),
-        'b' => repeat::<H, G>(handler, preceding_char, numbers.next_or(1)),
         'C' | 'a' => handler.move_forward(usize::from(numbers.next_or(1))),
         'D' => handler.move_backward(usize::from(numbers.next_or(1))),
-        'd' => handler.goto_line(i32::from(numbers.next_or(1)) - 1),
         'E' => handler.move_down_and_cr(usize::from(numbers.next_or(1))),
         'F' => handler.move_up_and_cr(usize::from(numbers.next_or(1))),
         'G' | '`' => handler.goto_col(usize::from(numbers.next_or(1)) - 1),
@@ -97,27 +95,29 @@ fn perform_without_intermediates<H: InputAs<G> + ?Sized, G>(
             handler.goto(line, column);
         }
         'I' => handler.move_forward_tabs(numbers.next_or(1)),
-        'Z' => handler.move_backward_tabs(numbers.next_or(1)),
-        'g' => clear_tabs(handler, numbers.next_or(0)),
         'J' => clear_screen(handler, numbers.next_or(0)),
         'K' => clear_line(handler, numbers.next_or(0)),
-        'X' => handler.erase_chars(usize::from(numbers.next_or(1))),
         'L' => handler.insert_blank_lines(usize::from(numbers.next_or(1))),
         'M' => handler.delete_lines(usize::from(numbers.next_or(1))),
         'P' => handler.delete_chars(usize::from(numbers.next_or(1))),
         'S' => handler.scroll_up(usize::from(numbers.next_or(1))),
         'T' => handler.scroll_down(usize::from(numbers.next_or(1))),
+        'X' => handler.erase_chars(usize::from(numbers.next_or(1))),
+        'Z' => handler.move_backward_tabs(numbers.next_or(1)),
+        'b' => repeat::<H, G>(handler, preceding_char, numbers.next_or(1)),
+        'd' => handler.goto_line(i32::from(numbers.next_or(1)) - 1),
+        'g' => clear_tabs(handler, numbers.next_or(0)),
+        'h' => change_modes(handler, params, ModeChange::Set),
+        'l' => change_modes(handler, params, ModeChange::Reset),
+        'm' => perform_attributes(handler, params),
+        'n' => handler.device_status(usize::from(numbers.next_or(0))),
         'r' => {
             let top = usize::from(numbers.next_or(1));
             handler.set_scrolling_region(top, read_scrolling_bottom(numbers.next_or(0)));
         }
         's' => handler.save_cursor_position(),
-        'u' => handler.restore_cursor_position(),
-        'm' => perform_attributes(handler, params),
-        'h' => change_modes(handler, params, ModeChange::Set),
-        'l' => change_modes(handler, params, ModeChange::Reset),
-        'n' => handler.device_status(usize::from(numbers.next_or(0))),
         't' => operate_window(handler, numbers.next_or(1)),
+        'u' => handler.restore_cursor_position(),
         _ => {}
     }
 }

@@ -20,74 +20,84 @@ use Rattle.vte_types.specs.declared.screen.ScpUpdateMode.{ScpUpdateMode}
 use Rattle.vte_types.specs.declared.screen.TabulationClearMode.{TabulationClearMode}
 
 pub data Call : Type 0 where
-  Backspace : Call
-  CarriageReturn : Call
-  Linefeed : Call
+  -- ---- Characters and format effectors
+  Input : ℕ → Call
   Bell : Call
-  Substitute : Call
+  Backspace : Call
+  PutTab : ℕ → Call
+  Linefeed : Call
+  CarriageReturn : Call
   Newline : Call
-  SetHorizontalTabstop : Call
-  SaveCursorPosition : Call
-  RestoreCursorPosition : Call
-  ResetState : Call
-  ReverseIndex : Call
-  SetKeypadApplicationMode : Call
-  UnsetKeypadApplicationMode : Call
-  Decaln : Call
-  PushTitle : Call
-  PopTitle : Call
-  TextAreaSizePixels : Call
-  TextAreaSizeChars : Call
-  ReportKeyboardMode : Call
-  ReportModifyOtherKeys : Call
+  Substitute : Call
+  -- ---- Cursor position
+  Goto : ℤ → ℕ → Call
+  GotoLine : ℤ → Call
   GotoCol : ℕ → Call
-  InsertBlank : ℕ → Call
   MoveUp : ℕ → Call
   MoveDown : ℕ → Call
-  DeviceStatus : ℕ → Call
   MoveForward : ℕ → Call
   MoveBackward : ℕ → Call
   MoveDownAndCr : ℕ → Call
   MoveUpAndCr : ℕ → Call
+  SaveCursorPosition : Call
+  RestoreCursorPosition : Call
+  -- ---- Scrolling
+  ReverseIndex : Call
   ScrollUp : ℕ → Call
   ScrollDown : ℕ → Call
+  SetScrollingRegion : ℕ → Option ℕ → Call
+  -- ---- Tab stops
+  SetHorizontalTabstop : Call
+  ClearTabs : TabulationClearMode → Call
+  SetTabs : ℕ → Call
+  MoveForwardTabs : ℕ → Call
+  MoveBackwardTabs : ℕ → Call
+  -- ---- Editing
+  InsertBlank : ℕ → Call
   InsertBlankLines : ℕ → Call
+  DeleteChars : ℕ → Call
   DeleteLines : ℕ → Call
   EraseChars : ℕ → Call
-  DeleteChars : ℕ → Call
-  ResetColor : ℕ → Call
-  PutTab : ℕ → Call
-  MoveBackwardTabs : ℕ → Call
-  MoveForwardTabs : ℕ → Call
-  SetTabs : ℕ → Call
-  PopKeyboardModes : ℕ → Call
-  SetTitle : Option (List ℕ) → Call
-  SetCursorStyle : Option CursorStyle → Call
-  SetCursorShape : CursorShape → Call
-  Input : ℕ → Call
-  Goto : ℤ → ℕ → Call
-  GotoLine : ℤ → Call
-  IdentifyTerminal : Option ℕ → Call
   ClearLine : LineClearMode → Call
   ClearScreen : ClearMode → Call
-  ClearTabs : TabulationClearMode → Call
+  Decaln : Call
+  -- ---- Appearance
   TerminalAttribute : Attr → Call
+  SetColor : ℕ → Rgb → Call
+  ResetColor : ℕ → Call
+  DynamicColorSequence : List ℕ → ℕ → List ℕ → Call
+  SetHyperlink : Option Link → Call
+  SetCursorStyle : Option CursorStyle → Call
+  SetCursorShape : CursorShape → Call
+  SetMouseCursorIcon : CursorIcon → Call
+  -- ---- Character sets and the direction of text
+  SetActiveCharset : CharsetIndex → Call
+  ConfigureCharset : CharsetIndex → StandardCharset → Call
+  SetScp : ScpCharPath → ScpUpdateMode → Call
+  -- ---- Modes
   SetMode : Mode → Call
   UnsetMode : Mode → Call
   ReportMode : Mode → Call
   SetPrivateMode : PrivateMode → Call
   UnsetPrivateMode : PrivateMode → Call
   ReportPrivateMode : PrivateMode → Call
-  SetScrollingRegion : ℕ → Option ℕ → Call
-  SetActiveCharset : CharsetIndex → Call
-  ConfigureCharset : CharsetIndex → StandardCharset → Call
-  SetColor : ℕ → Rgb → Call
-  DynamicColorSequence : List ℕ → ℕ → List ℕ → Call
+  ResetState : Call
+  -- ---- Keyboard
+  SetKeypadApplicationMode : Call
+  UnsetKeypadApplicationMode : Call
+  PushKeyboardMode : KeyboardModes → Call
+  PopKeyboardModes : ℕ → Call
+  SetKeyboardMode : KeyboardModes → KeyboardModesApplyBehavior → Call
+  ReportKeyboardMode : Call
+  SetModifyOtherKeys : ModifyOtherKeys → Call
+  ReportModifyOtherKeys : Call
+  -- ---- Titles, clipboards and reports
+  SetTitle : Option (List ℕ) → Call
+  PushTitle : Call
+  PopTitle : Call
   ClipboardStore : ℕ → List ℕ → Call
   ClipboardLoad : ℕ → List ℕ → Call
-  SetHyperlink : Option Link → Call
-  SetMouseCursorIcon : CursorIcon → Call
-  PushKeyboardMode : KeyboardModes → Call
-  SetKeyboardMode : KeyboardModes → KeyboardModesApplyBehavior → Call
-  SetModifyOtherKeys : ModifyOtherKeys → Call
-  SetScp : ScpCharPath → ScpUpdateMode → Call
+  DeviceStatus : ℕ → Call
+  IdentifyTerminal : Option ℕ → Call
+  TextAreaSizePixels : Call
+  TextAreaSizeChars : Call

@@ -19,56 +19,37 @@ use vte_types::{
 #[derive(Drop)]
 // cargo: #[derive(Debug)]
 pub enum HandlerCall<'a> {
-    /// [`Handler::backspace`]
-    Backspace,
-    /// [`Handler::carriage_return`]
-    CarriageReturn,
-    /// [`Handler::linefeed`]
-    Linefeed,
+    // ---- Characters and format effectors
+
+    /// [`Handler::input`]
+    Input(char),
     /// [`Handler::bell`]
     Bell,
-    /// [`Handler::substitute`]
-    Substitute,
+    /// [`Handler::backspace`]
+    Backspace,
+    /// [`Handler::put_tab`]
+    PutTab(u16),
+    /// [`Handler::linefeed`]
+    Linefeed,
+    /// [`Handler::carriage_return`]
+    CarriageReturn,
     /// [`Handler::newline`]
     Newline,
-    /// [`Handler::set_horizontal_tabstop`]
-    SetHorizontalTabstop,
-    /// [`Handler::save_cursor_position`]
-    SaveCursorPosition,
-    /// [`Handler::restore_cursor_position`]
-    RestoreCursorPosition,
-    /// [`Handler::reset_state`]
-    ResetState,
-    /// [`Handler::reverse_index`]
-    ReverseIndex,
-    /// [`Handler::set_keypad_application_mode`]
-    SetKeypadApplicationMode,
-    /// [`Handler::unset_keypad_application_mode`]
-    UnsetKeypadApplicationMode,
-    /// [`Handler::decaln`]
-    Decaln,
-    /// [`Handler::push_title`]
-    PushTitle,
-    /// [`Handler::pop_title`]
-    PopTitle,
-    /// [`Handler::text_area_size_pixels`]
-    TextAreaSizePixels,
-    /// [`Handler::text_area_size_chars`]
-    TextAreaSizeChars,
-    /// [`Handler::report_keyboard_mode`]
-    ReportKeyboardMode,
-    /// [`Handler::report_modify_other_keys`]
-    ReportModifyOtherKeys,
+    /// [`Handler::substitute`]
+    Substitute,
+
+    // ---- Cursor position
+
+    /// [`Handler::goto`]
+    Goto(i32, usize),
+    /// [`Handler::goto_line`]
+    GotoLine(i32),
     /// [`Handler::goto_col`]
     GotoCol(usize),
-    /// [`Handler::insert_blank`]
-    InsertBlank(usize),
     /// [`Handler::move_up`]
     MoveUp(usize),
     /// [`Handler::move_down`]
     MoveDown(usize),
-    /// [`Handler::device_status`]
-    DeviceStatus(usize),
     /// [`Handler::move_forward`]
     MoveForward(usize),
     /// [`Handler::move_backward`]
@@ -77,52 +58,84 @@ pub enum HandlerCall<'a> {
     MoveDownAndCr(usize),
     /// [`Handler::move_up_and_cr`]
     MoveUpAndCr(usize),
+    /// [`Handler::save_cursor_position`]
+    SaveCursorPosition,
+    /// [`Handler::restore_cursor_position`]
+    RestoreCursorPosition,
+
+    // ---- Scrolling
+
+    /// [`Handler::reverse_index`]
+    ReverseIndex,
     /// [`Handler::scroll_up`]
     ScrollUp(usize),
     /// [`Handler::scroll_down`]
     ScrollDown(usize),
+    /// [`Handler::set_scrolling_region`]
+    SetScrollingRegion(usize, Option<usize>),
+
+    // ---- Tab stops
+
+    /// [`Handler::set_horizontal_tabstop`]
+    SetHorizontalTabstop,
+    /// [`Handler::clear_tabs`]
+    ClearTabs(TabulationClearMode),
+    /// [`Handler::set_tabs`]
+    SetTabs(u16),
+    /// [`Handler::move_forward_tabs`]
+    MoveForwardTabs(u16),
+    /// [`Handler::move_backward_tabs`]
+    MoveBackwardTabs(u16),
+
+    // ---- Editing
+
+    /// [`Handler::insert_blank`]
+    InsertBlank(usize),
     /// [`Handler::insert_blank_lines`]
     InsertBlankLines(usize),
+    /// [`Handler::delete_chars`]
+    DeleteChars(usize),
     /// [`Handler::delete_lines`]
     DeleteLines(usize),
     /// [`Handler::erase_chars`]
     EraseChars(usize),
-    /// [`Handler::delete_chars`]
-    DeleteChars(usize),
-    /// [`Handler::reset_color`]
-    ResetColor(usize),
-    /// [`Handler::put_tab`]
-    PutTab(u16),
-    /// [`Handler::move_backward_tabs`]
-    MoveBackwardTabs(u16),
-    /// [`Handler::move_forward_tabs`]
-    MoveForwardTabs(u16),
-    /// [`Handler::set_tabs`]
-    SetTabs(u16),
-    /// [`Handler::pop_keyboard_modes`]
-    PopKeyboardModes(u16),
-    /// [`Handler::set_title`]
-    SetTitle(Option<&'a str>),
-    /// [`Handler::set_cursor_style`]
-    SetCursorStyle(Option<CursorStyle>),
-    /// [`Handler::set_cursor_shape`]
-    SetCursorShape(CursorShape),
-    /// [`Handler::input`]
-    Input(char),
-    /// [`Handler::goto`]
-    Goto(i32, usize),
-    /// [`Handler::goto_line`]
-    GotoLine(i32),
-    /// [`Handler::identify_terminal`]
-    IdentifyTerminal(Option<char>),
     /// [`Handler::clear_line`]
     ClearLine(LineClearMode),
     /// [`Handler::clear_screen`]
     ClearScreen(ClearMode),
-    /// [`Handler::clear_tabs`]
-    ClearTabs(TabulationClearMode),
+    /// [`Handler::decaln`]
+    Decaln,
+
+    // ---- Appearance
+
     /// [`Handler::terminal_attribute`]
     TerminalAttribute(Attr),
+    /// [`Handler::set_color`]
+    SetColor(usize, Rgb),
+    /// [`Handler::reset_color`]
+    ResetColor(usize),
+    /// [`Handler::dynamic_color_sequence`]
+    DynamicColorSequence(&'a str, usize, &'a str),
+    /// [`Handler::set_hyperlink`]
+    SetHyperlink(Option<Hyperlink<'a>>),
+    /// [`Handler::set_cursor_style`]
+    SetCursorStyle(Option<CursorStyle>),
+    /// [`Handler::set_cursor_shape`]
+    SetCursorShape(CursorShape),
+    /// [`Handler::set_mouse_cursor_icon`]
+    SetMouseCursorIcon(CursorIcon),
+
+    // ---- Character sets and the direction of text
+
+    /// [`Handler::set_active_charset`]
+    SetActiveCharset(CharsetIndex),
+    /// [`Handler::configure_charset`]
+    ConfigureCharset(CharsetIndex, StandardCharset),
+    /// [`Handler::set_scp`]
+    SetScp(ScpCharPath, ScpUpdateMode),
+
+    // ---- Modes
+
     /// [`Handler::set_mode`]
     SetMode(Mode),
     /// [`Handler::unset_mode`]
@@ -135,32 +148,48 @@ pub enum HandlerCall<'a> {
     UnsetPrivateMode(PrivateMode),
     /// [`Handler::report_private_mode`]
     ReportPrivateMode(PrivateMode),
-    /// [`Handler::set_scrolling_region`]
-    SetScrollingRegion(usize, Option<usize>),
-    /// [`Handler::set_active_charset`]
-    SetActiveCharset(CharsetIndex),
-    /// [`Handler::configure_charset`]
-    ConfigureCharset(CharsetIndex, StandardCharset),
-    /// [`Handler::set_color`]
-    SetColor(usize, Rgb),
-    /// [`Handler::dynamic_color_sequence`]
-    DynamicColorSequence(&'a str, usize, &'a str),
+    /// [`Handler::reset_state`]
+    ResetState,
+
+    // ---- Keyboard
+
+    /// [`Handler::set_keypad_application_mode`]
+    SetKeypadApplicationMode,
+    /// [`Handler::unset_keypad_application_mode`]
+    UnsetKeypadApplicationMode,
+    /// [`Handler::push_keyboard_mode`]
+    PushKeyboardMode(KeyboardModes),
+    /// [`Handler::pop_keyboard_modes`]
+    PopKeyboardModes(u16),
+    /// [`Handler::set_keyboard_mode`]
+    SetKeyboardMode(KeyboardModes, KeyboardModesApplyBehavior),
+    /// [`Handler::report_keyboard_mode`]
+    ReportKeyboardMode,
+    /// [`Handler::set_modify_other_keys`]
+    SetModifyOtherKeys(ModifyOtherKeys),
+    /// [`Handler::report_modify_other_keys`]
+    ReportModifyOtherKeys,
+
+    // ---- Titles, clipboards and reports
+
+    /// [`Handler::set_title`]
+    SetTitle(Option<&'a str>),
+    /// [`Handler::push_title`]
+    PushTitle,
+    /// [`Handler::pop_title`]
+    PopTitle,
     /// [`Handler::clipboard_store`]
     ClipboardStore(u8, &'a [u8]),
     /// [`Handler::clipboard_load`]
     ClipboardLoad(u8, &'a str),
-    /// [`Handler::set_hyperlink`]
-    SetHyperlink(Option<Hyperlink<'a>>),
-    /// [`Handler::set_mouse_cursor_icon`]
-    SetMouseCursorIcon(CursorIcon),
-    /// [`Handler::push_keyboard_mode`]
-    PushKeyboardMode(KeyboardModes),
-    /// [`Handler::set_keyboard_mode`]
-    SetKeyboardMode(KeyboardModes, KeyboardModesApplyBehavior),
-    /// [`Handler::set_modify_other_keys`]
-    SetModifyOtherKeys(ModifyOtherKeys),
-    /// [`Handler::set_scp`]
-    SetScp(ScpCharPath, ScpUpdateMode),
+    /// [`Handler::device_status`]
+    DeviceStatus(usize),
+    /// [`Handler::identify_terminal`]
+    IdentifyTerminal(Option<char>),
+    /// [`Handler::text_area_size_pixels`]
+    TextAreaSizePixels,
+    /// [`Handler::text_area_size_chars`]
+    TextAreaSizeChars,
 }
 
 /// Takes the calls of a handler as values.
@@ -221,13 +250,23 @@ impl<T: TakeCall + Drop> Handler for ByCall<T> {
 
     ghost step = { T.step };
 
+    // ---- Characters and format effectors
+
+    #[inline]
+    fn input(&mut self, c: char) {
+        self.0.take(HandlerCall::Input(c));
+    }
+
+    fn bell(&mut self) {
+        self.0.take(HandlerCall::Bell);
+    }
+
     fn backspace(&mut self) {
         self.0.take(HandlerCall::Backspace);
     }
 
-    #[inline]
-    fn carriage_return(&mut self) {
-        self.0.take(HandlerCall::CarriageReturn);
+    fn put_tab(&mut self, count: u16) {
+        self.0.take(HandlerCall::PutTab(count));
     }
 
     #[inline]
@@ -235,80 +274,32 @@ impl<T: TakeCall + Drop> Handler for ByCall<T> {
         self.0.take(HandlerCall::Linefeed);
     }
 
-    fn bell(&mut self) {
-        self.0.take(HandlerCall::Bell);
-    }
-
-    fn substitute(&mut self) {
-        self.0.take(HandlerCall::Substitute);
+    #[inline]
+    fn carriage_return(&mut self) {
+        self.0.take(HandlerCall::CarriageReturn);
     }
 
     fn newline(&mut self) {
         self.0.take(HandlerCall::Newline);
     }
 
-    fn set_horizontal_tabstop(&mut self) {
-        self.0.take(HandlerCall::SetHorizontalTabstop);
+    fn substitute(&mut self) {
+        self.0.take(HandlerCall::Substitute);
     }
 
-    fn save_cursor_position(&mut self) {
-        self.0.take(HandlerCall::SaveCursorPosition);
+    // ---- Cursor position
+
+    #[inline]
+    fn goto(&mut self, line: i32, column: usize) {
+        self.0.take(HandlerCall::Goto(line, column));
     }
 
-    fn restore_cursor_position(&mut self) {
-        self.0.take(HandlerCall::RestoreCursorPosition);
-    }
-
-    fn reset_state(&mut self) {
-        self.0.take(HandlerCall::ResetState);
-    }
-
-    fn reverse_index(&mut self) {
-        self.0.take(HandlerCall::ReverseIndex);
-    }
-
-    fn set_keypad_application_mode(&mut self) {
-        self.0.take(HandlerCall::SetKeypadApplicationMode);
-    }
-
-    fn unset_keypad_application_mode(&mut self) {
-        self.0.take(HandlerCall::UnsetKeypadApplicationMode);
-    }
-
-    fn decaln(&mut self) {
-        self.0.take(HandlerCall::Decaln);
-    }
-
-    fn push_title(&mut self) {
-        self.0.take(HandlerCall::PushTitle);
-    }
-
-    fn pop_title(&mut self) {
-        self.0.take(HandlerCall::PopTitle);
-    }
-
-    fn text_area_size_pixels(&mut self) {
-        self.0.take(HandlerCall::TextAreaSizePixels);
-    }
-
-    fn text_area_size_chars(&mut self) {
-        self.0.take(HandlerCall::TextAreaSizeChars);
-    }
-
-    fn report_keyboard_mode(&mut self) {
-        self.0.take(HandlerCall::ReportKeyboardMode);
-    }
-
-    fn report_modify_other_keys(&mut self) {
-        self.0.take(HandlerCall::ReportModifyOtherKeys);
+    fn goto_line(&mut self, line: i32) {
+        self.0.take(HandlerCall::GotoLine(line));
     }
 
     fn goto_col(&mut self, column: usize) {
         self.0.take(HandlerCall::GotoCol(column));
-    }
-
-    fn insert_blank(&mut self, count: usize) {
-        self.0.take(HandlerCall::InsertBlank(count));
     }
 
     fn move_up(&mut self, count: usize) {
@@ -317,10 +308,6 @@ impl<T: TakeCall + Drop> Handler for ByCall<T> {
 
     fn move_down(&mut self, count: usize) {
         self.0.take(HandlerCall::MoveDown(count));
-    }
-
-    fn device_status(&mut self, kind: usize) {
-        self.0.take(HandlerCall::DeviceStatus(kind));
     }
 
     fn move_forward(&mut self, count: usize) {
@@ -339,6 +326,20 @@ impl<T: TakeCall + Drop> Handler for ByCall<T> {
         self.0.take(HandlerCall::MoveUpAndCr(count));
     }
 
+    fn save_cursor_position(&mut self) {
+        self.0.take(HandlerCall::SaveCursorPosition);
+    }
+
+    fn restore_cursor_position(&mut self) {
+        self.0.take(HandlerCall::RestoreCursorPosition);
+    }
+
+    // ---- Scrolling
+
+    fn reverse_index(&mut self) {
+        self.0.take(HandlerCall::ReverseIndex);
+    }
+
     fn scroll_up(&mut self, count: usize) {
         self.0.take(HandlerCall::ScrollUp(count));
     }
@@ -347,8 +348,44 @@ impl<T: TakeCall + Drop> Handler for ByCall<T> {
         self.0.take(HandlerCall::ScrollDown(count));
     }
 
+    fn set_scrolling_region(&mut self, top: usize, bottom: Option<usize>) {
+        self.0.take(HandlerCall::SetScrollingRegion(top, bottom));
+    }
+
+    // ---- Tab stops
+
+    fn set_horizontal_tabstop(&mut self) {
+        self.0.take(HandlerCall::SetHorizontalTabstop);
+    }
+
+    fn clear_tabs(&mut self, which: TabulationClearMode) {
+        self.0.take(HandlerCall::ClearTabs(which));
+    }
+
+    fn set_tabs(&mut self, interval: u16) {
+        self.0.take(HandlerCall::SetTabs(interval));
+    }
+
+    fn move_forward_tabs(&mut self, count: u16) {
+        self.0.take(HandlerCall::MoveForwardTabs(count));
+    }
+
+    fn move_backward_tabs(&mut self, count: u16) {
+        self.0.take(HandlerCall::MoveBackwardTabs(count));
+    }
+
+    // ---- Editing
+
+    fn insert_blank(&mut self, count: usize) {
+        self.0.take(HandlerCall::InsertBlank(count));
+    }
+
     fn insert_blank_lines(&mut self, count: usize) {
         self.0.take(HandlerCall::InsertBlankLines(count));
+    }
+
+    fn delete_chars(&mut self, count: usize) {
+        self.0.take(HandlerCall::DeleteChars(count));
     }
 
     fn delete_lines(&mut self, count: usize) {
@@ -359,36 +396,40 @@ impl<T: TakeCall + Drop> Handler for ByCall<T> {
         self.0.take(HandlerCall::EraseChars(count));
     }
 
-    fn delete_chars(&mut self, count: usize) {
-        self.0.take(HandlerCall::DeleteChars(count));
+    fn clear_line(&mut self, part: LineClearMode) {
+        self.0.take(HandlerCall::ClearLine(part));
+    }
+
+    fn clear_screen(&mut self, part: ClearMode) {
+        self.0.take(HandlerCall::ClearScreen(part));
+    }
+
+    fn decaln(&mut self) {
+        self.0.take(HandlerCall::Decaln);
+    }
+
+    // ---- Appearance
+
+    // cargo instead: #[inline]
+    #[inline(always)]
+    fn terminal_attribute(&mut self, attribute: Attr) {
+        self.0.take(HandlerCall::TerminalAttribute(attribute));
+    }
+
+    fn set_color(&mut self, index: usize, color: Rgb) {
+        self.0.take(HandlerCall::SetColor(index, color));
     }
 
     fn reset_color(&mut self, index: usize) {
         self.0.take(HandlerCall::ResetColor(index));
     }
 
-    fn put_tab(&mut self, count: u16) {
-        self.0.take(HandlerCall::PutTab(count));
+    fn dynamic_color_sequence(&mut self, prefix: &str, index: usize, terminator: &str) {
+        self.0.take(HandlerCall::DynamicColorSequence(prefix, index, terminator));
     }
 
-    fn move_backward_tabs(&mut self, count: u16) {
-        self.0.take(HandlerCall::MoveBackwardTabs(count));
-    }
-
-    fn move_forward_tabs(&mut self, count: u16) {
-        self.0.take(HandlerCall::MoveForwardTabs(count));
-    }
-
-    fn set_tabs(&mut self, interval: u16) {
-        self.0.take(HandlerCall::SetTabs(interval));
-    }
-
-    fn pop_keyboard_modes(&mut self, count: u16) {
-        self.0.take(HandlerCall::PopKeyboardModes(count));
-    }
-
-    fn set_title(&mut self, title: Option<&str>) {
-        self.0.take(HandlerCall::SetTitle(title));
+    fn set_hyperlink(&mut self, link: Option<Hyperlink<'_>>) {
+        self.0.take(HandlerCall::SetHyperlink(link));
     }
 
     fn set_cursor_style(&mut self, style: Option<CursorStyle>) {
@@ -399,41 +440,25 @@ impl<T: TakeCall + Drop> Handler for ByCall<T> {
         self.0.take(HandlerCall::SetCursorShape(shape));
     }
 
-    #[inline]
-    fn input(&mut self, c: char) {
-        self.0.take(HandlerCall::Input(c));
+    fn set_mouse_cursor_icon(&mut self, icon: CursorIcon) {
+        self.0.take(HandlerCall::SetMouseCursorIcon(icon));
     }
 
-    #[inline]
-    fn goto(&mut self, line: i32, column: usize) {
-        self.0.take(HandlerCall::Goto(line, column));
+    // ---- Character sets and the direction of text
+
+    fn set_active_charset(&mut self, index: CharsetIndex) {
+        self.0.take(HandlerCall::SetActiveCharset(index));
     }
 
-    fn goto_line(&mut self, line: i32) {
-        self.0.take(HandlerCall::GotoLine(line));
+    fn configure_charset(&mut self, index: CharsetIndex, charset: StandardCharset) {
+        self.0.take(HandlerCall::ConfigureCharset(index, charset));
     }
 
-    fn identify_terminal(&mut self, intermediate: Option<char>) {
-        self.0.take(HandlerCall::IdentifyTerminal(intermediate));
+    fn set_scp(&mut self, path: ScpCharPath, update: ScpUpdateMode) {
+        self.0.take(HandlerCall::SetScp(path, update));
     }
 
-    fn clear_line(&mut self, part: LineClearMode) {
-        self.0.take(HandlerCall::ClearLine(part));
-    }
-
-    fn clear_screen(&mut self, part: ClearMode) {
-        self.0.take(HandlerCall::ClearScreen(part));
-    }
-
-    fn clear_tabs(&mut self, which: TabulationClearMode) {
-        self.0.take(HandlerCall::ClearTabs(which));
-    }
-
-    // cargo instead: #[inline]
-    #[inline(always)]
-    fn terminal_attribute(&mut self, attribute: Attr) {
-        self.0.take(HandlerCall::TerminalAttribute(attribute));
-    }
+    // ---- Modes
 
     fn set_mode(&mut self, mode: Mode) {
         self.0.take(HandlerCall::SetMode(mode));
@@ -459,24 +484,56 @@ impl<T: TakeCall + Drop> Handler for ByCall<T> {
         self.0.take(HandlerCall::ReportPrivateMode(mode));
     }
 
-    fn set_scrolling_region(&mut self, top: usize, bottom: Option<usize>) {
-        self.0.take(HandlerCall::SetScrollingRegion(top, bottom));
+    fn reset_state(&mut self) {
+        self.0.take(HandlerCall::ResetState);
     }
 
-    fn set_active_charset(&mut self, index: CharsetIndex) {
-        self.0.take(HandlerCall::SetActiveCharset(index));
+    // ---- Keyboard
+
+    fn set_keypad_application_mode(&mut self) {
+        self.0.take(HandlerCall::SetKeypadApplicationMode);
     }
 
-    fn configure_charset(&mut self, index: CharsetIndex, charset: StandardCharset) {
-        self.0.take(HandlerCall::ConfigureCharset(index, charset));
+    fn unset_keypad_application_mode(&mut self) {
+        self.0.take(HandlerCall::UnsetKeypadApplicationMode);
     }
 
-    fn set_color(&mut self, index: usize, color: Rgb) {
-        self.0.take(HandlerCall::SetColor(index, color));
+    fn push_keyboard_mode(&mut self, mode: KeyboardModes) {
+        self.0.take(HandlerCall::PushKeyboardMode(mode));
     }
 
-    fn dynamic_color_sequence(&mut self, prefix: &str, index: usize, terminator: &str) {
-        self.0.take(HandlerCall::DynamicColorSequence(prefix, index, terminator));
+    fn pop_keyboard_modes(&mut self, count: u16) {
+        self.0.take(HandlerCall::PopKeyboardModes(count));
+    }
+
+    fn set_keyboard_mode(&mut self, mode: KeyboardModes, behavior: KeyboardModesApplyBehavior) {
+        self.0.take(HandlerCall::SetKeyboardMode(mode, behavior));
+    }
+
+    fn report_keyboard_mode(&mut self) {
+        self.0.take(HandlerCall::ReportKeyboardMode);
+    }
+
+    fn set_modify_other_keys(&mut self, keys: ModifyOtherKeys) {
+        self.0.take(HandlerCall::SetModifyOtherKeys(keys));
+    }
+
+    fn report_modify_other_keys(&mut self) {
+        self.0.take(HandlerCall::ReportModifyOtherKeys);
+    }
+
+    // ---- Titles, clipboards and reports
+
+    fn set_title(&mut self, title: Option<&str>) {
+        self.0.take(HandlerCall::SetTitle(title));
+    }
+
+    fn push_title(&mut self) {
+        self.0.take(HandlerCall::PushTitle);
+    }
+
+    fn pop_title(&mut self) {
+        self.0.take(HandlerCall::PopTitle);
     }
 
     fn clipboard_store(&mut self, clipboard: u8, bytes: &[u8]) {
@@ -488,28 +545,20 @@ impl<T: TakeCall + Drop> Handler for ByCall<T> {
             .take(HandlerCall::ClipboardLoad(clipboard, terminator));
     }
 
-    fn set_hyperlink(&mut self, link: Option<Hyperlink<'_>>) {
-        self.0.take(HandlerCall::SetHyperlink(link));
+    fn device_status(&mut self, kind: usize) {
+        self.0.take(HandlerCall::DeviceStatus(kind));
     }
 
-    fn set_mouse_cursor_icon(&mut self, icon: CursorIcon) {
-        self.0.take(HandlerCall::SetMouseCursorIcon(icon));
+    fn identify_terminal(&mut self, intermediate: Option<char>) {
+        self.0.take(HandlerCall::IdentifyTerminal(intermediate));
     }
 
-    fn push_keyboard_mode(&mut self, mode: KeyboardModes) {
-        self.0.take(HandlerCall::PushKeyboardMode(mode));
+    fn text_area_size_pixels(&mut self) {
+        self.0.take(HandlerCall::TextAreaSizePixels);
     }
 
-    fn set_keyboard_mode(&mut self, mode: KeyboardModes, behavior: KeyboardModesApplyBehavior) {
-        self.0.take(HandlerCall::SetKeyboardMode(mode, behavior));
-    }
-
-    fn set_modify_other_keys(&mut self, keys: ModifyOtherKeys) {
-        self.0.take(HandlerCall::SetModifyOtherKeys(keys));
-    }
-
-    fn set_scp(&mut self, path: ScpCharPath, update: ScpUpdateMode) {
-        self.0.take(HandlerCall::SetScp(path, update));
+    fn text_area_size_chars(&mut self) {
+        self.0.take(HandlerCall::TextAreaSizeChars);
     }
 }
 

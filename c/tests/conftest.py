@@ -1,3 +1,5 @@
+"""The builds of the C library, and options, for its tests and for those of what installs it:
+tools/install, tools/uninstall and tools/build_c_library."""
 from functools import cache
 
 import pytest

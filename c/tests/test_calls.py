@@ -152,10 +152,11 @@ def write_functions():
     for name, text in FUNCTIONS:
         parameters = [*PARAMETER.finditer(text)]
         words = [f"TEXT({part['text']})" if part["text"] else part[0] for part in parameters]
-        writes = "".join(f"write_{part.lastgroup}({part[part.lastgroup]}), " for part in parameters)
+        writes = "".join(f"write_{part.lastgroup}({part[part.lastgroup]}); " for part in parameters)
         head = f"SOME({name}, {', '.join(words)})" if words else f"NONE({name})"
-        tries = "must_be_busy(), " * (name == "bell")
-        written.append(f'{head} {{ {tries}BEGIN("{name}"), {writes}puts(""); }}\n')
+        # one call is enough to see that the processor is busy
+        check = "must_be_busy(); " if name == "bell" else ""
+        written.append(f'{head} {{ {check}BEGIN("{name}"); {writes}puts(""); }}\n')
     listed = "".join(f" EACH({name})" for name, _ in FUNCTIONS)
     return f"{''.join(written)}#define CALLS(EACH){listed}\n"
 

@@ -8,6 +8,9 @@
 //! - `utf8`, `copy`: a part of the work of `strip_runs`, to check text or to copy it
 //!
 //! Over rust/vte there are `screen_runs` and so on, too, which get text in runs.
+//!
+//! This folder has no Cargo.toml: `tools/lib/building/builder.py` writes one for each build, with
+//! either crate.
 
 mod calls;
 mod cell;

@@ -21,9 +21,11 @@ class Text(NamedTuple):
     """Characters to show: all up to the next other event, or to the end of what was fed."""
     text: str
 
+
 class Execute(NamedTuple):
     """A control function of one byte: 00..1F or 80..9F."""
     byte: int
+
 
 class Hook(NamedTuple):
     """A device control string begins. The fields are those of `Csi`."""
@@ -32,9 +34,11 @@ class Hook(NamedTuple):
     ignore: bool
     final: str
 
+
 class Put(NamedTuple):
     """A byte of the data of a device control string."""
     byte: int
+
 
 class Data(NamedTuple):
     """Data of a device control string, in the place of each `Put`, if `kinds` has `Data`.
@@ -43,8 +47,10 @@ class Data(NamedTuple):
     """
     data: bytes
 
+
 class Unhook(NamedTuple):
     """A device control string ends."""
+
 
 class Osc(NamedTuple):
     """An operating system command, in the pieces that `;` separates.
@@ -56,6 +62,7 @@ class Osc(NamedTuple):
     bell_terminated: bool
     truncated: bool = False
 
+
 class Csi(NamedTuple):
     """A control sequence.
 
@@ -66,6 +73,7 @@ class Csi(NamedTuple):
     intermediates: bytes
     ignore: bool
     final: str
+
 
 class Esc(NamedTuple):
     """An escape sequence. `intermediates` and `ignore` are as in `Csi`."""

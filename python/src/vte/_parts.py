@@ -95,7 +95,7 @@ def _ranges(read: Read, length: int, size: int) -> Iterator[tuple[int, int]]:
 
 
 def _find_escape(read: Read, at: int, length: int) -> int:
-    """The position of the first ESC from a position on, or the length."""
+    """Returns the position of the first ESC from a position on, or the length."""
     count = MIN_READ
     while at < length:
         data = read(at, min(count, length - at))

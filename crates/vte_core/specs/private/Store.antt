@@ -40,7 +40,7 @@ cut_data start bytes (end ∷ ends) = slice_range bytes start end ∷ cut_data e
 abbrev pub cut_pieces : List ℕ → List ℕ → List (List ℕ)
 cut_pieces bytes ends = take max_pieces (cut_data 0 bytes ends)
 
--- The pieces of what is held and of the items that follow.
+-- The pieces of what is stored and of the items that follow.
 abbrev pub pieces_from : Option ℕ → List ℕ → List ℕ → List ℕ → List (List ℕ)
 pieces_from limit bytes ends more =
     let kept = kept_after limit (length bytes) more in
@@ -56,12 +56,12 @@ PiecesEnd (suc left) start (end ∷ ends) count = (start ≤ end) × PiecesEnd l
 
 -- The store continues as one that has taken the items: whatever follows, the pieces are the same.
 -- Each byte is in one of the first 16.
-pub record HoldsItems (limit : Option ℕ) (held : StoredCommand) (items : List ℕ) : Type 0 where
+pub record HoldsItems (limit : Option ℕ) (stored : StoredCommand) (items : List ℕ) : Type 0 where
   pub same_pieces : (more : List ℕ)
-      → pieces_of limit (items ++ more) ≡ pieces_from limit held.bytes held.ends more
-  pub end : PiecesEnd max_pieces 0 held.ends (length held.bytes)
-  pub fewer : length held.bytes ≤ length (filter is_data_item items)
-  pub lost : held.lost ≡ nat_lt (length held.bytes) (length (filter is_data_item items))
+      → pieces_of limit (items ++ more) ≡ pieces_from limit stored.bytes stored.ends more
+  pub end : PiecesEnd max_pieces 0 stored.ends (length stored.bytes)
+  pub fewer : length stored.bytes ≤ length (filter is_data_item items)
+  pub lost : stored.lost ≡ nat_lt (length stored.bytes) (length (filter is_data_item items))
 
 -- The stores differ at most in their capacity.
 pub record SameItems (old new : StoredCommand) : Type 0 where

@@ -76,15 +76,23 @@ unfolding events_of event_in
 single-read input area back offset (Print c) bounded is_there =
     rw (is_there, take-append_seam (encode_utf8 c) back, chars-encode c bounded.0) refl
 single-read input area back offset (Hook groups ints ignore final) bounded is_there =
-    let intermediates = intermediates-read _ ints bounded.few_intermediates in
-    rw (is_there, groups-read_by_byte groups back bounded.groups_are, intermediates, flag-read ignore) refl
+    rw (
+      is_there,
+      groups-read_by_byte groups back bounded.groups_are,
+      intermediates-read _ ints bounded.few_intermediates,
+      flag-read ignore,
+    ) refl
 single-read input area back offset (Put byte) bounded is_there = rw is_there refl
 single-read input area back offset (OscDispatch pieces bell) bounded is_there =
     let at_most : count_byte (length pieces) ≡ length pieces = omega (arith, bounded.0) in
     rw (is_there, at_most, pieces-read pieces back (omega (arith, bounded.1)), bell-read bell) refl
 single-read input area back offset (CsiDispatch groups ints ignore final) bounded is_there =
-    let intermediates = intermediates-read _ ints bounded.few_intermediates in
-    rw (is_there, groups-read_by_byte groups back bounded.groups_are, intermediates, flag-read ignore) refl
+    rw (
+      is_there,
+      groups-read_by_byte groups back bounded.groups_are,
+      intermediates-read _ ints bounded.few_intermediates,
+      flag-read ignore,
+    ) refl
 single-read input area back offset (EscDispatch ints ignore byte) bounded is_there =
     rw (intermediates-read _ ints bounded.0, flag-read ignore) refl
 single-read input area back offset _ bounded is_there = refl

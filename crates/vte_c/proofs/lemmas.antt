@@ -2,6 +2,8 @@
 
 -- From the parts of a call to what the parser goes on with.
 pub mod Continuations
+-- From an event to the length of its data, part by part.
+pub mod Lengths
 -- From events to what they leave in the buffers.
 pub mod Buffers
 -- From the parser's calls, one after another, to a call of `vte_feed`.

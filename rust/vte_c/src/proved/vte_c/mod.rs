@@ -9,7 +9,7 @@
 pub(crate) mod event;
 pub(crate) use event::VteEvent;
 pub(crate) use events::EventWriter;
-pub(crate) use feed::{VteCounts, MIN_EVENTS, NO_ROOM};
+pub(crate) use feed::{VteCounts, MIN_DATA, MIN_EVENTS, NO_ROOM};
 mod events;
 mod feed;
 mod text;

@@ -10,7 +10,7 @@ ghost use Rattle.vte_core.specs.Saved.{HasReadSaved};
 ghost use Rattle.vte_core.specs.Stream.{added, default_limit};
 
 use crate::event::VteEvent;
-use crate::events::EventWriter;
+use crate::event_writer::EventWriter;
 use vte_core::{Parser, Saved, laws};
 
 /// The number of events for which there must be room: what two bytes add.

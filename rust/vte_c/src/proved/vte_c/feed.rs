@@ -2,7 +2,7 @@
 //! From bytes to events.
 
 use crate::proved::vte_c::event::VteEvent;
-use crate::proved::vte_c::events::EventWriter;
+use crate::proved::vte_c::event_writer::EventWriter;
 use vte::{Parser, Saved};
 
 /// The number of events for which there must be room: what two bytes add.

@@ -17,7 +17,8 @@ pub(crate) const MIN_DATA: usize = 2112;
 /// The return value of a call with less room, which is no count of bytes.
 pub(crate) const NO_ROOM: usize = usize::MAX;
 
-/// How many events, and how many bytes of the data area (`data` in vte.h), a call wrote.
+/// How many events, and how many bytes of the data area, a call wrote. `bytes` is `data` in vte.h,
+/// which is a keyword of specs.
 #[repr(C)]
 #[derive(Clone, Copy)]
 pub struct VteCounts {

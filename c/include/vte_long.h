@@ -3,8 +3,8 @@
  *
  * It reports the events of vte.h in the same records, with VTE_TRUNCATED only if a command has data
  * after its 16th piece. It allocates by malloc: for the longest command that it was fed, and
- * for its own data area, which has room for that command, 2 KiB, and five bytes for each byte of
- * the longest call. It is in the library that cargo builds.
+ * for its own data area, which has room for that command, VTE_MIN_DATA bytes more, and five bytes
+ * for each byte of the longest call. It is in the library that cargo builds.
  *
  *     vte_long_parser *parser = vte_long_parser_new();
  *     vte_event events[256];

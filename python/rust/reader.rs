@@ -7,7 +7,7 @@ use pyo3::prelude::*;
 use vte::Refused;
 
 /// How many bytes are read at most before the tape is asked whether it is full.
-const SLICE: usize = 1 << 12;
+const SLICE_SIZE: usize = 1 << 12;
 /// How many values are recorded before objects are made of them: few, because their memory is then
 /// at hand.
 const MAX_COUNT: usize = 1 << 11;
@@ -28,7 +28,7 @@ pub trait Reader: Send {
 
 /// The first bytes, which a call parses at once.
 pub fn first_slice(bytes: &[u8]) -> &[u8] {
-    &bytes[..bytes.len().min(SLICE)]
+    &bytes[..bytes.len().min(SLICE_SIZE)]
 }
 
 /// Reads bytes up to a stop. The answer is made of a list of what they add, and of how many were

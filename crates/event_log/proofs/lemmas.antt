@@ -1,6 +1,10 @@
--- From the parts of lines (`Fields`) to what is collected (`CollectedTexts`), which is never too long (`Lengths`), and
--- written (`Progress`).
+-- A line uses only those above it.
+
+-- From the parts of a line, pushed one after another, to all of them.
 pub mod Fields
-pub mod Lengths
-pub mod Progress
+-- From the texts of events to what is collected, from call to call.
 pub mod CollectedTexts
+-- From an event to the length of its text, so that what is collected is never too long.
+pub mod Lengths
+-- From what is collected to what a run has written.
+pub mod Progress

@@ -15,7 +15,7 @@ use crate::recorder::Recorder;
 use vte_core::laws;
 
 /// The most bytes that are read at once.
-const CHUNK: usize = 4096;
+const CHUNK_SIZE: usize = 4096;
 
 /// Reads to the end, and writes one line per event.
 ///
@@ -67,7 +67,7 @@ fn run_with<C: Collector, R: Source, W: Sink>(
 {
     laws::empty_stream();
     let mut parser = RunParser::new();
-    let mut buffer = [0; CHUNK];
+    let mut buffer = [0; CHUNK_SIZE];
     for _ in 0..u64::MAX {
         let Ok(count) = reader.read(&mut buffer) else {
             return Err(Fault::Read);

@@ -15,7 +15,7 @@ pub use Rattle.std.specs.Str.{chars, IsUtf8}
 pub use Rattle.event_log.specs.Plain.{plain_text}
 unfoldable pub use Rattle.event_log.specs.Plain.{plain_text_of}
 pub use Rattle.vte_c.specs.declared.event.VteEvent.{VteEvent}
-pub use Rattle.vte_c.specs.declared.events.EventWriter.{EventWriter}
+pub use Rattle.vte_c.specs.declared.event_writer.EventWriter.{EventWriter}
 pub use Rattle.vte_c.specs.private.Buffers.{AreaHolds, AreCharacters, AreEmptyBuffers, Buffers, buffers_of, buffers_with_event, has_room_for_record, must_return, paused_if, resumed, with_run, with_run_record, with_taken}
 unfoldable pub use Rattle.vte_c.specs.private.Buffers.{with_record, with_record_alone}
 pub use Rattle.vte_c.specs.private.Feeding.{any_of_kinds, Continues, HasEntries, HasFed, HasReadOn, IsPrefix, NoRecordStops, NoRunStops, ReadsOn, with_entries}

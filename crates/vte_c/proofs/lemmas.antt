@@ -1,7 +1,14 @@
--- From what a call goes on with (`Continuations`) and what it writes (`Buffers`) to calls (`CallSteps`, `Stripping`)
--- and to what their callers find (`ReadBack`).
-pub mod CallSteps
+-- A line uses only those above it.
+
+-- From the parts of a call to what the parser goes on with.
 pub mod Continuations
-pub mod ReadBack
+-- From an event to the length of its data, part by part.
+pub mod Lengths
+-- From events to what they leave in the buffers.
 pub mod Buffers
+-- From the parser's calls, one after another, to a call of `vte_feed`.
+pub mod CallSteps
+-- From the buffers to the events that a caller reads from them.
+pub mod ReadBack
+-- From the parser's calls to the text of `vte_strip`.
 pub mod Stripping

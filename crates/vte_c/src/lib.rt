@@ -16,10 +16,10 @@ ghost use Rattle.vte_core.specs.Stream.{default_limit, IsFinished, IsUnfinished}
 
 // cargo instead: pub(crate) mod event;
 // cargo instead: pub(crate) use event::VteEvent;
-// cargo instead: pub(crate) use events::EventWriter;
-// cargo instead: pub(crate) use feed::{VteCounts, MIN_EVENTS, NO_ROOM};
+// cargo instead: pub(crate) use event_writer::EventWriter;
+// cargo instead: pub(crate) use feed::{VteCounts, MIN_DATA, MIN_EVENTS, NO_ROOM};
 mod event;
-mod events;
+mod event_writer;
 mod feed;
 pub mod laws;
 mod text;

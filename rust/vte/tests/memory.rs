@@ -30,7 +30,7 @@ use vte::{BoundedParser, LongParser, Refused};
 const MAX_HELD: usize = 0x20_0000 - 2;
 
 /// For how many bytes memory is allocated at once.
-const SLICE: usize = 0x1_0000;
+const SLICE_SIZE: usize = 0x1_0000;
 
 /// A title of two pieces, of which the second has so many bytes, and what it shows.
 fn title(count: usize) -> (Vec<u8>, String) {
@@ -187,10 +187,10 @@ fn a_long_processor_goes_on_after_a_refusal_between_slices() {
     let (mut processor, mut shown) = (long_processor(), Shown::with_room(200_004));
     let (title, text) = title(200_000);
     // memory for a slice
-    assert_eq!(processor.advance(&mut shown, &[b' '; SLICE]), Ok(()));
+    assert_eq!(processor.advance(&mut shown, &[b' '; SLICE_SIZE]), Ok(()));
     let answer = refused(|| processor.advance(&mut shown, &title));
-    assert_eq!(answer, Err(Refused { read: SLICE }));
-    assert_eq!(processor.advance(&mut shown, &title[SLICE..]), Ok(()));
+    assert_eq!(answer, Err(Refused { read: SLICE_SIZE }));
+    assert_eq!(processor.advance(&mut shown, &title[SLICE_SIZE..]), Ok(()));
     assert_eq!((shown.texts, shown.commands), (text, 1));
 }
 
@@ -305,8 +305,8 @@ fn calls_end_the_program_without_memory() {
     ends_without(8, || processor.advance(&mut shown, command));
     ends_without(8, || processor.advance_text(&mut shown, command));
     // it has memory for a slice
-    processor.advance(&mut shown, &[b' '; SLICE]);
-    let command = [&b"\x1b]2;"[..], &[b'b'; SLICE]].concat();
+    processor.advance(&mut shown, &[b' '; SLICE_SIZE]);
+    let command = [&b"\x1b]2;"[..], &[b'b'; SLICE_SIZE]].concat();
     ends_without(4, || processor.advance(&mut shown, &command));
 }
 

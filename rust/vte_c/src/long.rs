@@ -8,7 +8,9 @@
 
 use crate::ffi::{slice, slice_mut};
 use crate::memory;
-use crate::proved::vte_c::{event, EventWriter, VteCounts, VteEvent, MIN_EVENTS, NO_ROOM};
+use crate::proved::vte_c::{
+    event, EventWriter, VteCounts, VteEvent, MIN_DATA, MIN_EVENTS, NO_ROOM,
+};
 use alloc::boxed::Box;
 use alloc::vec::Vec;
 use vte::{skip_to_command, InternalCalls as _, LongParser, Refused};
@@ -17,11 +19,16 @@ use vte::{skip_to_command, InternalCalls as _, LongParser, Refused};
 const REFUSED: usize = usize::MAX - 1;
 
 /// How many bytes a call reads at most. There is room for all their data.
-const SLICE: usize = 1 << 16;
+const SLICE_SIZE: usize = 1 << 16;
 
-/// The most data bytes for each byte of a step, and for what was open before it.
-const DATA_PER_BYTE: usize = 5;
-const DATA_BEFORE: usize = 2048;
+/// The room for what a byte of a call adds: it may begin a piece, whose length has 4 bytes, and be
+/// a byte of a piece. A number adds 3, with its group, and so does a malformed byte, by U+FFFD.
+const DATA_PER_BYTE: usize = 4 + 1;
+
+/// The room for what was open before a call, besides the stored bytes: 16 lengths of pieces (64),
+/// or 32 groups of one number (96), or a character (3). The rest is more than what a writer keeps
+/// free before it reads on (1,092), so the data area is never nearly full.
+const DATA_BEFORE: usize = MIN_DATA;
 
 /// A parser and its data area.
 pub struct VteLongParser {
@@ -29,7 +36,7 @@ pub struct VteLongParser {
     data: Vec<u8>,
 }
 
-/// Makes room for the data of a step, whose offsets have 32 bits.
+/// Makes room for the data of a call, whose offsets have 32 bits.
 fn reserve(data: &mut Vec<u8>, size: usize) -> Result<(), Refused> {
     if size <= data.len() {
         return Ok(());
@@ -123,7 +130,7 @@ pub unsafe extern "C" fn vte_long_feed(
     let (VteLongParser { parser, data: area }, bytes, events, data, counts) = unsafe {
         (
             &mut *parser,
-            slice(bytes, length.min(SLICE)),
+            slice(bytes, length.min(SLICE_SIZE)),
             slice_mut(events, event_room),
             &mut *data,
             &mut *counts,

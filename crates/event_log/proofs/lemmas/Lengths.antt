@@ -4,7 +4,7 @@ use Rattle.std.proofs.Common.{length-drop}
 use Rattle.std.proofs.lemmas.List.Sums.{sum_by-cons}
 use Rattle.std.proofs.Math.Utf8.{encodes}
 use Rattle.std.specs.Char.{encode_utf8}
-use Rattle.event_log.proofs.Common.{added, AddsUpTo, after, All, All-head, All-tail, AllFitU16, ap, append_assoc, AreBrief, AreGroups, arith, Bool, breaks_at, capacity, cases_Bool, chars, CollectedText, concat, count_of, CsiDispatch, decimal, default_limit, drop, empty_text, encode_ascii, encodes-chars, EscDispatch, Event, Execute, false, FitsU16, flag_field, flat_map, GoesOnFromPositions, group_text, HasKept, HasRead, hex_byte, hex_character, hex_digit, hex_field, hex_length, Hook, if◌then◌else◌, inl, inr, is_layout, is_to_be_written, IsBounded, IsNonEmpty, IsUtf8, join_with_byte, len_utf8_bounds, length, length-append, length-decimal-le, length-encode, line_of, List, map, max, OscDispatch, Parser, pieces_fields, plain_text_of, Print, refl, replacement, reported_before, ReportsUnits, resumed_stream, run_event, semicolon, sequence_fields, shown, six_hex_digits, StopsExactly, suc, sym, true, with_event, with_text, zero, ℕ, [], ◌*◌, ◌++◌, ◌+◌, ◌-◌, ◌<◌, ◌∙◌, ◌∷◌, ◌≡◌, ◌≤◌}
+use Rattle.event_log.proofs.Common.{added, AddsUpTo, after, All, All-head, All-tail, AllFitU16, ap, append_assoc, AreBrief, AreGroups, arith, Bool, breaks_at, capacity, cases_Bool, chars, codes, CollectedText, concat, count_of, CsiDispatch, decimal, default_limit, drop, empty_text, encode_ascii, encodes-chars, EscDispatch, Event, Execute, false, FitsU16, flag_field, flat_map, GoesOnFromPositions, group_text, HasKept, HasRead, hex_byte, hex_character, hex_digit, hex_field, hex_length, Hook, if◌then◌else◌, inl, inr, is_layout, is_to_be_written, IsBounded, IsNonEmpty, IsUtf8, join_with_byte, len_utf8_bounds, length, length-append, length-decimal-le, length-encode, line_feed, line_of, List, map, max, OscDispatch, Parser, pieces_fields, plain_text_of, Print, refl, replacement, reported_before, ReportsUnits, resumed_stream, run_event, semicolon, sequence_fields, shown, six_hex_digits, StopsExactly, suc, sym, true, with_event, with_text, zero, ℕ, [], ◌*◌, ◌++◌, ◌+◌, ◌-◌, ◌<◌, ◌∙◌, ◌∷◌, ◌≡◌, ◌≤◌}
 use Rattle.event_log.proofs.lemmas.CollectedTexts.{collected_bytes, kept-by_call, max_of_character_line, max_of_line, reported-taken, room-for_unit, text-taken_as_events, texts-taken, UnitsFit}
 use Rattle.vte_core.proofs.lemmas.bytes.Runs.{layout-is_ascii}
 use Rattle.vte_core.proofs.lemmas.streams.After.{added-nothing}
@@ -88,21 +88,26 @@ length-sequence_fields groups intermediates ignore final groups_are =
       length-hex_character 2 final,
     ))
 
+length-sequence_line : (name : List ℕ) (groups : List (List ℕ)) (intermediates : List ℕ) (ignore : Bool) (final : ℕ)
+    → length name ≤ 4 → AreGroups groups → length intermediates ≤ 2
+    → length (name ++ sequence_fields groups intermediates ignore final ++ line_feed) ≤ max_of_line
+length-sequence_line name groups intermediates ignore final short_name groups_are few_intermediates =
+    simp length-append (omega (
+      arith,
+      length-sequence_fields groups intermediates ignore final groups_are,
+      short_name,
+      few_intermediates,
+    ))
+
 length-line : (event : Event) → IsBounded default_limit event → length (line_of event) ≤ max_of_line
 unfolding line_of hex_byte pieces_fields
 length-line (Print c) bounded = omega (arith, length-line_of_character c)
 length-line (Hook groups intermediates ignore final) bounded =
-    simp length-append (omega (
-      arith,
-      length-sequence_fields groups intermediates ignore final bounded.groups_are,
-      bounded.few_intermediates,
-    ))
+    length-sequence_line (codes "hook") groups intermediates ignore final (omega arith) bounded.groups_are
+    bounded.few_intermediates
 length-line (CsiDispatch groups intermediates ignore final) bounded =
-    simp length-append (omega (
-      arith,
-      length-sequence_fields groups intermediates ignore final bounded.groups_are,
-      bounded.few_intermediates,
-    ))
+    length-sequence_line (codes "csi") groups intermediates ignore final (omega arith) bounded.groups_are
+    bounded.few_intermediates
 length-line (OscDispatch pieces bell) bounded =
     let count : length (decimal (length pieces)) ≤ 2 =
     length-decimal-le 2 (length pieces) (omega arith) (omega arith) (omega arith) in

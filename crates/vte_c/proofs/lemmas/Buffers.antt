@@ -3,65 +3,11 @@
 -- (`entries-unit_more`), and a run of the input (`entries-run`).
 use Rattle.std.proofs.lemmas.List.Folds.{list_any-append}
 use Rattle.std.proofs.Math.Bool.{or-false, or_assoc}
-use Rattle.vte_c.proofs.Common.{add-zero, after, All, All-head, All-tail, any_of_kinds, ap, append-nil, append_assoc, AreaHolds, AreBrief, AreGroups, AreReadable, arith, AtMostOneFollowsStop, Bool, Buffers, buffers_of, buffers_with_event, cases_Bool, concat, contains_kind, count_of, CsiDispatch, data_of, DataRun, default_limit, Entry, entry_data, EscDispatch, Event, event_kind, EventWriter, Execute, false, filter-append, flag_byte, flat_map, flat_map-append, group_bytes, has_room_for_record, HasEntries, Hook, if◌then◌else◌, InInput, inl, InputRunKind, inr, IsBounded, IsCharacterEvent, IsNonEmpty, IsRunAt, kinds_of, len_utf8_bounds, length, length-append, length-encode, length-map, List, map, map-append, max_data_per_byte, may_have_lost, must_return, nat_lt, nat_tests, NoRecordStops, or_parts, OscDispatch, piece_bytes, Print, Put, record_at, records_from, refl, resumed, run_kind, run_record, Single, subst, sum_by-cons, sym, take, TextRun, true, two_bytes, Unhook, VteEvent, wanted_events, with_entries, with_record, with_record_alone, without_loss, ℕ, [], ◌%◌, ◌*◌, ◌++◌, ◌+◌, ◌<◌, ◌∙◌, ◌∷◌, ◌≡◌, ◌≤◌}
+use Rattle.vte_c.proofs.Common.{add-zero, after, any_of_kinds, ap, append-nil, append_assoc, AreaHolds, AreBrief, AreReadable, arith, AtMostOneFollowsStop, Bool, Buffers, buffers_of, buffers_with_event, cases_Bool, contains_kind, CsiDispatch, data_of, DataRun, default_limit, Entry, entry_data, EscDispatch, Event, event_kind, EventWriter, Execute, false, filter-append, flag_byte, flat_map, flat_map-append, has_room_for_record, HasEntries, Hook, if◌then◌else◌, InInput, inl, InputRunKind, inr, IsBounded, IsRunAt, kinds_of, length, length-append, length-map, List, map, map-append, max_data_per_byte, may_have_lost, must_return, nat_lt, nat_tests, NoRecordStops, or_parts, OscDispatch, Print, Put, record_at, records_from, refl, resumed, run_kind, run_record, Single, subst, sym, take, TextRun, true, Unhook, VteEvent, wanted_events, with_entries, with_record, with_record_alone, without_loss, ℕ, [], ◌%◌, ◌++◌, ◌+◌, ◌∙◌, ◌∷◌, ◌≡◌, ◌≤◌}
 use Rattle.vte_c.proofs.lemmas.Continuations.{no_kind_stops-append, no_kind_stops-none}
+use Rattle.vte_c.proofs.lemmas.Lengths.{data_of-at_most, data_of-character_event}
 use Rattle.vte_core.proofs.lemmas.places.PlaceLeads.{character_event_bounded}
 use Rattle.vte_core.proofs.lemmas.streams.After.{after_events-append}
-
--- ---- how long the data of an event are
-
--- Each event has at most 1,088 bytes, and the second one that a byte adds at most four, by cases of the event.
-
-pub length-two_bytes : (numbers : List ℕ) → length (flat_map two_bytes numbers) ≡ 2 * length numbers
-length-two_bytes [] = refl
-length-two_bytes (n ∷ numbers) = omega (arith, length-two_bytes numbers)
-
-length-group_bytes : (groups : List (List ℕ))
-    → length (flat_map group_bytes groups) ≡ length groups + 2 * count_of groups
-length-group_bytes [] = refl
-length-group_bytes (group ∷ groups) =
-    let parts = length-append (group_bytes group) (flat_map group_bytes groups) in
-    let all = sum_by-cons length group groups in
-    omega (arith, parts, all, length-two_bytes group, length-group_bytes groups)
-
-length-piece_bytes : (pieces : List (List ℕ))
-    → length (flat_map piece_bytes pieces) ≡ 4 * length pieces + length (concat pieces)
-length-piece_bytes [] = refl
-length-piece_bytes (piece ∷ pieces) =
-    let parts = length-append (piece_bytes piece) (flat_map piece_bytes pieces) in
-    omega (arith, parts, length-append piece (concat pieces), length-piece_bytes pieces)
-
-length-filled : (groups : List (List ℕ)) → All IsNonEmpty groups → length groups ≤ count_of groups
-length-filled [] filled = omega arith
-length-filled (group ∷ groups) filled =
-    let not_empty : 0 < length group = All-head IsNonEmpty group groups filled in
-    omega (arith, sum_by-cons length group groups, length-filled groups (All-tail IsNonEmpty group groups filled))
-
-pub length-groups : (groups : List (List ℕ)) → AreGroups groups → length groups ≤ 32
-length-groups groups groups_are = omega (arith, length-filled groups groups_are.filled, groups_are.at_most)
-
-group_bytes-at_most : (groups : List (List ℕ)) → AreGroups groups → length (flat_map group_bytes groups) ≤ 96
-group_bytes-at_most groups groups_are =
-    omega (arith, length-group_bytes groups, length-groups groups groups_are, groups_are.at_most)
-
--- No event has more data bytes: a command has at most 16 pieces, each after four bytes, with 1,024 bytes together. A
--- sequence has at most 96: 32 groups, each after one byte, with 32 numbers of two bytes together.
-abbrev max_event_data : ℕ
-max_event_data = 1088
-
-data_of-at_most : (event : Event) → IsBounded default_limit event → length (data_of event) ≤ max_event_data
-data_of-at_most (Print c) bounded = omega (arith, length-encode c, (len_utf8_bounds c).1)
-data_of-at_most (Hook groups ints ignore final) bounded = omega (arith, group_bytes-at_most groups bounded.groups_are)
-data_of-at_most (OscDispatch pieces bell) bounded = omega (arith, length-piece_bytes pieces, bounded.0, bounded.1)
-data_of-at_most (CsiDispatch groups ints ignore final) bounded =
-    omega (arith, group_bytes-at_most groups bounded.groups_are)
-data_of-at_most _ bounded = omega arith
-
--- The second event that a byte adds is a character event, with little data.
-data_of-character_event : (event : Event) → IsCharacterEvent event → length (data_of event) ≤ 4
-data_of-character_event (Print c) short = omega (arith, length-encode c, (len_utf8_bounds c).1)
-data_of-character_event (Execute byte) short = omega arith
-data_of-character_event _ short = absurd short
 
 -- ---- entries one after the other, if the buffers aren't full in between
 

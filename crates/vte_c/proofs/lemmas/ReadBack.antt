@@ -3,7 +3,8 @@
 use Rattle.std.specs.Char.{encode_utf8}
 use Rattle.std.specs.Prelude.{◌-◌, ◌^◌}
 use Rattle.vte_c.proofs.Common.{add-zero, added, all_kinds, ap, append-nil, append_assoc, AreEmptyBuffers, AreEncoded, AreGroups, AreReadable, arith, Bool, Buffers, buffers_of, bytes_read, cases_Bool, concat, contains_kind, count_byte, count_of, CsiDispatch, data_of, DataRun, default_limit, drop, drop-append-le, drop-append_seam, drop-drop, Entry, entry_data, entry_events, eqb-true, EscDispatch, Event, event_in, event_kind, events, events_in, events_of, events_of_run, EventWriter, Execute, false, filter-append, flag_byte, flat_map, get_or, group_bytes, groups_in, HasEntries, HasFed, HasGiven, HasRead, HasReadOn, HasReadSaved, HasReported, Hook, InInput, inl, InputRunKind, inr, intermediates_in, IsBounded, IsRunAt, kinds_of, length, length-append, length-drop, length-map, length-take, List, map, map-set_same, min, nat_tests, no_room, NoRecordStops, numbers_in, osc_kind, OscDispatch, Parser, piece_bytes, pieces_in, Print, Put, record_at, records_from, refl, run_kind, run_record, Saved, set, Single, sum_by-cons, sym, take, take-append-drop, take-append-le, take-append_seam, take-map, TextRun, true, two_bytes, Unhook, VteEvent, wanted_events, with_intermediates, with_loss, without_loss, ℕ, [], ◌%◌, ◌*◌, ◌++◌, ◌+◌, ◌/◌, ◌<◌, ◌==◌, ◌∙◌, ◌∷◌, ◌≡◌, ◌≤◌}
-use Rattle.vte_c.proofs.lemmas.Buffers.{length-groups, length-records, length-two_bytes}
+use Rattle.vte_c.proofs.lemmas.Buffers.{length-records}
+use Rattle.vte_c.proofs.lemmas.Lengths.{length-groups, length-two_bytes}
 use Rattle.vte_core.proofs.lemmas.bytes.Runs.{chars-encode}
 use Rattle.vte_core.proofs.lemmas.streams.After.{added-nothing}
 

@@ -2,7 +2,7 @@
 use Rattle.std.specs.Prelude.{Bool, false, if◌then◌else◌, length, List, map, min, nat_le, nat_lt, take, ℕ, [], ⊤, ◌&&◌, ◌++◌, ◌+◌, ◌-◌, ◌^◌, ◌||◌, ◌∷◌, ◌≡◌, ◌≤◌}
 use Rattle.std.specs.Str.{IsUtf8}
 use Rattle.vte_c.specs.declared.event.VteEvent.{VteEvent}
-use Rattle.vte_c.specs.declared.events.EventWriter.{EventWriter}
+use Rattle.vte_c.specs.declared.event_writer.EventWriter.{EventWriter}
 use Rattle.vte_c.specs.Record.{contains_kind, data_kind, data_of, event_kind, max_data_per_byte, may_have_lost, min_data, min_events, record_of, run_record, text_kind, without_loss}
 use Rattle.vte_core.specs.declared.reader.run.Run.{Run}
 use Rattle.vte_core.specs.declared.reader.run.Taken.{Taken}

@@ -2,7 +2,7 @@
 use Rattle.std.specs.List.{flat_map, list_any}
 use Rattle.std.specs.Prelude.{Bool, drop, false, length, List, map, take, ℕ, ◌++◌, ◌+◌, ◌<◌, ◌||◌, ◌≡◌, ◌≤◌}
 use Rattle.vte_c.specs.declared.event.VteEvent.{VteEvent}
-use Rattle.vte_c.specs.declared.events.EventWriter.{EventWriter}
+use Rattle.vte_c.specs.declared.event_writer.EventWriter.{EventWriter}
 use Rattle.vte_c.specs.private.Buffers.{Buffers, buffers_of}
 use Rattle.vte_c.specs.Record.{contains_kind, data_kind, Entry, entry_data, entry_events, events_in, kinds_of, records_from, text_kind, wanted_events}
 use Rattle.vte_c.specs.Reported.{AreEncoded, AreReadable, AtMostOneFollowsStop, HasReported, is_stop, NoEventStops, NoKindStops}

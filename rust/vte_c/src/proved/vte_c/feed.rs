@@ -2,7 +2,7 @@
 //! From bytes to events.
 
 use crate::proved::vte_c::event::VteEvent;
-use crate::proved::vte_c::events::EventWriter;
+use crate::proved::vte_c::event_writer::EventWriter;
 use vte::{Parser, Saved};
 
 /// The number of events for which there must be room: what two bytes add.
@@ -11,12 +11,14 @@ pub(crate) const MIN_EVENTS: usize = 4;
 /// The number of data bytes for which there must be room: more than two bytes add. A call then
 /// reads at least one byte, for which 3 events and 1,095 bytes would do: U+FFFD comes first for a
 /// character that this byte breaks, and then there must be room for what one byte may add.
+/// `min_data` of specs/Record says where the number is from.
 pub(crate) const MIN_DATA: usize = 2112;
 
 /// The return value of a call with less room, which is no count of bytes.
 pub(crate) const NO_ROOM: usize = usize::MAX;
 
-/// How many events, and how many bytes of the data area (`data` in vte.h), a call wrote.
+/// How many events, and how many bytes of the data area, a call wrote. `bytes` is `data` in vte.h,
+/// which is a keyword of specs.
 #[repr(C)]
 #[derive(Clone, Copy)]
 pub struct VteCounts {

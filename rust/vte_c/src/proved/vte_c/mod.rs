@@ -8,9 +8,9 @@
 
 pub(crate) mod event;
 pub(crate) use event::VteEvent;
-pub(crate) use events::EventWriter;
-pub(crate) use feed::{VteCounts, MIN_EVENTS, NO_ROOM};
-mod events;
+pub(crate) use event_writer::EventWriter;
+pub(crate) use feed::{VteCounts, MIN_DATA, MIN_EVENTS, NO_ROOM};
+mod event_writer;
 mod feed;
 mod text;
 

@@ -8,7 +8,7 @@ use crate::proved::event_log::plain::Plain;
 use crate::proved::event_log::recorder::Recorder;
 
 /// The most bytes that are read at once.
-const CHUNK: usize = 4096;
+const CHUNK_SIZE: usize = 4096;
 
 /// Reads to the end, and writes one line per event.
 ///
@@ -37,7 +37,7 @@ fn run_with<C: Collector, R: Source, W: Sink>(
     writer: &mut W,
 ) -> Result<(), Fault> {
     let mut parser = RunParser::new();
-    let mut buffer = [0; CHUNK];
+    let mut buffer = [0; CHUNK_SIZE];
     for _ in 0..u64::MAX {
         let count = match reader.read(&mut buffer) {
             Ok(count) => count,

@@ -1,6 +1,6 @@
 -- A group more is written, and no longer among those that are left.
 use Rattle.vte_c.proofs.Common.{append_assoc, group_bytes, rules, ◌++◌}
-use Rattle.vte_c.proofs.events.EventWriter.write_groups.Goals as goal
+use Rattle.vte_c.proofs.event_writer.EventWriter.write_groups.Goals as goal
 
 pub loop-group-preserved : goal.loop-group-preserved
 loop-group-preserved c =

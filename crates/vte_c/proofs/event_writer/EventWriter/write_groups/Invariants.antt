@@ -1,6 +1,6 @@
 -- What was written of the groups, followed by those that are left, is what all of them give.
 use Rattle.vte_c.proofs.Common.{AreaHolds, buffers_of, flat_map, group_bytes, List, ℕ, ◌++◌, ◌≡◌}
-use Rattle.vte_c.proofs.events.EventWriter.write_groups.Given as goal
+use Rattle.vte_c.proofs.event_writer.EventWriter.write_groups.Given as goal
 
 abbrev pub invariant-loop-group : goal.invariant-loop-group
 invariant-loop-group l =

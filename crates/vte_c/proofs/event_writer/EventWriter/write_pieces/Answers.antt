@@ -1,6 +1,6 @@
 -- A piece more is written after those before it.
 use Rattle.vte_c.proofs.Common.{append-nil, buffers_of, flat_map-append, map-append, piece_bytes, take_more, []}
-use Rattle.vte_c.proofs.events.EventWriter.write_pieces.Goals as goal
+use Rattle.vte_c.proofs.event_writer.EventWriter.write_pieces.Goals as goal
 
 pub loop-piece-preserved : goal.loop-piece-preserved
 loop-piece-preserved c =

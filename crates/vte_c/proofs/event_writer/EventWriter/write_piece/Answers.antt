@@ -1,6 +1,6 @@
 -- Four bytes with the length are written, and then the piece.
 use Rattle.vte_c.proofs.Common.{append_assoc}
-use Rattle.vte_c.proofs.events.EventWriter.write_piece.Goals as goal
+use Rattle.vte_c.proofs.event_writer.EventWriter.write_piece.Goals as goal
 
 pub returns : goal.returns
 returns c = λ buffers text holds.

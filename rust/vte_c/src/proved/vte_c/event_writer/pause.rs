@@ -1,4 +1,4 @@
-// Written by tools/erase from crates/vte_c/src/events/pause.rt: edit that one.
+// Written by tools/erase from crates/vte_c/src/event_writer/pause.rt: edit that one.
 //! The pause after a command that may have lost data, in which the parser is asked.
 
 use super::{EventWriter, MAX_DATA_PER_BYTE};

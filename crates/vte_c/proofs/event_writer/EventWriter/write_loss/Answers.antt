@@ -1,6 +1,6 @@
 -- The records of buffers leave out whether data was lost, so they stay as they are (`records-same_without_loss`).
 use Rattle.vte_c.proofs.Common.{length, length-set, map, refl, set, take, without_loss, ◌≡◌}
-use Rattle.vte_c.proofs.events.EventWriter.write_loss.Goals as goal
+use Rattle.vte_c.proofs.event_writer.EventWriter.write_loss.Goals as goal
 use Rattle.vte_c.proofs.lemmas.ReadBack.{records-same_without_loss}
 
 pub returns-then-self-index-eq-OSC : goal.returns-then-self-index-eq-OSC

@@ -2,7 +2,7 @@
 -- (`size-without_saturation`).
 use Rattle.std.specs.Prelude.{◌^◌}
 use Rattle.vte_c.proofs.Common.{ap, arith, Buffers, flat_map, is_at_limit, length, length-map, map, min, nat_le, nat_tests, paused_if, piece_bytes, sym, ℕ, ◌+◌, ◌-◌, ◌<◌, ◌∙◌, ◌≡◌}
-use Rattle.vte_c.proofs.events.EventWriter.write_command.Goals as goal
+use Rattle.vte_c.proofs.event_writer.EventWriter.write_command.Goals as goal
 
 size-without_saturation : (used size : ℕ) → used < 2 ^ 32
     → nat_le 1024 (min (used + size) (2 ^ 64 - 1) - used) ≡ nat_le 1024 size

@@ -1,6 +1,6 @@
 -- A group of one number is written at once, and any other number by number after its count.
 use Rattle.vte_c.proofs.Common.{append_assoc, arith, flat_map_more, get_or, group_bytes, length, List, refl, take, take_all, take_more, two_bytes, ℕ, [], ◌∷◌, ◌≡◌}
-use Rattle.vte_c.proofs.events.EventWriter.write_group.Goals as goal
+use Rattle.vte_c.proofs.event_writer.EventWriter.write_group.Goals as goal
 
 group_bytes-one_number : (group : List ℕ) → length group ≡ 1 → group_bytes group ≡ 1 ∷ two_bytes (get_or group 0 0)
 group_bytes-one_number [] is_one = absurd (omega (arith, is_one))

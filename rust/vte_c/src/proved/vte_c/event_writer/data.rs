@@ -1,4 +1,4 @@
-// Written by tools/erase from crates/vte_c/src/events/data.rt: edit that one.
+// Written by tools/erase from crates/vte_c/src/event_writer/data.rt: edit that one.
 //! The data of events: the groups of a sequence and the pieces of a command, written into the
 //! caller's area.
 

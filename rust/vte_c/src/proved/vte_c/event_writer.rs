@@ -1,4 +1,4 @@
-// Written by tools/erase from crates/vte_c/src/events.rt: edit that one.
+// Written by tools/erase from crates/vte_c/src/event_writer.rt: edit that one.
 //! The performer that writes events into the caller's buffers.
 
 mod data;

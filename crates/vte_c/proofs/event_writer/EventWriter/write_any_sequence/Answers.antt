@@ -1,6 +1,6 @@
 -- The iterator's size is the number of groups, and the record is written after their data.
 use Rattle.vte_c.proofs.Common.{ap, length, sym, ◌∙◌, ◌≡◌}
-use Rattle.vte_c.proofs.events.EventWriter.write_any_sequence.Goals as goal
+use Rattle.vte_c.proofs.event_writer.EventWriter.write_any_sequence.Goals as goal
 
 pub returns-then-is_wanted : goal.returns-then-is_wanted
 returns-then-is_wanted c =

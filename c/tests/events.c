@@ -3,8 +3,8 @@
  * events [WORD..] [CHUNK [ROOM [DATA]]]: reads chunks of CHUNK bytes, with room for ROOM events and
  * DATA data bytes. With a CHUNK of 0, chunks and room have random sizes. Words: `kinds N` and
  * `stops N` are the masks of vte_feed, `losses` writes of each command only whether it lost data,
- * `strip` writes the text, with room for ROOM bytes, and `long` keeps commands of any length, if
- * this is compiled with WITH_LONG. */
+ * `strip` writes the text, with room for ROOM bytes, and `long` keeps commands of any length. If
+ * this is compiled without WITH_LONG, `long` is an unknown word: the status is 2. */
 #include "check.h"
 #ifdef WITH_LONG
 #include "vte_long.h"
@@ -19,7 +19,14 @@ static const char *const names[] = {"text", "execute", "hook", "data",
                                     "unhook", "osc", "csi", "esc"};
 
 static uint32_t kinds = VTE_ALL_KINDS, stops;
-static int losses;
+static int losses, strips;
+/* what the arguments ask for: 0 for random sizes */
+static size_t asked_chunk = 4096, asked_room, asked_data_room;
+static vte_parser parser;
+#ifdef WITH_LONG
+static int is_long;
+static vte_long_parser *long_parser;
+#endif
 
 static void show_hex(const uint8_t *bytes, size_t count) {
     putchar(' ');
@@ -98,13 +105,12 @@ static void *room_for(size_t size) {
     return memory;
 }
 
-static size_t feed(vte_parser *parser, const uint8_t *bytes, size_t length, size_t event_room,
-                   size_t data_room) {
+static size_t feed(const uint8_t *bytes, size_t length, size_t event_room, size_t data_room) {
     vte_event *events = room_for(event_room * sizeof *events);
     uint8_t *data = room_for(data_room);
     vte_counts counts;
-    size_t read =
-        vte_feed(parser, bytes, length, kinds, stops, events, event_room, data, data_room, &counts);
+    size_t read = vte_feed(&parser, bytes, length, kinds, stops, events, event_room, data,
+                           data_room, &counts);
     for (size_t i = 0; i < counts.events; i++) show(&events[i], bytes, data);
     free(events);
     free(data);
@@ -112,13 +118,12 @@ static size_t feed(vte_parser *parser, const uint8_t *bytes, size_t length, size
 }
 
 #ifdef WITH_LONG
-static size_t feed_long(vte_long_parser *parser, const uint8_t *bytes, size_t length,
-                        size_t event_room) {
+static size_t feed_long(const uint8_t *bytes, size_t length, size_t event_room) {
     vte_event *events = room_for(event_room * sizeof *events);
     const uint8_t *data;
     vte_counts counts;
     size_t read =
-        vte_long_feed(parser, bytes, length, kinds, stops, events, event_room, &data, &counts);
+        vte_long_feed(long_parser, bytes, length, kinds, stops, events, event_room, &data, &counts);
     CHECK(read != VTE_REFUSED);
     for (size_t i = 0; i < counts.events; i++) show(&events[i], bytes, data);
     free(events);
@@ -126,65 +131,85 @@ static size_t feed_long(vte_long_parser *parser, const uint8_t *bytes, size_t le
 }
 #endif
 
-static size_t strip(vte_parser *parser, const uint8_t *bytes, size_t length, size_t text_room) {
+static size_t strip(const uint8_t *bytes, size_t length, size_t text_room) {
     uint8_t *text = room_for(text_room);
     size_t written;
-    size_t read = vte_strip(parser, bytes, length, text, text_room, &written);
+    size_t read = vte_strip(&parser, bytes, length, text, text_room, &written);
     fwrite(text, 1, written, stdout);
     free(text);
     return read;
 }
 
-static size_t number_at(int count, char **words, int index) {
-    return index < count ? strtoul(words[index], NULL, 10) : index == 0 ? 4096 : 0;
+static uint32_t mask_of(const char *number) {
+    return (uint32_t)strtoul(number, NULL, 10);
+}
+
+/* Reads the words before the sizes, and returns how many there are, or -1 if one isn't known. */
+static int read_words(int count, char **words) {
+    int at = 0;
+    for (; at < count && (words[at][0] < '0' || words[at][0] > '9'); at++) {
+        int has_next = at + 1 < count;
+        if (has_next && strcmp(words[at], "kinds") == 0) kinds = mask_of(words[++at]);
+        else if (has_next && strcmp(words[at], "stops") == 0) stops = mask_of(words[++at]);
+        else if (strcmp(words[at], "losses") == 0) losses = 1;
+        else if (strcmp(words[at], "strip") == 0) strips = 1;
+#ifdef WITH_LONG
+        else if (strcmp(words[at], "long") == 0) is_long = 1;
+#endif
+        else return -1;
+    }
+    return at;
+}
+
+static void read_sizes(int count, char **sizes) {
+    if (count > 0) asked_chunk = strtoul(sizes[0], NULL, 10);
+    if (count > 1) asked_room = strtoul(sizes[1], NULL, 10);
+    if (count > 2) asked_data_room = strtoul(sizes[2], NULL, 10);
+}
+
+/* Whether the library is the one that vte.h describes. */
+static int is_described(void) {
+    return vte_version() == VTE_VERSION && vte_parser_size() == sizeof(vte_parser)
+        && vte_event_size() == sizeof(vte_event) && vte_min_events() == VTE_MIN_EVENTS
+        && vte_min_data() == VTE_MIN_DATA && vte_min_text() == VTE_MIN_TEXT;
+}
+
+/* Reads at most these bytes, in the way that the words ask for, and returns how many. */
+static size_t read_some(const uint8_t *bytes, size_t length) {
+#ifdef WITH_LONG
+    if (is_long) return feed_long(bytes, length, size_of(asked_room, VTE_MIN_EVENTS, 100));
+#endif
+    if (strips) return strip(bytes, length, size_of(asked_room, VTE_MIN_TEXT, 200));
+    return feed(bytes, length, size_of(asked_room, VTE_MIN_EVENTS, 100),
+                size_of(asked_data_room, VTE_MIN_DATA, 5000));
+}
+
+static void read_input(void) {
+    size_t length;
+    do {
+        size_t most = size_of(asked_chunk, 1, 300);
+        uint8_t *bytes = room_for(most);
+        length = fread(bytes, 1, most, stdin);
+        for (size_t at = 0; at < length;) at += read_some(bytes + at, length - at);
+        free(bytes);
+    } while (length > 0);
 }
 
 int main(int argc, char **argv) {
-    int strips = 0, is_long = 0;
-    for (; argc > 1 && (argv[1][0] < '0' || argv[1][0] > '9'); argc--, argv++) {
-        int takes = argc > 2 && (strcmp(argv[1], "kinds") == 0 || strcmp(argv[1], "stops") == 0);
-        if (takes) {
-            *(argv[1][0] == 'k' ? &kinds : &stops) = (uint32_t)strtoul(argv[2], NULL, 10);
-            argc--, argv++;
-        } else if (strcmp(argv[1], "losses") == 0) losses = 1;
-        else if (strcmp(argv[1], "strip") == 0) strips = 1;
-        else if (strcmp(argv[1], "long") == 0) is_long = 1;
-        else return 2;
-    }
-    size_t chunk = number_at(argc - 1, argv + 1, 0);
-    size_t first = number_at(argc - 1, argv + 1, 1), second = number_at(argc - 1, argv + 1, 2);
-    if (vte_version() != VTE_VERSION || vte_parser_size() != sizeof(vte_parser)
-        || vte_event_size() != sizeof(vte_event) || vte_min_events() != VTE_MIN_EVENTS
-        || vte_min_data() != VTE_MIN_DATA || vte_min_text() != VTE_MIN_TEXT) {
+    int words = read_words(argc - 1, argv + 1);
+    if (words < 0) return 2;
+    read_sizes(argc - 1 - words, argv + 1 + words);
+    if (!is_described()) {
         fputs("events: the library is not the one that vte.h describes\n", stderr);
         return 1;
     }
-    vte_parser parser = {{0}};
 #ifdef WITH_LONG
-    vte_long_parser *long_parser = vte_long_parser_new();
+    long_parser = vte_long_parser_new();
     CHECK(long_parser != NULL);
 #endif
-    for (;;) {
-        size_t most = size_of(chunk, 1, 300);
-        uint8_t *bytes = room_for(most);
-        size_t length = fread(bytes, 1, most, stdin);
-        for (size_t at = 0; at < length;)
-#ifdef WITH_LONG
-            if (is_long)
-                at += feed_long(long_parser, bytes + at, length - at,
-                                size_of(first, VTE_MIN_EVENTS, 100));
-            else
-#endif
-                at += strips ? strip(&parser, bytes + at, length - at,
-                                     size_of(first, VTE_MIN_TEXT, 200))
-                             : feed(&parser, bytes + at, length - at,
-                                    size_of(first, VTE_MIN_EVENTS, 100),
-                                    size_of(second, VTE_MIN_DATA, 5000));
-        free(bytes);
-        if (length == 0) break;
-    }
+    read_input();
 #ifdef WITH_LONG
     vte_long_parser_free(long_parser);
 #endif
-    return is_long < 0 || ferror(stdin) != 0;
+    return ferror(stdin) != 0;
 }

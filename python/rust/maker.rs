@@ -46,14 +46,15 @@ impl<const N: usize> CacheSlot<N> {
 
 /// The slots for keys of one size.
 struct CacheTable<const N: usize> {
+    /// All of them, or none if there is no memory.
     slots: Vec<CacheSlot<N>>,
-    // if there is no memory for the others
+    /// The one of all keys if there are no others.
     last: CacheSlot<N>,
 }
 
 impl<const N: usize> CacheTable<N> {
-    /// How many there are, by its logarithm.
-    const COUNT: u32 = 9;
+    /// The bits of a slot's number, which decide how many there are.
+    const COUNT_BITS: u32 = 9;
     const NONE: Self = CacheTable {
         slots: Vec::new(),
         last: CacheSlot::NONE,
@@ -61,8 +62,8 @@ impl<const N: usize> CacheTable<N> {
 
     fn fill(&mut self) {
         let slots = &mut self.slots;
-        if slots.is_empty() && slots.try_reserve_exact(1 << Self::COUNT).is_ok() {
-            slots.resize_with(1 << Self::COUNT, || CacheSlot::NONE);
+        if slots.is_empty() && slots.try_reserve_exact(1 << Self::COUNT_BITS).is_ok() {
+            slots.resize_with(1 << Self::COUNT_BITS, || CacheSlot::NONE);
         }
     }
 
@@ -70,13 +71,15 @@ impl<const N: usize> CacheTable<N> {
     #[inline(always)]
     fn of(&mut self, key: &[u64; N]) -> &mut CacheSlot<N> {
         let mix = |hash: u64, word: &u64| (hash.rotate_left(5) ^ word).wrapping_mul(FACTOR);
-        let index = key.iter().fold(0, mix) >> (u64::BITS - Self::COUNT);
+        let index = key.iter().fold(0, mix) >> (u64::BITS - Self::COUNT_BITS);
         self.slots.get_mut(index as usize).unwrap_or(&mut self.last)
     }
 }
 
 /// The content of a run that is cached has at most so many bytes: those of a word of a key.
 const SHORT: i64 = u64::BITS as i64 / 8;
+/// What a key's hash is multiplied by at each word, so that all words decide the highest bits: the
+/// odd number next to 2^64 / π.
 const FACTOR: u64 = 0x517C_C1B7_2722_0A95;
 /// The sizes of keys: few objects have more than three values.
 const SMALL: usize = 3;
@@ -113,8 +116,9 @@ pub struct Maker<'a, 'py> {
     classes: &'a [Class],
     values: &'a [Value],
     content: &'a [u8],
-    // all content, of which texts are parts, if that is faster, and its length
+    /// An object of all content, of which texts are parts, if that is faster.
     whole: MaybeObject,
+    /// The length of all content.
     length: usize,
 }
 

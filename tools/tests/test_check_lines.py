@@ -43,6 +43,8 @@ def test_how_long_a_line_may_be(path, begin, most):
     *((*case, "f: a function of 47 lines") for case in (
         ("x.py", "class A:\n    def f(self):\n", "        a\n", "a\n", 45),
         ("x.rs", "    fn g();\n    fn f(a: [u8; 2])\n    {\n", "        a;\n", "    }\n", 43),
+        *((file, "int g(void);\nstruct s {\n    int a;\n};\nint *f(int a,\n       int b) {\n"
+           "    if (a) {\n    }\n", "    a;\n", "}\n", 41) for file in ("x.c", "x.h", "x.cpp")),
         ("x.rt", "fn g();\nfn f(\n)\n    ensures {\n        b\n    }\n{\n", "    a;\n", "}\n", 44),
         ("x.rt", "fn f(\n    b: B,\n) -> [u8; 2] {\n", "    a;\n", "}\n", 44)))])
 def test_how_long_files_and_functions_may_be(path, begin, line, end, most, wanted):

@@ -2,13 +2,13 @@
 //! something else.
 
 #[allow(dead_code)]
-#[path = "../../vte/tests/support/memory.rs"]
-mod memory;
+#[path = "../../vte/tests/support/allocator.rs"]
+mod allocator;
 #[allow(dead_code, unused_imports, unused_macros)]
 #[path = "../src/prelude.rs"]
 mod prelude;
 
-use memory::refused;
+use allocator::refused;
 use prelude::{Global, Items};
 
 #[test]

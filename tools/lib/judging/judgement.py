@@ -20,6 +20,8 @@ MAX_CASES, MAX_OVER_LIMIT = 2000, 200
 # time passes all of these once in 64
 MORE_TRIES = 6
 NOT_DETERMINISTIC, KEPT_STATE, PROTOCOL = ALONE
+# the stream that shows whether the program answers at all
+FIRST = Case("the first stream", [b"a"])
 OUT_OF_TIME = "the time was over before all streams were judged"
 
 
@@ -92,25 +94,25 @@ class Judge:
     def run(self, cases):
         """Judges cases until there are none left or the time is over."""
         try:
-            if self.probe(Case("the first stream", [b"a"])):
-                for batch in self.time.make_batches(cases):
-                    self.judge_batch(batch)
+            reference, answer = self.sides.answer_all([FIRST.chunks])[0]
+            if mark_of(answer):
+                self.end_unanswered(Difference(FIRST.chunks, reference, answer))
+                return self.result
+            for batch in self.time.make_batches(cases):
+                self.judge_batch(batch)
         except OutOfTime:
             self.result.ended_early = OUT_OF_TIME
             self.report_examined()
         return self.result
 
-    def probe(self, case):
-        """Whether the program answers at all."""
-        reference, answer = self.sides.answer_all([case.chunks])[0]
-        kind = mark_of(answer)
-        if kind:
-            self.candidate.answer_aloud(case.chunks)
-            name = PROTOCOL if self.candidate.takes_chunks or kind == PROTOCOL else f"text/{kind}"
-            self.result.streams = self.result.different = 1
-            self.add(name, Difference(case.chunks, reference, answer), case)
-            self.result.ended_early = "the program doesn't answer the stream `a`"
-        return not kind
+    def end_unanswered(self, difference):
+        """Reports that the program doesn't answer the first stream, and ends the run."""
+        kind = mark_of(difference.candidate)
+        self.candidate.answer_aloud(FIRST.chunks)
+        name = PROTOCOL if self.candidate.takes_chunks or kind == PROTOCOL else f"text/{kind}"
+        self.result.streams = self.result.different = 1
+        self.add(name, difference, FIRST)
+        self.result.ended_early = "the program doesn't answer the stream `a`"
 
     def judge_case(self, streams):
         """Judges the last of some streams, which one process reads, and returns both answers."""
@@ -119,7 +121,7 @@ class Judge:
         self.result.streams, self.result.different = 1, int(reference != answer)
         if reference != answer:
             case, difference = Case("--case", chunks), Difference(chunks, reference, answer, before)
-            if repeated := self.confirm(case, difference, MORE_TRIES):
+            if repeated := self.repeat_or_report(case, difference, MORE_TRIES):
                 self.add(self.find_class(repeated), repeated, case)
         return reference, answer
 
@@ -138,7 +140,7 @@ class Judge:
         explained = self.find_explained([difference for _, difference in differing])
         for (case, difference), is_explained in zip(differing, explained):
             before, self.examined = self.result.unexplained_count, (case, difference)
-            repeated = difference if is_explained else self.confirm(case, difference)
+            repeated = difference if is_explained else self.repeat_or_report(case, difference)
             if repeated:
                 self.examine(case, repeated, is_explained)
             elif self.result.unexplained_count == before:  # it was only slow
@@ -148,6 +150,8 @@ class Judge:
     # ---- what is found so far
 
     def list_excluded(self, but=frozenset()):
+        """Lists the rules of which a stream is freed before it is compared again: those left out,
+        and those of the classes found so far, but not some of these."""
         return (self.result.list_rules() - but) | self.left_out
 
     def find_explained(self, differing):
@@ -159,6 +163,7 @@ class Judge:
         return [one == other for one, other in self.sides.answer_all(rests)]
 
     def add(self, name, difference, case, is_smallest=True):
+        """Adds a class to what is found, and reports it. It is known if its name or rule is."""
         is_new = name not in self.known and name.partition("/")[0] not in self.known
         finding = Finding(name, difference, case, is_new, is_smallest=is_smallest)
         self.result.findings[name] = finding
@@ -176,7 +181,7 @@ class Judge:
         if rest and self.patience.is_left():
             self.report_shrunk(case, rest, excluded)
         rules = self.result.list_rules()
-        positions = differences_of(*difference[1:3]) if rules else []
+        positions = differences_of(difference.reference, difference.candidate) if rules else []
         signatures = [(*find_nearest(difference.chunks, position, rules, self.house), kind)
                       for position, kind in positions]
         for rule, of_step, kind in signatures:
@@ -212,7 +217,7 @@ class Judge:
             self.examined = case, difference or rest
         if self.time.is_over and not difference:
             raise OutOfTime
-        if not difference or is_mixed or not self.confirm(
+        if not difference or is_mixed or not self.repeat_or_report(
                 case, difference, 1 if self.time.is_over else MORE_TRIES):
             return
         name = self.find_class(difference)
@@ -264,27 +269,35 @@ class Judge:
 
     # ---- what differs only at times
 
-    def confirm(self, case, difference, tries=1):
-        """Returns the difference that a stream has alone, each time in a new process; or None, once
-        it has reported why."""
+    def repeat_or_report(self, case, difference, tries=1):
+        """Returns the difference that a stream has alone, or None if it has none, and then reports
+        that its answer changes unless it was only slow."""
+        repeated, other = self.repeat(difference, tries)
+        if other is None:
+            return repeated
+        self.report_unrepeated(case, repeated, other)
+        return None
+
+    def repeat(self, difference, tries):
+        """Asks about a stream again: alone, and each time in a new process. Returns the difference,
+        or None if the program was only slow, and the first other answer, or None if all agree."""
         # a program that doesn't end takes its time again
         for _ in range(min(tries, 2) if mark_of(difference.candidate) in LIMITS else tries):
             again = self.sides.find_difference(difference.chunks)
             if again and is_alike(again, difference):
                 continue
             if mark_of(difference.candidate) == "hang":  # it was only slow
-                return again and self.confirm(case, again, tries)
-            return self.report_unrepeated(case, difference, again)
-        return difference._replace(before=[])
+                return self.repeat(again, tries) if again else (None, None)
+            return difference, again.candidate if again else difference.reference
+        return difference._replace(before=[]), None
 
-    def report_unrepeated(self, case, difference, again):
-        """Reports or counts that a stream has different answers: after others, or at any time."""
+    def report_unrepeated(self, case, difference, other):
+        """Reports or counts that a stream has another answer, too: after others, or at any time."""
         is_known = NOT_DETERMINISTIC in self.result.findings
         after = self.find_after_others(difference) if difference.before and not is_known else None
         name = KEPT_STATE if after else NOT_DETERMINISTIC
         if not self.result.count(name):
-            answer = again.candidate if again else difference.reference
-            self.add(name, after or Difference(difference.chunks, difference.candidate, answer),
+            self.add(name, after or Difference(difference.chunks, difference.candidate, other),
                      case)
 
     def find_after_others(self, difference):

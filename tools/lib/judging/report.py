@@ -74,8 +74,9 @@ def show_finding(finding, again):
     title = "NEW  " if finding.is_new else "KNOWN"
     shrunk = "shrunk from" if finding.is_smallest else "not shrunk to the end, from"
     names = ("yours", "then") if finding.name == "not-deterministic" else ("reference", "yours")
-    answers = zip(names, show_answers(*finding.difference[1:3]))
-    before = f"{len(finding.difference.before)} others, then " * bool(finding.difference.before)
+    _, reference, candidate, others = finding.difference
+    answers = zip(names, show_answers(reference, candidate))
+    before = f"{len(others)} others, then " * bool(others)
     lines = [f"{title} {finding.name}: {size} bytes, {shrunk} {found_size} of "
              f"{finding.found_in.name}",
              f"  input      {before}{show_text(finding.difference.chunks)}",

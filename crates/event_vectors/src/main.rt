@@ -1,5 +1,6 @@
-//! Tests of the vectors of events, and a program that prints framed streams: one line per event or,
-//! if the stream asks for it, one line per handler call. `end` comes after each stream.
+//! Tests of parsers by vectors of events, and a program that reads framed streams and prints one
+//! line per event or, if the stream asks for it, one line per handler call. `end` comes after each
+//! stream.
 //!
 //! `rt ci` runs the program with the files `stdin` and `stdout` of this crate. A pipe doesn't keep
 //! cuts, so they are part of the input; `frames` describes its form.

@@ -6,7 +6,7 @@ import pytest
 
 from tests.support import TOOLS, Tool, write
 
-PLAIN, MARK = "crates/event_vectors/src/log_tests/plain.rt", "// Written by tools/make_vectors."
+PLAIN, MARK = "crates/event_vectors/src/vectors/plain.rt", "// Written by tools/make_vectors."
 
 
 @pytest.mark.parametrize("old, new, wanted", [

@@ -126,7 +126,7 @@ impl<'a> Line<'a> {
 
     fn of_word(word: &'a str, rest: &'a str) -> Option<Self> {
         Some(match word {
-            "timeout" => Line::Timeout(Answers::read(rest)?),
+            "timeout" => Line::Timeout(Answers::from_name(rest)?),
             "advance" => Line::Advance(Repeated::once(rest)),
             "advances" => Line::Advance(Repeated::read(rest)?),
             "stop_sync" => Line::StopSync,

@@ -1,37 +1,15 @@
-//! Early stops: vectors worked out by hand. `tools/make_vectors` writes the table.
-
-mod vectors;
+//! Early stops: the vectors of them, and streams that are stopped after each event.
 
 use crate::feed::feed_with_stop;
-use crate::vectors::{LinesVector, joined_lines, tables};
+use crate::vectors::{LinesVector, Method, joined_lines, stops, tables};
 use std::process::Abort;
 use std::test::Fail;
 use test_lines::{EventLines, Stop};
 use vte_core::{Parser, Perform};
 
-/// Calls of a parser that has read `before`, with a performer that asks for a stop at `stop`.
-struct UntilVector {
-    name: &'static str,
-    stop: Stop,
-    before: &'static [u8],
-    calls: &'static [ExpectedCall],
-}
-
-/// A call, and the lines of the events that it reports.
-struct ExpectedCall {
-    method: Method,
-    bytes: &'static [u8],
-    lines: &'static [&'static str],
-}
-
-enum Method {
-    Advance,
-    UntilTerminated { answer: usize },
-}
-
 #[test]
 fn until_terminated(rt: HostRuntime) -> Result<(), Fail> {
-    for vector in &vectors::VECTORS {
+    for vector in &stops::VECTORS {
         let mut parser = Parser::<1024>::new_with_size();
         let mut lines = EventLines::new(rt.alloc(), vector.stop);
         parser.advance(&mut lines, vector.before);

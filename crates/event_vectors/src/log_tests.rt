@@ -1,51 +1,22 @@
 //! `run`, `run_text` and their performers: the vectors, and streams with their plain text.
-//! tools/make_vectors writes the table `plain`.
 
-mod faults;
+mod devices;
 mod flushes;
-mod peers;
-mod plain;
-mod recorder;
 
-use self::peers::{AtMost, Chunks, Written};
-use crate::vectors::{LinesVector, joined_lines, tables};
+use self::devices::{AtMost, Chunks, Written};
+use crate::tests::repeated_bytes;
+use crate::vectors::{LinesVector, failing_reads, joined_lines, long_lines, plain, tables};
 use event_log::{Device, Fault, Plain, Recorder, run, run_text};
 use std::alloc::{AllocError, Global};
 use std::process::Abort;
 use std::test::Fail;
 use vte_core::{LongParser, Parser, Perform};
 
-/// A stream and its plain text.
-struct PlainVector {
-    name: &'static str,
-    bytes: &'static [u8],
-    text: &'static [u8],
-}
-
 /// What a run writes.
 #[derive(Clone, Copy)]
 enum What {
     Lines,
     Text,
-}
-
-/// The chunks that a reader gives before it fails, and the lines that are written for them.
-struct FailingReadVector {
-    name: &'static str,
-    reads: &'static [&'static [u8]],
-    lines: &'static [&'static str],
-}
-
-/// The stream `front`, `times` times `unit`, and `back`; the number of bytes that a recorder holds
-/// after it, and whether a line was lost.
-struct RecorderVector {
-    name: &'static str,
-    front: &'static [u8],
-    unit: &'static [u8],
-    times: usize,
-    back: &'static [u8],
-    bytes: usize,
-    lost: bool,
 }
 
 fn each_byte<'a>(alloc: Global, bytes: &'a [u8]) -> Result<Vec<&'a [u8]>, AllocError> {
@@ -119,8 +90,8 @@ fn plain_vectors(rt: HostRuntime) -> Result<(), Fail> {
 }
 
 #[test]
-fn failing_reads(rt: HostRuntime) -> Result<(), Fail> {
-    for vector in &faults::VECTORS {
+fn failing_read_vectors(rt: HostRuntime) -> Result<(), Fail> {
+    for vector in &failing_reads::VECTORS {
         let reader = Chunks::new(vector.reads, true);
         let text = joined_lines(rt.alloc(), vector.lines)?;
         let want = Err(Fault::Read);
@@ -269,11 +240,9 @@ fn text_that_grows(rt: HostRuntime) -> Result<(), Fail> {
 }
 
 #[test]
-fn recorder_vectors(rt: HostRuntime) -> Result<(), Fail> {
-    for vector in &recorder::VECTORS {
-        let mut stream = vector.front.to_vec(rt.alloc())?;
-        stream.extend_from_slice(repeated(rt.alloc(), vector.unit, vector.times)?.as_slice())?;
-        stream.extend_from_slice(vector.back)?;
+fn long_line_vectors(rt: HostRuntime) -> Result<(), Fail> {
+    for vector in &long_lines::VECTORS {
+        let stream = repeated_bytes(rt.alloc(), &vector.stream)?;
         let mut recorder = Recorder::new();
         Parser::<1024>::new_with_size().advance(&mut recorder, stream.as_slice());
         assert_eq!(rt; recorder.bytes().len(), vector.bytes, "{}", vector.name);

@@ -1,7 +1,9 @@
-//! Reads streams that are cut into chunks and writes what they tell: one line per event or, if the
-//! stream asks for it, one line per handler call. `end` comes after each stream.
+//! Tests of parsers by vectors of events, and a program that reads framed streams and prints one
+//! line per event or, if the stream asks for it, one line per handler call. `end` comes after each
+//! stream.
 //!
-//! A pipe doesn't keep cuts, so they are part of the input; `frames` describes its form.
+//! `rt ci` runs the program with the files `stdin` and `stdout` of this crate. A pipe doesn't keep
+//! cuts, so they are part of the input; `frames` describes its form.
 #![tactic(auto)]
 
 mod calls;

@@ -1,17 +1,21 @@
-//! Vectors: streams with the lines of their events, worked out by hand. `tools/make_vectors` writes
-//! the tables.
+//! Vectors, worked out by hand. `tools/make_vectors` writes the tables whose first lines say so.
 
 mod basics;
 mod characters;
 mod cuts;
+pub(crate) mod failing_reads;
 pub(crate) mod long;
+pub(crate) mod long_lines;
 mod parameters;
+pub(crate) mod plain;
+pub(crate) mod stops;
 mod strings;
 
 use std::alloc::{AllocError, Global};
+use test_lines::Stop;
 
-/// Returns the tables of short streams. No other function names them: each that does costs a proof
-/// over the whole table.
+/// Returns the tables of short streams and the lines of their events. No other function names them:
+/// each that does costs a proof over the whole table.
 pub(crate) fn tables() -> [&'static [LinesVector]; 5] {
     [
         &basics::VECTORS,
@@ -78,4 +82,46 @@ pub(crate) struct RepeatedText {
     pub(crate) unit: &'static str,
     pub(crate) times: usize,
     pub(crate) back: &'static str,
+}
+
+/// Calls of a parser that has read `before`, with a performer that asks for a stop at `stop`.
+pub(crate) struct StopVector {
+    pub(crate) name: &'static str,
+    pub(crate) stop: Stop,
+    pub(crate) before: &'static [u8],
+    pub(crate) calls: &'static [ExpectedCall],
+}
+
+/// A call, and the lines of the events that it reports.
+pub(crate) struct ExpectedCall {
+    pub(crate) method: Method,
+    pub(crate) bytes: &'static [u8],
+    pub(crate) lines: &'static [&'static str],
+}
+
+pub(crate) enum Method {
+    Advance,
+    UntilTerminated { answer: usize },
+}
+
+/// A stream and its plain text.
+pub(crate) struct PlainVector {
+    pub(crate) name: &'static str,
+    pub(crate) bytes: &'static [u8],
+    pub(crate) text: &'static [u8],
+}
+
+/// The chunks that a reader gives before it fails, and the lines that are written for them.
+pub(crate) struct FailingReadVector {
+    pub(crate) name: &'static str,
+    pub(crate) reads: &'static [&'static [u8]],
+    pub(crate) lines: &'static [&'static str],
+}
+
+/// A stream, the number of bytes that a recorder holds after it, and whether a line was lost.
+pub(crate) struct LongLineVector {
+    pub(crate) name: &'static str,
+    pub(crate) stream: RepeatedBytes,
+    pub(crate) bytes: usize,
+    pub(crate) lost: bool,
 }

@@ -1,7 +1,7 @@
 //! The screen as a processor's handler.
 
-use crate::screen::{ROWS, Screen};
-use vte::ansi::{Attr, HandlerCall as Call, TakeCall, TakeText};
+use crate::screen::{Part, ROWS, Screen};
+use vte::ansi::{Attr, ClearMode, HandlerCall as Call, LineClearMode, TakeCall, TakeText};
 
 impl TakeCall for Screen {
     ghost Value = { Unit };
@@ -26,9 +26,8 @@ impl TakeCall for Screen {
             Call::MoveDown(rows) => self.move_to(row.saturating_add(rows), column),
             Call::MoveForward(columns) => self.move_to(row, column.saturating_add(columns)),
             Call::MoveBackward(columns) => self.move_to(row, column.saturating_sub(columns)),
-            // The modes are in the order of their numbers.
-            Call::ClearLine(mode) => self.erase(mode as u16, row, row + 1),
-            Call::ClearScreen(mode) => self.erase(mode as u16, 0, ROWS),
+            Call::ClearLine(mode) => self.erase(part_of_row(mode), row, row + 1),
+            Call::ClearScreen(mode) => self.erase(part_of_screen(mode), 0, ROWS),
             Call::TerminalAttribute(Attr::Foreground(color)) => self.style.foreground = color,
             Call::TerminalAttribute(Attr::Background(color)) => self.style.background = color,
             Call::TerminalAttribute(Attr::Reset) => self.style.select(&[0]),
@@ -49,5 +48,23 @@ impl TakeText for Screen {
     #[inline(always)]
     fn take_text(&mut self, text: &str) {
         self.draw_text(text);
+    }
+}
+
+fn part_of_row(mode: LineClearMode) -> Part {
+    match mode {
+        LineClearMode::Right => Part::AfterCursor,
+        LineClearMode::Left => Part::BeforeCursor,
+        LineClearMode::All => Part::All,
+    }
+}
+
+fn part_of_screen(mode: ClearMode) -> Part {
+    match mode {
+        ClearMode::Below => Part::AfterCursor,
+        ClearMode::Above => Part::BeforeCursor,
+        ClearMode::All => Part::All,
+        // There is no scrollback.
+        ClearMode::Saved => Part::Nothing,
     }
 }

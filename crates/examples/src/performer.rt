@@ -1,7 +1,7 @@
 //! The screen as a parser's performer.
 ghost use Rattle.std.specs.Prelude.{false};
 
-use crate::screen::{ROWS, Screen};
+use crate::screen::{Part, ROWS, Screen};
 use vte_core::{Params, Perform, PerformText};
 
 impl Perform for Screen {
@@ -45,8 +45,8 @@ impl Perform for Screen {
             'D' => self.move_to(row, column.saturating_sub(count)),
             'G' => self.move_to(row, count - 1),
             'H' | 'f' => self.move_to(count - 1, other - 1),
-            'J' => self.erase(first, 0, ROWS),
-            'K' => self.erase(first, row, row + 1),
+            'J' => self.erase(part_numbered(first), 0, ROWS),
+            'K' => self.erase(part_numbered(first), row, row + 1),
             'd' => self.move_to(count - 1, column),
             _ => {}
         }
@@ -77,5 +77,15 @@ impl PerformText for Screen {
     #[inline(always)]
     fn print_text(&mut self, text: &str) {
         self.draw_text(text);
+    }
+}
+
+/// Returns the part that ED and EL call by this number.
+fn part_numbered(number: u16) -> Part {
+    match number {
+        0 => Part::AfterCursor,
+        1 => Part::BeforeCursor,
+        2 => Part::All,
+        _ => Part::Nothing,
     }
 }

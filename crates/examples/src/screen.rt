@@ -10,6 +10,15 @@ pub const COLUMNS: usize = 80;
 
 pub const ROWS: usize = 24;
 
+/// A part of the screen or of a row. The cell at the cursor belongs to each but `Nothing`.
+#[derive(Clone, Copy)]
+pub(crate) enum Part {
+    AfterCursor,
+    BeforeCursor,
+    All,
+    Nothing,
+}
+
 /// A grid of cells, and a cursor that never leaves it.
 #[derive(Drop)]
 pub struct Screen {
@@ -158,14 +167,13 @@ impl Screen {
     pub(crate) fn line_feed(&mut self) {
         if self.row + 1 == ROWS {
             self.top = self.line_of(1);
-            self.erase(2, self.row, ROWS);
+            self.erase(Part::All, self.row, ROWS);
         }
         self.move_to(self.row + 1, self.column);
     }
 
-    /// Erases rows up to `end`: what is after the cursor (0), before it (1), or all (2), with the
-    /// cell at the cursor. The colors stay the current ones.
-    pub(crate) fn erase(&mut self, part: u16, start: usize, end: usize)
+    /// Erases a part of the rows from `start` to before `end`. Erased cells get the current colors.
+    pub(crate) fn erase(&mut self, part: Part, start: usize, end: usize)
         requires { end ≤ ROWS }
     {
         let (cursor_row, cursor_column) = self.cursor();
@@ -173,9 +181,11 @@ impl Screen {
         style.attributes = 0;
         for row in start..end {
             let (from, to) = match (part, row.cmp(&cursor_row)) {
-                (0, Ordering::Equal) => (cursor_column, COLUMNS),
-                (1, Ordering::Equal) => (0, cursor_column + 1),
-                (0, Ordering::Greater) | (1, Ordering::Less) | (2, _) => (0, COLUMNS),
+                (Part::AfterCursor, Ordering::Equal) => (cursor_column, COLUMNS),
+                (Part::BeforeCursor, Ordering::Equal) => (0, cursor_column + 1),
+                (Part::AfterCursor, Ordering::Greater)
+                | (Part::BeforeCursor, Ordering::Less)
+                | (Part::All, _) => (0, COLUMNS),
                 _ => (0, 0),
             };
             let line = self.line_of(row);

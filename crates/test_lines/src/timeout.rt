@@ -21,7 +21,7 @@ pub enum Answers {
 
 impl Answers {
     /// Returns the answers with this name.
-    pub fn read(name: &str) -> Option<Self> {
+    pub fn from_name(name: &str) -> Option<Self> {
         Some(match name {
             "counting" => Answers::Counting,
             "always" => Answers::Always,
@@ -33,14 +33,16 @@ impl Answers {
     }
 }
 
-/// A timeout that counts its calls.
+/// A timeout that answers as it is told to, and counts its calls.
 #[derive(Drop)]
 pub struct TestTimeout {
+    /// What it answers.
     pub answers: Answers,
     /// How many times it was set since it was last cleared.
     pub count: u64,
-    /// How many times it was set and cleared in all.
+    /// How many times it was set in all.
     pub sets: u64,
+    /// How many times it was cleared in all.
     pub clears: u64,
     asked_before: Cell<bool>,
     expired: Cell<bool>,

@@ -8,6 +8,7 @@ use vte::ansi::{
 
 /// An enum whose values have numbers: their indices, or what a sequence names them by.
 pub trait Variant: fmt::Debug {
+    /// Returns the number of this value.
     fn number(self) -> u64;
 }
 

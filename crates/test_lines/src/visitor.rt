@@ -9,35 +9,49 @@ pub trait CallVisitor {
     /// A call begins. This is the name of its method.
     fn visit_name(&mut self, name: &'static str);
 
+    /// A count, a position, an index, a kind, or the bits of keyboard modes.
     fn visit_number(&mut self, number: u64);
 
+    /// The last line of a scrolling region, if it is given.
     fn visit_optional_number(&mut self, number: Option<usize>);
 
+    /// A line.
     fn visit_line(&mut self, line: i32);
 
+    /// A character that is printed.
     fn visit_character(&mut self, c: char);
 
+    /// The intermediate of a question, if it has one.
     fn visit_optional_character(&mut self, c: Option<char>);
 
     /// The byte that names a clipboard.
     fn visit_byte(&mut self, byte: u8);
 
+    /// The contents of a clipboard.
     fn visit_bytes(&mut self, bytes: &[u8]);
 
+    /// The prefix or the terminator of an answer.
     fn visit_text(&mut self, text: &str);
 
+    /// A title, or `None` for the terminal's own.
     fn visit_optional_text(&mut self, text: Option<&str>);
 
+    /// A link, or `None` for the end of one.
     fn visit_link(&mut self, link: Option<Hyperlink<'_>>);
 
+    /// A colour.
     fn visit_color(&mut self, color: Rgb);
 
+    /// An attribute of characters.
     fn visit_attribute(&mut self, attribute: Attr);
 
+    /// The style of the cursor, or `None` for the terminal's own.
     fn visit_style(&mut self, style: Option<CursorStyle>);
 
+    /// The icon of the mouse cursor.
     fn visit_icon(&mut self, icon: CursorIcon);
 
+    /// How keyboard modes are applied.
     fn visit_behavior(&mut self, behavior: KeyboardModesApplyBehavior);
 
     /// A value of any other enum.

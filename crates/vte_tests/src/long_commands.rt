@@ -48,11 +48,19 @@ impl TakeCall for Measure {
     }
 }
 
-/// The number of data bytes that a parser with a limit keeps of a command by default.
-const OLD_LIMIT: usize = 1024;
+/// The number of data bytes that a processor with a limit keeps of a command by default.
+const DEFAULT_LIMIT: usize = 1024;
 
 /// The length of a chunk that is longer than any stream here.
 const WHOLE: usize = 4_000_000;
+
+/// Creates a processor whose timeout gives these answers.
+fn new_processor<A: Allocator + Copy>(
+    alloc: A,
+    answers: Answers,
+) -> Result<LongProcessor<TestTimeout, A>, AllocError> {
+    require_memory(LongProcessor::new(alloc, TestTimeout::new(answers)))
+}
 
 /// Reads bytes. Tests call this and not `advance`, whose contract would be opened by the proof of
 /// each.
@@ -62,6 +70,16 @@ fn read<A: Allocator>(
     bytes: &[u8],
 ) -> Result<(), Refused> {
     processor.advance(handler, bytes)
+}
+
+/// Checks that there is memory to read bytes.
+fn assert_read<A: Allocator>(
+    rt: &impl Abort,
+    processor: &mut LongProcessor<TestTimeout, A>,
+    handler: &mut ByCall<Measure>,
+    bytes: &[u8],
+) {
+    assert_eq!(rt; read(processor, handler, bytes), Ok(()));
 }
 
 /// Returns a command that begins with `begin`, and whose last two pieces have `count` bytes with
@@ -89,17 +107,11 @@ fn assert_commands_are_whole(
     chunk_length: usize,
 ) -> Result<(), Fail> {
     let mut handler = ByCall(Measure(NONE));
-    let mut processor = require_memory(LongProcessor::new(
-        alloc,
-        TestTimeout::new(Answers::Never),
-    ))?;
+    let mut processor = new_processor(alloc, Answers::Never)?;
     for begin in [&b"\x1b]2;"[..], b"\x1b]8;;", b"\x1b]52;c;", b"\x1b]4;1;"] {
         let stream = command_of(alloc, begin, length)?;
         for bytes in stream.as_slice().chunks(chunk_length.max(1)) {
-            assert!(rt;
-                read(&mut processor, &mut handler, bytes).is_ok(),
-                "there is memory"
-            );
+            assert_read(rt, &mut processor, &mut handler, bytes);
         }
     }
     // A clipboard ends at the next `;`, and such a colour is none.
@@ -114,8 +126,8 @@ fn assert_commands_are_whole(
 }
 
 #[test]
-fn commands_around_the_old_limit_are_whole(rt: HostRuntime) -> Result<(), Fail> {
-    for length in [OLD_LIMIT - 1, OLD_LIMIT, OLD_LIMIT + 1] {
+fn commands_around_the_default_limit_are_whole(rt: HostRuntime) -> Result<(), Fail> {
+    for length in [DEFAULT_LIMIT - 1, DEFAULT_LIMIT, DEFAULT_LIMIT + 1] {
         for chunk_length in [WHOLE, 1, 7] {
             assert_commands_are_whole(&rt, rt.alloc(), length, chunk_length)?;
         }
@@ -133,20 +145,17 @@ fn commands_of_a_million_bytes_are_whole(rt: HostRuntime) -> Result<(), Fail> {
 
 #[test]
 fn refused_call_does_nothing_whatever_memory_is_left(rt: HostRuntime) -> Result<(), Fail> {
-    let stream = command_of(rt.alloc(), b"\x1b]2;", OLD_LIMIT + 1)?;
+    let stream = command_of(rt.alloc(), b"\x1b]2;", DEFAULT_LIMIT + 1)?;
     let mut was_refused = 0_u64;
     let mut was_read = 0_u64;
     for more in [0, 16, 512, 1024, 1536, 2048, 3072, 4096, 16384] {
         let heap = LocalHeap::new(rt.alloc(), HOLD + more)?;
         let mut handler = ByCall(Measure(NONE));
-        let mut processor = require_memory(LongProcessor::new(
-            &heap,
-            TestTimeout::new(Answers::Never),
-        ))?;
+        let mut processor = new_processor(&heap, Answers::Never)?;
         match read(&mut processor, &mut handler, stream.as_slice()) {
             Ok(()) => {
                 was_read = was_read.saturating_add(1);
-                assert_eq!(rt; (handler.0.0.title, handler.0.0.calls), (OLD_LIMIT + 1, 1));
+                assert_eq!(rt; (handler.0.0.title, handler.0.0.calls), (DEFAULT_LIMIT + 1, 1));
             }
             Err(refused) => {
                 was_refused = was_refused.saturating_add(1);
@@ -165,28 +174,16 @@ fn refused_call_can_go_on(rt: HostRuntime) -> Result<(), Fail> {
     // After the hold there is room for some bytes of a command and of a text, but not for these.
     let heap = LocalHeap::new(rt.alloc(), HOLD + 4096)?;
     let mut handler = ByCall(Measure(NONE));
-    let mut processor = require_memory(LongProcessor::new(
-        &heap,
-        TestTimeout::new(Answers::Counting),
-    ))?;
+    let mut processor = new_processor(&heap, Answers::Counting)?;
     let answer = read(&mut processor, &mut handler, stream.as_slice());
     assert_eq!(rt; (answer, handler.0.0), (Err(Refused { read: 0 }), NONE));
-    assert!(rt;
-        read(&mut processor, &mut handler, b"ab\x1b]2;a;b\x07").is_ok(),
-        "there is memory"
-    );
+    assert_read(&rt, &mut processor, &mut handler, b"ab\x1b]2;a;b\x07");
     assert_eq!(rt; (handler.0.0.title, handler.0.0.calls), (3, 3));
     // In an update the bytes would be parsed when it ends.
-    assert!(rt;
-        read(&mut processor, &mut handler, b"\x1b[?2026h").is_ok(),
-        "there is memory"
-    );
+    assert_read(&rt, &mut processor, &mut handler, b"\x1b[?2026h");
     let answer = read(&mut processor, &mut handler, stream.as_slice());
     assert_eq!(rt; (answer, handler.0.0.calls), (Err(Refused { read: 0 }), 4));
-    assert!(rt;
-        read(&mut processor, &mut handler, b"cd").is_ok(),
-        "there is memory"
-    );
+    assert_read(&rt, &mut processor, &mut handler, b"cd");
     // They are held.
     assert_eq!(rt; handler.0.0.calls, 4);
     processor.stop_sync(&mut handler);
@@ -203,18 +200,12 @@ fn reserved_memory_serves_and_is_given_back(rt: HostRuntime) -> Result<(), Fail>
     let stream = command_of(rt.alloc(), b"\x1b]2;", 6000)?;
     let heap = LocalHeap::new(rt.alloc(), HOLD + 32768)?;
     let mut handler = ByCall(Measure(NONE));
-    let mut processor = require_memory(LongProcessor::new(
-        &heap,
-        TestTimeout::new(Answers::Never),
-    ))?;
+    let mut processor = new_processor(&heap, Answers::Never)?;
     let used = heap.used();
     assert!(rt; !processor.reserve(100_000), "there is less");
     assert!(rt; processor.reserve(stream.len()), "there is memory");
     let reserved = heap.used();
-    assert!(rt;
-        read(&mut processor, &mut handler, stream.as_slice()).is_ok(),
-        "there is memory"
-    );
+    assert_read(&rt, &mut processor, &mut handler, stream.as_slice());
     assert_eq!(rt; (handler.0.0.title, heap.used()), (6000, reserved));
     processor.shrink();
     assert_eq!(rt; heap.used(), used);
@@ -230,10 +221,7 @@ fn replay_takes_all_steps_if_there_is_memory(rt: HostRuntime) -> Result<(), Fail
         Step::Advance(b"c"),
     ];
     let mut handler = ByCall(Measure(NONE));
-    let mut processor = require_memory(LongProcessor::new(
-        rt.alloc(),
-        TestTimeout::new(Answers::Counting),
-    ))?;
+    let mut processor = new_processor(rt.alloc(), Answers::Counting)?;
     let answer = replay_long(&mut processor, &mut handler, &steps);
     assert_eq!(rt; (answer, processor.sync_bytes_count()), (Ok(()), 0));
     // The title, the begin and the end of an update, and three characters.
@@ -252,10 +240,7 @@ fn replay_stops_at_the_first_refused_step(rt: HostRuntime) -> Result<(), Fail> {
     // After the hold there is room for two bytes, but not for the command.
     let heap = LocalHeap::new(rt.alloc(), HOLD + 4096)?;
     let mut handler = ByCall(Measure(NONE));
-    let mut processor = require_memory(LongProcessor::new(
-        &heap,
-        TestTimeout::new(Answers::Never),
-    ))?;
+    let mut processor = new_processor(&heap, Answers::Never)?;
     let answer = replay_long(&mut processor, &mut handler, &steps);
     assert_eq!(rt; answer, Err(RefusedStep { index: 1, read: 0 }));
     assert_eq!(rt; (handler.0.0.title, handler.0.0.calls), (0, 2));

@@ -64,11 +64,23 @@ fn colors_are_cast_to_their_numbers(rt: HostRuntime) {
         (NamedColor::Cyan, 6),
         (NamedColor::White, 7),
         (NamedColor::BrightBlack, 8),
+        (NamedColor::BrightRed, 9),
+        (NamedColor::BrightGreen, 10),
+        (NamedColor::BrightYellow, 11),
+        (NamedColor::BrightBlue, 12),
+        (NamedColor::BrightMagenta, 13),
+        (NamedColor::BrightCyan, 14),
         (NamedColor::BrightWhite, 15),
         (NamedColor::Foreground, 256),
         (NamedColor::Background, 257),
         (NamedColor::Cursor, 258),
         (NamedColor::DimBlack, 259),
+        (NamedColor::DimRed, 260),
+        (NamedColor::DimGreen, 261),
+        (NamedColor::DimYellow, 262),
+        (NamedColor::DimBlue, 263),
+        (NamedColor::DimMagenta, 264),
+        (NamedColor::DimCyan, 265),
         (NamedColor::DimWhite, 266),
         (NamedColor::BrightForeground, 267),
         (NamedColor::DimForeground, 268),
@@ -118,6 +130,17 @@ fn other_variants_are_counted_from_zero(rt: HostRuntime) {
 
 #[test]
 fn keyboard_bits(rt: HostRuntime) {
+    let rows = [
+        (KeyboardModes::NO_MODE, 0),
+        (KeyboardModes::DISAMBIGUATE_ESC_CODES, 1),
+        (KeyboardModes::REPORT_EVENT_TYPES, 2),
+        (KeyboardModes::REPORT_ALTERNATE_KEYS, 4),
+        (KeyboardModes::REPORT_ALL_KEYS_AS_ESC, 8),
+        (KeyboardModes::REPORT_ASSOCIATED_TEXT, 16),
+    ];
+    for (modes, bits) in rows {
+        assert_eq!(rt; modes.bits(), bits);
+    }
     assert_eq!(rt; KeyboardModes::from_bits(32), None);
     assert_eq!(rt; KeyboardModes::from_bits_truncate(33).bits(), 1);
     assert_eq!(rt; KeyboardModes::from_bits_retain(1).complement().bits(), 30);

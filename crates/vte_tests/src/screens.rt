@@ -193,27 +193,28 @@ fn both_style(
 ) -> bool {
     match processed(alloc, stream) {
         Some(screen) => {
-            looks(screen.row(0), foreground, background, attributes)
-                && looks(parsed(stream).row(0), foreground, background, attributes)
+            has_style(screen.row(0), foreground, background, attributes)
+                && has_style(parsed(stream).row(0), foreground, background, attributes)
                 && runs_agree(alloc, stream)
         }
         None => false,
     }
 }
 
-fn looks(row: &[Cell], foreground: Color, background: Color, attributes: u32) -> bool {
+/// Returns whether the first cell of a row has these colors and attributes.
+fn has_style(row: &[Cell], foreground: Color, background: Color, attributes: u32) -> bool {
     match row {
         [cell, ..] => {
             cell.style.attributes == attributes
-                && of_palette(cell.style.foreground) == foreground
-                && of_palette(cell.style.background) == background
+                && prefer_index(cell.style.foreground) == foreground
+                && prefer_index(cell.style.background) == background
         }
         _ => false,
     }
 }
 
 /// Returns a color, by its index if it has a name and one.
-fn of_palette(color: Color) -> Color {
+fn prefer_index(color: Color) -> Color {
     match color {
         Color::Named(name) => match name as u16 {
             index @ 0..=15 => Color::Indexed(index as u8),

@@ -176,26 +176,25 @@ fn objects_are_handlers() {
     assert_takes_objects!(LongProcessor::new(Pending::default()).unwrap());
 }
 
-/// Commands with at most so many data bytes, in pieces, and whether they lose some by this limit.
-fn limited_commands(limit: usize) -> [(String, bool); 5] {
+/// Titles; whether they have one data byte more than this limit, and one piece more than are kept.
+fn titles_around(limit: usize) -> [(String, bool, bool); 5] {
     let pieces = "2;".to_owned() + &";".repeat(14);
     [
-        ("2;".to_owned() + &"a".repeat(limit - 1), false),
-        ("2;".to_owned() + &"a".repeat(limit), true),
-        (format!("{pieces}{}", "a".repeat(limit - 1)), false),
-        (format!("{pieces}{}", "a".repeat(limit)), true),
-        (format!("{pieces};a"), true),
+        ("2;".to_owned() + &"a".repeat(limit - 1), false, false),
+        ("2;".to_owned() + &"a".repeat(limit), true, false),
+        (format!("{pieces}{}", "a".repeat(limit - 1)), false, false),
+        (format!("{pieces}{}", "a".repeat(limit)), true, false),
+        (format!("{pieces};a"), false, true),
     ]
 }
 
-/// Asserts that a processor keeps so many data bytes, and says what it loses: also in a copy, and
-/// not before the bytes are parsed.
+/// Asserts that a processor keeps so many data bytes, or if it isn't limited any number, and says
+/// what it loses: also in a copy, and not before the bytes are parsed.
 macro_rules! assert_keeps {
-    ($limit:expr, $new:expr, $loses:expr) => {
-        for (index, (command, lost)) in limited_commands($limit).into_iter().enumerate() {
-            // the last one has too many pieces
-            let (lost, mut lines) = (lost && (index == 4 || $loses), CallLines::default());
-            let mut processor = $new;
+    ($limit:expr, $new:expr, $is_limited:expr) => {
+        for (command, is_too_long, has_too_many_pieces) in titles_around($limit) {
+            let lost = has_too_many_pieces || (is_too_long && $is_limited);
+            let (mut processor, mut lines) = ($new, CallLines::default());
             let _ = processor.advance(&mut lines, format!("\x1b]{command}").as_bytes());
             assert_eq!(processor.command_lost_data(), lost, "{command}");
             assert_eq!(processor.clone().command_lost_data(), lost, "{command}");
@@ -203,8 +202,8 @@ macro_rules! assert_keeps {
             // a further call, which may allocate, doesn't forget it
             let _ = processor.advance(&mut lines, b"\x00");
             assert_eq!(processor.command_lost_data(), lost, "{command}");
-            // the last one loses a `;` too
-            let cut = usize::from(lost) + usize::from(index == 4);
+            // a piece goes with its `;`
+            let cut = usize::from(lost) + usize::from(has_too_many_pieces);
             let kept = &command["2;".len()..command.len() - cut];
             assert_eq!(lines.take(), format!("set_title Some({kept:?})\n"));
             let _ = processor.advance(&mut lines, b"\x1b]2;a\x07\x1b[?2026h");

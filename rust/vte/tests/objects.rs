@@ -25,9 +25,9 @@ fn up_to(stop: usize, events: &str) -> String {
     events.split_inclusive('\n').take_while(is_before).collect()
 }
 
-/// Reads in these ways, with a performer and with an object of it: both receive these events, up
-/// to a stop if that is asked for, with this text and these data in one run and one slice if there
-/// are any; and asked nothing but whether they keep the layout and whether they are terminated.
+/// Asserts what a performer and an object of its trait receive from each way to read: the events,
+/// the text of all runs and the data of all slices; and whether they are asked if they keep the
+/// layout, and if they are terminated. In ways that ask the latter, a stop comes after each event.
 macro_rules! assert_reports {
     ($($trait:ident, $keeps:literal: |$it:ident| $read:expr
         => $events:expr, $run:expr, $slice:expr, $asked:expr;)*) => {$({
@@ -38,11 +38,11 @@ macro_rules! assert_reports {
             let when = if $asked.1 { Stop::AfterOthers(stop) } else { Stop::Never };
             let events = if $asked.1 { up_to(stop, $events) } else { $events.to_owned() };
             let new = || EventLines::<$keeps>::new(when);
-            let (mut performer, mut behind) = (new(), new());
-            read(&mut performer);
-            let object: &mut dyn $trait = &mut behind;
+            let (mut by_type, mut by_object) = (new(), new());
+            read(&mut by_type);
+            let object: &mut dyn $trait = &mut by_object;
             read(object);
-            for lines in [performer, behind] {
+            for lines in [by_type, by_object] {
                 let case = concat!(stringify!($read), " of ", stringify!($trait));
                 assert_eq!(lines.text, events, "{case}, stop {stop}");
                 assert_eq!(lines.asked.get(), $asked, "{case}, stop {stop}");

@@ -24,8 +24,8 @@ fn assert_runs(lines: &str, found: &[String], runs: &[&str]) {
     assert_eq!(count, in_runs.chars().count());
 }
 
-/// The events of a stream in chunks, by `advance_text`.
-fn events_of<const KEEPS: bool>(chunks: &[&[u8]]) -> EventLines<KEEPS> {
+/// The events of a stream in chunks, with text in runs.
+fn events_in_runs<const KEEPS: bool>(chunks: &[&[u8]]) -> EventLines<KEEPS> {
     let (mut parser, mut lines) = (Parser::new(), EventLines::default());
     for chunk in chunks {
         parser.advance_text(&mut lines, chunk);
@@ -60,18 +60,18 @@ fn line_ends_are_in_the_runs_of_those_who_keep_them() {
     let of_four = "\u{1f600} a face\n";
     for line in ["an item\tand another\r\n", of_two, of_three, of_four] {
         let text = line.repeat(100);
-        let lines = events_of::<true>(&[text.as_bytes()]);
+        let lines = events_in_runs::<true>(&[text.as_bytes()]);
         assert_runs(&lines.text, &lines.runs, &[&text]);
         // without line ends one run will do for others, too
         let plain = text.replace(['\t', '\n', '\r'], "");
-        let lines = events_of::<false>(&[plain.as_bytes()]);
+        let lines = events_in_runs::<false>(&[plain.as_bytes()]);
         assert_runs(&lines.text, &lines.runs, &[&plain]);
     }
 }
 
 #[test]
 fn parsers_pass_device_data_in_slices() {
-    let lines = events_of::<false>(&[IMAGE]);
+    let lines = events_in_runs::<false>(&[IMAGE]);
     assert_eq!(lines.slices, [&b"#0~\r~"[..], b"~~"]);
     let (mut long, mut long_lines) = (LongParser::new(), <EventLines>::default());
     assert_eq!(long.advance_text(&mut long_lines, &IMAGE[..5]), Ok(()));
@@ -94,13 +94,16 @@ fn calls_that_may_stop_pass_slices_of_one_byte() {
     assert_eq!(lines.slices, [b"#", b"0", b"~", b"\r", b"~", b"~", b"~"]);
 }
 
-/// Has the methods for text alone, which may keep HT, LF and CR, and no method for slices.
+/// Has the methods for text in runs alone, which may keep HT, LF and CR, and no method for slices.
 #[derive(Default)]
-struct Text<const KEEPS: bool>(String, Vec<u8>);
+struct Text<const KEEPS: bool> {
+    text: String,
+    data: Vec<u8>,
+}
 
 impl<const KEEPS: bool> Perform for Text<KEEPS> {
     fn put(&mut self, byte: u8) {
-        self.1.push(byte);
+        self.data.push(byte);
     }
 }
 
@@ -110,7 +113,7 @@ impl<const KEEPS: bool> PerformText for Text<KEEPS> {
     }
 
     fn print_text(&mut self, text: &str) {
-        self.0.push_str(text);
+        self.text.push_str(text);
     }
 }
 
@@ -118,7 +121,7 @@ impl Handler for Text<false> {}
 
 impl HandlerText for Text<false> {
     fn input_text(&mut self, text: &str) {
-        self.0.push_str(text);
+        self.text.push_str(text);
     }
 }
 
@@ -126,7 +129,7 @@ impl HandlerText for Text<false> {
 fn slices_are_put_byte_by_byte_by_default() {
     let mut text = Text::<false>::default();
     Parser::new().advance_text(&mut text, IMAGE);
-    assert_eq!(text.1, b"#0~\r~~~");
+    assert_eq!(text.data, b"#0~\r~~~");
 }
 
 #[test]
@@ -142,16 +145,16 @@ fn text_comes_by_the_method_for_text_alone_however_it_is_cut() {
     ] {
         let printed = wanted.replace(['\t', '\n', '\r'], "");
         for at in 0..=stream.len() {
-            let (mut kept, mut text, mut shown) =
+            let (mut with_layout, mut without, mut shown) =
                 <(Text<true>, Text<false>, Text<false>)>::default();
             let (mut parser, mut other) = (Parser::new(), Parser::new());
             let mut processor = Processor::<Pending>::new();
             for chunk in [&stream[..at], &stream[at..]] {
-                parser.advance_text(&mut kept, chunk);
-                other.advance_text(&mut text, chunk);
+                parser.advance_text(&mut with_layout, chunk);
+                other.advance_text(&mut without, chunk);
                 processor.advance_text(&mut shown, chunk);
             }
-            let found = [kept.0, text.0, shown.0];
+            let found = [with_layout.text, without.text, shown.text];
             assert_eq!(found, [wanted, &printed, &printed], "{stream:?} at {at}");
         }
     }
@@ -162,5 +165,5 @@ fn repeated_characters_come_as_text_too() {
     let (mut text, mut processor) = (Text::<false>::default(), Processor::<Pending>::new());
     processor.advance_text(&mut text, "ab\u{e9}\x1b[2bc\x1b[?2026hd\x1b[b".as_bytes());
     processor.stop_sync_text(&mut text);
-    assert_eq!(text.0, "ab\u{e9}\u{e9}\u{e9}cdd");
+    assert_eq!(text.text, "ab\u{e9}\u{e9}\u{e9}cdd");
 }

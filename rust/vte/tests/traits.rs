@@ -74,9 +74,9 @@ fn debug_shows_a_name() {
     }
     #[cfg(feature = "ansi")]
     {
-        let (processor, long) = (Processor::new(), LongProcessor::new(Pending(false)));
-        let (processor, long): (Processor<Pending>, _) = (processor, long.ok().unwrap());
+        let processor = Processor::<Pending>::new();
         assert_shown!(processor, "Processor { sync_bytes_count: 8, .. }");
+        let long = LongProcessor::new(Pending::default()).unwrap();
         assert_shown!(long, "LongProcessor { sync_bytes_count: 8, .. }");
     }
 }

@@ -41,7 +41,7 @@ fn check<P: Clone, const KEEPS: bool>(
     }
 }
 
-/// Advances, and is asked to stop.
+/// Reads all bytes by the method that may stop: no performer here is terminated.
 fn advance_all(parser: &mut Parser, lines: &mut EventLines, bytes: &[u8]) {
     let read = parser.advance_until_terminated(lines, bytes);
     assert_eq!(read, bytes.len());

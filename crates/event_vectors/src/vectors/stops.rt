@@ -1,11 +1,11 @@
 //! Early stops.
 // Written by tools/make_vectors.
 
-use super::{ExpectedCall, Method, UntilVector};
+use super::{ExpectedCall, Method, StopVector};
 use test_lines::Stop;
 
-pub(crate) static VECTORS: [UntilVector; 8] = [
-    UntilVector {
+pub(crate) static VECTORS: [StopVector; 8] = [
+    StopVector {
         name: "stop at an unfinished character found malformed",
         stop: Stop::AtPrint,
         before: b"",
@@ -22,7 +22,7 @@ pub(crate) static VECTORS: [UntilVector; 8] = [
             },
         ],
     },
-    UntilVector {
+    StopVector {
         name: "stop inside a run of text",
         stop: Stop::AtPrint,
         before: b"",
@@ -39,7 +39,7 @@ pub(crate) static VECTORS: [UntilVector; 8] = [
             },
         ],
     },
-    UntilVector {
+    StopVector {
         name: "stop after an ESC sequence",
         stop: Stop::AtEscape,
         before: b"",
@@ -49,7 +49,7 @@ pub(crate) static VECTORS: [UntilVector; 8] = [
             lines: &["esc - false 63"],
         }],
     },
-    UntilVector {
+    StopVector {
         name: "begun character carried on without a question",
         stop: Stop::Reached,
         before: b"\xe4",
@@ -59,7 +59,7 @@ pub(crate) static VECTORS: [UntilVector; 8] = [
             lines: &["print 4fd9"],
         }],
     },
-    UntilVector {
+    StopVector {
         name: "begun character found malformed at the first byte",
         stop: Stop::Reached,
         before: b"\xe4",
@@ -69,7 +69,7 @@ pub(crate) static VECTORS: [UntilVector; 8] = [
             lines: &["print fffd"],
         }],
     },
-    UntilVector {
+    StopVector {
         name: "no bytes, terminated from the start",
         stop: Stop::Reached,
         before: b"",
@@ -79,7 +79,7 @@ pub(crate) static VECTORS: [UntilVector; 8] = [
             lines: &[],
         }],
     },
-    UntilVector {
+    StopVector {
         name: "no bytes, never terminated",
         stop: Stop::Never,
         before: b"",
@@ -89,7 +89,7 @@ pub(crate) static VECTORS: [UntilVector; 8] = [
             lines: &[],
         }],
     },
-    UntilVector {
+    StopVector {
         name: "unfinished character counts as read",
         stop: Stop::Never,
         before: b"",

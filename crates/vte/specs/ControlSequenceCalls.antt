@@ -24,7 +24,7 @@ change_call change.ResetPrivate number = call.UnsetPrivateMode (private_mode_of 
 abbrev pub change_calls : ModeChange → List ℕ → List Call
 change_calls which numbers = map (λ number. change_call which number) numbers
 
--- ---- all calls
+-- ---- calls of single sequences
 
 -- The last printed character, this many times, or nothing if no character was printed (REP).
 abbrev pub repeat_calls : Option ℕ → ℕ → List Call
@@ -54,6 +54,8 @@ abbrev pub scp_calls : ℕ → ℕ → List Call
 scp_calls path update =
     call_both (λ path update. call.SetScp path update) (entry_of char_path_table path)
     (entry_of scp_update_table update)
+
+-- ---- calls by intermediates and final byte
 
 module _ (last : Option ℕ) (groups : List (List ℕ)) where
   -- Parameters as ECMA-48 names them, one per group: a number Pn is 1 if it is 0 or omitted, and an

@@ -18,7 +18,7 @@ use Rattle.vte_types.specs.declared.screen.CursorShape.TheVariants as shape
 use Rattle.vte_types.specs.NamedColor.{number_of_color}
 use Rattle.vte_types.specs.Words.{after_word, entry_of, entry_of_word, Row}
 
--- ---- titles of a window
+-- ---- texts of pieces
 
 -- The text of a piece. One that isn't UTF-8 counts as empty if all are kept, as in a link, and is
 -- left out otherwise, as in a title.
@@ -29,17 +29,14 @@ text_in keeps_all piece = if is_utf8 piece then Some piece else if keeps_all the
 abbrev pub joined_texts : Bool → List (List ℕ) → List ℕ
 joined_texts keeps_all pieces = join_with_byte 0x3b (filter_map (text_in keeps_all) pieces)
 
--- Without a piece there is no title.
+-- ---- titles
+
+-- 0, 2: the title. Without a piece there is none.
 abbrev pub title_calls : List (List ℕ) → List Call
 title_calls [] = []
 title_calls (text ∷ texts) = SetTitle (Some (trim (joined_texts false (text ∷ texts)))) ∷ []
 
--- ---- all calls
-
--- The terminator that a reply to the command should have.
-abbrev pub terminator_of : Bool → List ℕ
-terminator_of true = 0x07 ∷ []
-terminator_of false = 0x1b ∷ 0x5c ∷ []
+-- ---- colours
 
 -- `?` queries a colour; a colour sets it.
 abbrev pub color_calls : List ℕ → ℕ → List ℕ → List ℕ → List Call
@@ -64,6 +61,33 @@ abbrev pub palette_calls : List ℕ → List (List ℕ) → List Call
 palette_calls terminator texts =
     if length texts % 2 == 0 then palette_entries_calls terminator texts else []
 
+-- 10, 11, 12: the dynamic colours. Further texts are for the next ones.
+abbrev pub dynamic_colors : List (Row NamedColor)
+dynamic_colors = (10, Foreground) ∷ (11, Background) ∷ (12, Cursor) ∷ []
+
+abbrev pub dynamic_color_calls : ℕ → List ℕ → List ℕ → Option NamedColor → List Call
+dynamic_color_calls code terminator text None = []
+dynamic_color_calls code terminator text (Some color) =
+    color_calls (decimal code) (number_of_color color) terminator text
+
+abbrev pub dynamic_calls : ℕ → List ℕ → List (List ℕ) → List Call
+dynamic_calls code terminator [] = []
+dynamic_calls code terminator (text ∷ texts) =
+    dynamic_color_calls code terminator text (entry_of dynamic_colors code)
+    ++ dynamic_calls (code + 1) terminator texts
+
+-- 104: colours of the palette are reset, all of them without an index.
+unfoldable pub all_reset : List Call
+all_reset = map (λ index. call.ResetColor index) (range_with_len 0 256)
+
+abbrev pub reset_calls : List (List ℕ) → List Call
+reset_calls [] = all_reset
+reset_calls ([] ∷ texts) = all_reset
+reset_calls ((byte ∷ text) ∷ texts) =
+    map (λ index. call.ResetColor index) (filter_map decimal_number ((byte ∷ text) ∷ texts))
+
+-- ---- links
+
 -- 8: a link. Its identity is the text after `id=` in the first part that starts with it.
 abbrev pub id_of : List ℕ → Option (List ℕ)
 id_of parameters =
@@ -79,20 +103,7 @@ link_calls (parameters ∷ []) = []
 link_calls (parameters ∷ text ∷ texts) =
     call.SetHyperlink (link_to parameters (joined_texts true (text ∷ texts))) ∷ []
 
--- 10, 11, 12: the dynamic colours. Further texts are for the next ones.
-abbrev pub dynamic_colors : List (Row NamedColor)
-dynamic_colors = (10, Foreground) ∷ (11, Background) ∷ (12, Cursor) ∷ []
-
-abbrev pub dynamic_color_calls : ℕ → List ℕ → List ℕ → Option NamedColor → List Call
-dynamic_color_calls code terminator text None = []
-dynamic_color_calls code terminator text (Some color) =
-    color_calls (decimal code) (number_of_color color) terminator text
-
-abbrev pub dynamic_calls : ℕ → List ℕ → List (List ℕ) → List Call
-dynamic_calls code terminator [] = []
-dynamic_calls code terminator (text ∷ texts) =
-    dynamic_color_calls code terminator text (entry_of dynamic_colors code)
-    ++ dynamic_calls (code + 1) terminator texts
+-- ---- pointer and cursor
 
 -- 22: the pointer's icon, by its keyword.
 abbrev pub pointer_calls : List (List ℕ) → List Call
@@ -114,6 +125,8 @@ shape_calls (text ∷ texts) =
     call_some (λ shape. call.SetCursorShape shape)
     (shape_after (after_word (codes "CursorShape=") text))
 
+-- ---- the clipboard
+
 -- 52: the clipboard. The first byte selects it, `c` if there is none.
 abbrev pub clipboard_of : List ℕ → ℕ
 clipboard_of [] = 0x63
@@ -126,15 +139,12 @@ clipboard_calls terminator (name ∷ stored ∷ more) =
     (if bytes_eq stored (codes "?") then call.ClipboardLoad (clipboard_of name) terminator
     else call.ClipboardStore (clipboard_of name) stored) ∷ []
 
--- 104: colours of the palette are reset, all of them without an index.
-unfoldable pub all_reset : List Call
-all_reset = map (λ index. call.ResetColor index) (range_with_len 0 256)
+-- ---- all commands
 
-abbrev pub reset_calls : List (List ℕ) → List Call
-reset_calls [] = all_reset
-reset_calls ([] ∷ texts) = all_reset
-reset_calls ((byte ∷ text) ∷ texts) =
-    map (λ index. call.ResetColor index) (filter_map decimal_number ((byte ∷ text) ∷ texts))
+-- The terminator that a reply to the command should have.
+abbrev pub terminator_of : Bool → List ℕ
+terminator_of true = 0x07 ∷ []
+terminator_of false = 0x1b ∷ 0x5c ∷ []
 
 -- xterm's commands: the first piece selects what the others ask for.
 abbrev pub command_table : List (List ℕ × (List ℕ → List (List ℕ) → List Call))

@@ -24,7 +24,7 @@ change_call change.ResetPrivate number = call.UnsetPrivateMode (private_mode_of 
 abbrev pub change_calls : ModeChange → List ℕ → List Call
 change_calls which numbers = map (λ number. change_call which number) numbers
 
--- ---- all calls
+-- ---- calls of single sequences
 
 -- The last printed character, this many times, or nothing if no character was printed (REP).
 abbrev pub repeat_calls : Option ℕ → ℕ → List Call
@@ -49,11 +49,23 @@ modify_keys_calls resource value =
     (entry_of modify_other_keys_table value)
     else []
 
+-- The query of `modifyOtherKeys` (XTQMODKEYS).
+abbrev pub modify_keys_query_calls : List (List ℕ) → List Call
+modify_keys_query_calls groups =
+    if asks_for_modify_other_keys groups then call.ReportModifyOtherKeys ∷ [] else []
+
+-- The cursor's style, or nothing if the number is unknown (DECSCUSR).
+abbrev pub cursor_style_calls : ℕ → List Call
+cursor_style_calls style =
+    call_some (λ style. call.SetCursorStyle style) (entry_of cursor_style_table style)
+
 -- The path of characters and how it is updated, or nothing if one of them is unknown (SCP).
 abbrev pub scp_calls : ℕ → ℕ → List Call
 scp_calls path update =
     call_both (λ path update. call.SetScp path update) (entry_of char_path_table path)
     (entry_of scp_update_table update)
+
+-- ---- calls by intermediates and final byte
 
 module _ (last : Option ℕ) (groups : List (List ℕ)) where
   -- Parameters as ECMA-48 names them, one per group: a number Pn is 1 if it is 0 or omitted, and an
@@ -114,11 +126,7 @@ module _ (last : Option ℕ) (groups : List (List ℕ)) where
       (0x57, unwrap_or (entry_of set_tabs_table ps) []) ∷  -- W: DECST8C
       (0x68, change_calls change.SetPrivate (first_numbers groups)) ∷  -- h: DECSET
       (0x6c, change_calls change.ResetPrivate (first_numbers groups)) ∷  -- l: DECRST
-      (
-        0x6d,
-        if asks_for_modify_other_keys groups then call.ReportModifyOtherKeys ∷ []
-            else [],
-      ) ∷  -- m: XTQMODKEYS
+      (0x6d, modify_keys_query_calls groups) ∷  -- m: XTQMODKEYS
       (0x75, call.ReportKeyboardMode ∷ []) ∷  -- u: kitty
       []
 
@@ -141,11 +149,7 @@ module _ (last : Option ℕ) (groups : List (List ℕ)) where
   abbrev pub space_table : List (Row (List Call))
   space_table =
       (0x6b, scp_calls ps ps2) ∷  -- k: SCP
-      (
-        0x71,
-        call_some (λ x. call.SetCursorStyle x)
-            (entry_of cursor_style_table ps),
-      ) ∷  -- q: DECSCUSR
+      (0x71, cursor_style_calls ps) ∷  -- q: DECSCUSR
       []
 
   abbrev pub dollar_table : List (Row (List Call))

@@ -60,10 +60,10 @@ module _ {T V W : Type 0} {value : V} {state : State V W} where
   }
 
 -- A slice is parsed with the memory that was reserved for it.
-module _ {P B T A V W : Type 0} {view : EngineView P B T W} {meaning : Meaning V W} {start : State V W} {bytes slice :
-    List ℕ}
-    {read count n : ℕ} {begins : Bool}
-    {first old taken : Engine P B T A} {parser : P} {state : ProcessorState T B} {before value : V} where
+module _ {P B T A V W : Type 0} {view : EngineView P B T W} {meaning : Meaning V W}
+    {start : State V W} {bytes slice : List ℕ} {read count n : ℕ} {begins : Bool}
+    {first old taken : Engine P B T A} {parser : P} {state : ProcessorState T B}
+    {before value : V} where
   pub slice-parsed : HasParsedWithoutBegin meaning start bytes read
       (IsAtKeepingMemory (engine_facts view first) (engine_facts view old) before)
       → Reserves (engine_facts view old) (engine_facts view taken) count true

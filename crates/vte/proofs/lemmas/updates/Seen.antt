@@ -77,6 +77,12 @@ no_escape-within (a ∷ sequence) (b ∷ text) zero no_escape inside is_escape =
 no_escape-within (a ∷ sequence) (b ∷ text) (suc i) no_escape inside is_escape =
     is_prefix_of-further a b sequence text (no_escape-within sequence text i no_escape.1 (omega arith) is_escape)
 
+begin_update_has_no_escape : HasNoEscape (drop 1 begin_update)
+begin_update_has_no_escape = (refl, (refl, (refl, (refl, (refl, (refl, (refl, tt)))))))
+
+end_update_has_no_escape : HasNoEscape (drop 1 end_update)
+end_update_has_no_escape = (refl, (refl, (refl, (refl, (refl, (refl, (refl, tt)))))))
+
 neither-before : (text : List ℕ) (position escape : ℕ) → position < escape → escape < position + 8
     → escape < length text
     → eqb (get_or text escape 0) 0x1b ≡ true → HasNoSequenceAt text position
@@ -93,8 +99,8 @@ neither-before text position escape before near inside is_escape =
     rw cut
     (is_prefix_of-further 0x1b _ sequence _ (no_escape-within sequence _ i no_escape (omega (arith, size_is)) there)) in
     record {
-      no_begin = none_begins (drop 1 begin_update) (refl, (refl, (refl, (refl, (refl, (refl, (refl, tt))))))) refl;
-      no_end = none_begins (drop 1 end_update) (refl, (refl, (refl, (refl, (refl, (refl, (refl, tt))))))) refl;
+      no_begin = none_begins (drop 1 begin_update) begin_update_has_no_escape refl;
+      no_end = none_begins (drop 1 end_update) end_update_has_no_escape refl;
     }
 
 after_word-begin : (text : List ℕ) → is_prefix_of begin_update text ≡ true → after_word end_update text ≡ None

@@ -57,7 +57,7 @@ pub(crate) fn perform_system_command<H: Handler, B: TextBuffer>(
     }
 }
 
-/// Sets the title that these pieces make: 0 and 2. A title of one piece is lent, and not copied.
+/// Sets the title that these pieces make (OSC 0 and 2). A title of one piece is lent, not copied.
 #[tactic(auto, using(crate::proofs::lemmas::calls::JoinedTexts::one_text))]
 fn set_title<H: Handler, B: TextBuffer>(handler: &mut H, text: &mut B, texts: &[&[u8]])
     requires { FitsTextCapacity (B.text_capacity text.old) (map (λ piece. piece.now) texts.now) }
@@ -118,7 +118,7 @@ fn set_palette_entry<H: Handler>(handler: &mut H, index: &[u8], color: &[u8], te
     }
 }
 
-/// Sets colours of the palette, or asks for them: 4. Each index is followed by its colour.
+/// Sets colours of the palette, or asks for them (OSC 4). Each index is followed by its colour.
 #[tactic(auto, using(crate::proofs::lemmas::calls::Loops::entry_made))]
 fn set_palette<H: Handler>(handler: &mut H, texts: &[&[u8]], terminator: &str)
     ensures { H.value_of handler.new
@@ -135,7 +135,7 @@ fn set_palette<H: Handler>(handler: &mut H, texts: &[&[u8]], terminator: &str)
     }
 }
 
-/// Sets the link that these pieces make: 8. A URI of one piece is lent, and not copied.
+/// Sets the link that these pieces make (OSC 8). A URI of one piece is lent, not copied.
 #[tactic(auto, using(crate::proofs::lemmas::calls::JoinedTexts::one_text))]
 fn set_link<H: Handler, B: TextBuffer>(handler: &mut H, text: &mut B, texts: &[&[u8]])
     requires { FitsTextCapacity (B.text_capacity text.old) (map (λ piece. piece.now) texts.now) }
@@ -181,7 +181,8 @@ fn set_dynamic_color<H: Handler>(handler: &mut H, code: usize, text: &[u8], term
     }
 }
 
-/// Sets dynamic colours, or asks for them: 10, 11 or 12, and those that follow, one for each text.
+/// Sets dynamic colours, or asks for them (OSC 10, 11 and 12): that of `first` and those that
+/// follow, one for each text.
 #[tactic(auto, using(crate::proofs::lemmas::EventCalls::appended))]
 fn set_dynamic_colors<H: Handler>(handler: &mut H, first: usize, texts: &[&[u8]], terminator: &str)
     requires { first ≤ 12 }
@@ -196,7 +197,7 @@ fn set_dynamic_colors<H: Handler>(handler: &mut H, first: usize, texts: &[&[u8]]
     }
 }
 
-/// Sets the icon of the mouse pointer: 22.
+/// Sets the icon of the mouse pointer (OSC 22).
 fn set_pointer<H: Handler>(handler: &mut H, texts: &[&[u8]])
     ensures { H.value_of handler.new
         ≡ after H.step (H.value_of handler.old)
@@ -217,7 +218,7 @@ fn find_icon(name: &[u8]) -> Option<CursorIcon>
     CursorIcon::from_str(text_in(name, false)?).ok()
 }
 
-/// Sets the shape of the cursor: 50.
+/// Sets the shape of the cursor (OSC 50).
 fn set_shape<H: Handler>(handler: &mut H, texts: &[&[u8]])
     ensures { H.value_of handler.new
         ≡ after H.step (H.value_of handler.old) (shape_calls (map (λ piece. piece.now) texts.now)) }
@@ -232,7 +233,7 @@ fn set_shape<H: Handler>(handler: &mut H, texts: &[&[u8]])
     }
 }
 
-/// Stores data in a clipboard, or asks for what it holds: 52.
+/// Stores data in a clipboard, or asks for what it holds (OSC 52).
 fn use_clipboard<H: Handler>(handler: &mut H, texts: &[&[u8]], terminator: &str)
     ensures { H.value_of handler.new
         ≡ after H.step (H.value_of handler.old)
@@ -258,7 +259,7 @@ fn reset_all<H: Handler>(handler: &mut H)
     }
 }
 
-/// Resets colours of the palette: 104. Without an index, all are reset.
+/// Resets colours of the palette (OSC 104). Without an index, all are reset.
 fn reset_colors<H: Handler>(handler: &mut H, texts: &[&[u8]])
     ensures { H.value_of handler.new
         ≡ after H.step (H.value_of handler.old) (reset_calls (map (λ piece. piece.now) texts.now)) }

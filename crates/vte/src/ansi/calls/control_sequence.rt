@@ -97,28 +97,28 @@ fn perform_without_intermediates<H: InputAs<G>, G>(
 {
     let mut numbers = params.iter();
     match action {
-        '@' => handler.insert_blank(usize::from(numbers.next_or(1))),
-        'A' => handler.move_up(usize::from(numbers.next_or(1))),
-        'B' | 'e' => handler.move_down(usize::from(numbers.next_or(1))),
-        'C' | 'a' => handler.move_forward(usize::from(numbers.next_or(1))),
-        'D' => handler.move_backward(usize::from(numbers.next_or(1))),
-        'E' => handler.move_down_and_cr(usize::from(numbers.next_or(1))),
-        'F' => handler.move_up_and_cr(usize::from(numbers.next_or(1))),
-        'G' | '`' => handler.goto_col(usize::from(numbers.next_or(1)) - 1),
+        '@' => handler.insert_blank(numbers.next_count()),
+        'A' => handler.move_up(numbers.next_count()),
+        'B' | 'e' => handler.move_down(numbers.next_count()),
+        'C' | 'a' => handler.move_forward(numbers.next_count()),
+        'D' => handler.move_backward(numbers.next_count()),
+        'E' => handler.move_down_and_cr(numbers.next_count()),
+        'F' => handler.move_up_and_cr(numbers.next_count()),
+        'G' | '`' => handler.goto_col(numbers.next_count() - 1),
         'H' | 'f' => {
             let line = i32::from(numbers.next_or(1)) - 1;
-            let column = usize::from(numbers.next_or(1)) - 1;
+            let column = numbers.next_count() - 1;
             handler.goto(line, column);
         }
         'I' => handler.move_forward_tabs(numbers.next_or(1)),
         'J' => clear_screen(handler, numbers.next_or(0)),
         'K' => clear_line(handler, numbers.next_or(0)),
-        'L' => handler.insert_blank_lines(usize::from(numbers.next_or(1))),
-        'M' => handler.delete_lines(usize::from(numbers.next_or(1))),
-        'P' => handler.delete_chars(usize::from(numbers.next_or(1))),
-        'S' => handler.scroll_up(usize::from(numbers.next_or(1))),
-        'T' => handler.scroll_down(usize::from(numbers.next_or(1))),
-        'X' => handler.erase_chars(usize::from(numbers.next_or(1))),
+        'L' => handler.insert_blank_lines(numbers.next_count()),
+        'M' => handler.delete_lines(numbers.next_count()),
+        'P' => handler.delete_chars(numbers.next_count()),
+        'S' => handler.scroll_up(numbers.next_count()),
+        'T' => handler.scroll_down(numbers.next_count()),
+        'X' => handler.erase_chars(numbers.next_count()),
         'Z' => handler.move_backward_tabs(numbers.next_or(1)),
         'b' => repeat::<H, G>(handler, preceding_char, numbers.next_or(1)),
         'd' => handler.goto_line(i32::from(numbers.next_or(1)) - 1),
@@ -128,7 +128,7 @@ fn perform_without_intermediates<H: InputAs<G>, G>(
         'm' => perform_attributes(handler, params),
         'n' => handler.device_status(usize::from(numbers.next_or(0))),
         'r' => {
-            let top = usize::from(numbers.next_or(1));
+            let top = numbers.next_count();
             handler.set_scrolling_region(top, read_scrolling_bottom(numbers.next_or(0)));
         }
         's' => handler.save_cursor_position(),

@@ -31,6 +31,16 @@ pub(crate) trait NumberIterator {
             _ => default,
         }
     }
+
+    /// Returns the next number as a count, or 1 if it is 0 or there is none left.
+    // cargo: #[inline]
+    fn next_count(&mut self) -> usize
+        ensures value { result ≡ first_nonzero_or 1 (map number (left self.old)) }
+        ensures left_is { left self.new ≡ drop 1 (left self.old) }
+        ensures positive { 0 < result }
+    {
+        usize::from(self.next_or(1))
+    }
 }
 
 /// Takes the first number of each group.

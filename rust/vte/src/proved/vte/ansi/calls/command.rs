@@ -41,7 +41,7 @@ pub(crate) fn perform_system_command<H: Handler + ?Sized, B: TextBuffer>(
     }
 }
 
-/// Sets the title that these pieces make: 0 and 2. A title of one piece is lent, and not copied.
+/// Sets the title that these pieces make (OSC 0 and 2). A title of one piece is lent, not copied.
 fn set_title<H: Handler + ?Sized, B: TextBuffer>(handler: &mut H, text: &mut B, texts: &[&[u8]]) {
     match texts {
         [] => {}
@@ -94,7 +94,7 @@ fn set_palette_entry<H: Handler + ?Sized>(
     }
 }
 
-/// Sets colours of the palette, or asks for them: 4. Each index is followed by its colour.
+/// Sets colours of the palette, or asks for them (OSC 4). Each index is followed by its colour.
 fn set_palette<H: Handler + ?Sized>(handler: &mut H, texts: &[&[u8]], terminator: &str) {
     if texts.len() % 2 != 0 {
         return;
@@ -106,7 +106,7 @@ fn set_palette<H: Handler + ?Sized>(handler: &mut H, texts: &[&[u8]], terminator
     }
 }
 
-/// Sets the link that these pieces make: 8. A URI of one piece is lent, and not copied.
+/// Sets the link that these pieces make (OSC 8). A URI of one piece is lent, not copied.
 fn set_link<H: Handler + ?Sized, B: TextBuffer>(handler: &mut H, text: &mut B, texts: &[&[u8]]) {
     match texts {
         [] | [_] => {}
@@ -143,7 +143,8 @@ fn set_dynamic_color<H: Handler + ?Sized>(
     }
 }
 
-/// Sets dynamic colours, or asks for them: 10, 11 or 12, and those that follow, one for each text.
+/// Sets dynamic colours, or asks for them (OSC 10, 11 and 12): that of `first` and those that
+/// follow, one for each text.
 fn set_dynamic_colors<H: Handler + ?Sized>(
     handler: &mut H,
     first: usize,
@@ -157,7 +158,7 @@ fn set_dynamic_colors<H: Handler + ?Sized>(
     }
 }
 
-/// Sets the icon of the mouse pointer: 22.
+/// Sets the icon of the mouse pointer (OSC 22).
 fn set_pointer<H: Handler + ?Sized>(handler: &mut H, texts: &[&[u8]]) {
     if let [name] = texts {
         if let Some(icon) = find_icon(name) {
@@ -171,7 +172,7 @@ fn find_icon(name: &[u8]) -> Option<CursorIcon> {
     CursorIcon::from_str(text_in(name, false)?).ok()
 }
 
-/// Sets the shape of the cursor: 50.
+/// Sets the shape of the cursor (OSC 50).
 fn set_shape<H: Handler + ?Sized>(handler: &mut H, texts: &[&[u8]]) {
     if let [text, ..] = texts {
         match strip_word(text, b"CursorShape=") {
@@ -183,7 +184,7 @@ fn set_shape<H: Handler + ?Sized>(handler: &mut H, texts: &[&[u8]]) {
     }
 }
 
-/// Stores data in a clipboard, or asks for what it holds: 52.
+/// Stores data in a clipboard, or asks for what it holds (OSC 52).
 fn use_clipboard<H: Handler + ?Sized>(handler: &mut H, texts: &[&[u8]], terminator: &str) {
     if let [name, data, ..] = texts {
         let clipboard = name.first().copied().unwrap_or(b'c');
@@ -202,7 +203,7 @@ fn reset_all<H: Handler + ?Sized>(handler: &mut H) {
     }
 }
 
-/// Resets colours of the palette: 104. Without an index, all are reset.
+/// Resets colours of the palette (OSC 104). Without an index, all are reset.
 fn reset_colors<H: Handler + ?Sized>(handler: &mut H, texts: &[&[u8]]) {
     match texts {
         [] | [[], ..] => reset_all(handler),

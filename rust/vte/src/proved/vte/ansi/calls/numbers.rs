@@ -17,6 +17,12 @@ pub(crate) trait NumberIterator {
             _ => default,
         }
     }
+
+    /// Returns the next number as a count, or 1 if it is 0 or there is none left.
+    #[inline]
+    fn next_count(&mut self) -> usize {
+        usize::from(self.next_or(1))
+    }
 }
 
 /// Takes the first number of each group.

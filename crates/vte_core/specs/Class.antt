@@ -93,17 +93,17 @@ is_final _ = false
 abbrev pub is_key : Class → Bool
 is_key Cancel = true
 is_key Final = true
-is_key k = is_head_byte k
+is_key class = is_head_byte class
 
 -- 30..7E, CAN and SUB: the end of an escape sequence.
 abbrev pub ends_escape : Class → Bool
 ends_escape Intermediate = false
-ends_escape k = is_key k
+ends_escape class = is_key class
 
 -- 30..7E: the final byte of an escape sequence.
 abbrev pub dispatches_escape : Class → Bool
 dispatches_escape Cancel = false
-dispatches_escape k = ends_escape k
+dispatches_escape class = ends_escape class
 
 -- 40..7E, CAN and SUB: the end of the head of a control sequence or a device control string.
 abbrev pub ends_head : Class → Bool
@@ -115,7 +115,7 @@ ends_head _ = false
 abbrev pub is_device_data : Class → Bool
 is_device_data PlainControl = true
 is_device_data Final = true
-is_device_data k = is_head_byte k
+is_device_data class = is_head_byte class
 
 -- Among the data of a device control string, the byte is put.
 abbrev pub IsDeviceData : ℕ → Type 0

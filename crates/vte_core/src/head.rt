@@ -1,6 +1,7 @@
 //! What is collected of an escape sequence, and of the head of a control sequence or a device
 //! control string.
-ghost use Rattle.std.specs.Prelude.{false, IfSome, IsTrue, length, List, min, true, ℕ, [], ◌++◌, ◌+◌, ◌↔◌, ◌∷◌, ◌≡◌, ◌≤◌, ◌⊎◌};
+ghost use Rattle.std.specs.Prelude.{false, IfSome, IsTrue, length, List, min, not, true, ℕ, [], ◌++◌, ◌*◌, ◌+◌, ◌<◌, ◌↔◌, ◌∷◌, ◌≡◌, ◌≤◌, ◌⊎◌};
+ghost use Rattle.vte_core.specs.Parameters.{max_value};
 ghost use Rattle.vte_core.specs.private.Prelude.{class_of, CountsNumbers, HasReadHead, HoldsHead, HoldsIntermediates, HoldsNumbers, HoldsWholeHead, is_head_byte, is_parameter_byte, looks_of, ReadsHeadUpTo, SameIntermediates, SameNumbers, with_open_number};
 
 use crate::class::{digit_of, is_head_byte, is_intermediate, is_parameter_byte};
@@ -93,7 +94,7 @@ impl CollectedHead {
     }
 
     /// Collects an intermediate or a marker.
-    pub(crate) fn collect(&mut self, byte: u8)
+    pub(crate) fn collect_intermediate(&mut self, byte: u8)
         ensures holds { (intermediates : List ℕ) → HoldsIntermediates self.old intermediates
             → HoldsIntermediates self.new (intermediates ++ byte ∷ []) }
         ensures numbers { SameNumbers self.old self.new }
@@ -103,21 +104,22 @@ impl CollectedHead {
         }
     }
 
-    /// Adds a number to the parameters, or returns true if there are 32 already. `joined` is the
-    /// value of the field: a caller that knows it passes a constant, and needn't load it.
+    /// Adds a number to the parameters, unless there are 32 already. Returns whether it was added.
+    /// `joined` is the value of the field: a caller that knows it passes a constant, and needn't
+    /// load it.
     #[inline(always)]
     fn store_number(&mut self, joined: bool, number: u16) -> bool
         requires { self.old.joined ≡ joined }
         ensures holds { (text : List ℕ) → CountsNumbers (with_open_number self.old number) text
-            → HoldsNumbers self.new result text }
+            → HoldsNumbers self.new (not result) text }
         ensures same_intermediates { SameIntermediates self.old self.new }
         ensures joined { self.new.joined ≡ self.old.joined }
     {
         if self.params.is_full() {
-            return true;
+            return false;
         }
         self.params.push(joined, number);
-        false
+        true
     }
 
     /// Collects a `;` after a number that doesn't follow a colon.
@@ -141,9 +143,7 @@ impl CollectedHead {
         ensures same_intermediates { SameIntermediates self.old self.new }
     {
         if let Some(digit) = digit_of(byte) {
-            // 65,535 stands for all greater numbers.
-            let number = (u32::from(self.number) * 10 + digit).min(u32::from(u16::MAX));
-            self.number = number as u16;
+            self.number = with_digit(u32::from(self.number), digit) as u16;
         } else {
             let _ = self.store_number(self.joined, self.number);
             self.joined = byte == b':';
@@ -166,12 +166,12 @@ impl CollectedHead {
             return HeadProgress::IllShaped;
         }
         if is_intermediate(byte) {
-            self.collect(byte);
+            self.collect_intermediate(byte);
             return HeadProgress::Intermediates;
         }
         // A marker is only at the beginning.
         if let HeadProgress::Entry = reached {
-            self.collect(byte);
+            self.collect_intermediate(byte);
             return HeadProgress::Parameters;
         }
         HeadProgress::IllShaped
@@ -206,8 +206,7 @@ impl CollectedHead {
         while position < input.len() {
             let byte = reader.byte_at(input, position);
             if let Some(digit) = digit_of(byte) {
-                // 65,535 stands for all greater numbers.
-                number = (number * 10 + digit).min(u32::from(u16::MAX));
+                number = with_digit(number, digit);
             } else if reads_separators && byte == b';' {
                 let _ = self.store_number(false, number as u16);
                 number = 0;
@@ -274,7 +273,17 @@ impl CollectedHead {
         ensures { (reached : HeadProgress) (head : List ℕ) → HoldsHead self.old reached head
             → HoldsWholeHead self.new result head }
     {
-        let too_many_numbers = self.store_number(joined, self.number);
-        self.too_many_intermediates || too_many_numbers
+        let has_room = self.store_number(joined, self.number);
+        self.too_many_intermediates || !has_room
     }
+}
+
+/// Adds a digit to a number. 65,535 stands for all greater numbers.
+#[inline(always)]
+fn with_digit(number: u32, digit: u32) -> u32
+    requires number { number ≤ max_value }
+    requires digit { digit < 10 }
+    ensures { result ≡ min (number * 10 + digit) max_value }
+{
+    (number * 10 + digit).min(u32::from(u16::MAX))
 }

@@ -58,22 +58,20 @@ impl<B: Buffer> CommandStore<B> {
         }
     }
 
-    /// Removes all items. Their memory stays.
+    /// Removes all items, as before a command. Their memory stays.
     pub(crate) fn clear(&mut self)
         ensures holds { HoldsItems B.limit self.new [] }
         ensures same_capacity { self.new.capacity ≡ self.old.capacity }
     {
-        // cargo instead: self.ends.clear();
-        self.ends = ArrayVec::new();
-        self.bytes.clear();
+        self.remove_items();
         self.lost = false;
     }
 
-    /// Removes the items of a command that has ended, but not whether it lost data.
-    // cargo: #[cfg(any(feature = "std", feature = "ansi"))]
+    /// Removes all items, but keeps whether data bytes were dropped. Their memory stays.
     pub(crate) fn remove_items(&mut self)
         ensures no_bytes { self.new.bytes ≡ [] }
-        ensures lost { self.new.lost ≡ self.old.lost }
+        ensures no_ends { self.new.ends ≡ [] }
+        ensures same_lost { self.new.lost ≡ self.old.lost }
         ensures same_capacity { self.new.capacity ≡ self.old.capacity }
     {
         // cargo instead: self.ends.clear();

@@ -59,49 +59,52 @@ impl<B: Buffer> Machine<B> {
             return next + 1;
         }
         if first < 0xf0 {
-            self.complete_three::<P, G, MAY_STOP>(reader, performer, input, next, first, second)
+            self.complete_three::<P, G, MAY_STOP>(reader, performer, input, from, first, second)
         } else {
             self.complete_four::<P, G, MAY_STOP>(reader, performer, input, from, first, second)
         }
     }
 
-    /// Continues the character of three bytes whose second byte, at `second_position`, was read.
+    /// Reads the character of three bytes that begins at `from`.
     #[inline(always)]
     pub(crate) fn complete_three<P: CountedPerform<G>, G: Granularity, const MAY_STOP: bool>(
         &mut self,
         reader: &mut Reader,
         performer: &mut P,
         input: Input<'_>,
-        second_position: usize,
+        from: usize,
         first: u8,
         second: u8,
     ) -> usize
         requires may_read { MayReadByte
             (chunk_call MAY_STOP P.step P.is_terminated B.limit input.bytes.now)
-            (P.value_of performer.old) (Text Empty) self.old second_position second }
+            (P.value_of performer.old) (Text Empty) self.old from first }
         requires lead { BeginsThree first }
+        requires before_end { from + 1 < length input.bytes.now }
+        requires looked_at { second ≡ slice_index input.bytes.now (from + 1) }
         ensures completes { Completes
             (chunk_call MAY_STOP P.step P.is_terminated B.limit input.entry.bytes.now)
-            (P.value_of performer.old) (P.value_of performer.new) second_position result
+            (P.value_of performer.old) (P.value_of performer.new) (from + 1) result
             (One first) self.new }
         ensures spends { SpendsWithin (per_byte 2) (caller_looks 1) (lookahead 2)
-            input.entry.bytes.now second_position result self.old self.new reader.old reader.new }
+            input.entry.bytes.now (from + 1) result self.old self.new reader.old reader.new }
     {
+        let next = from + 1;
         if !may_begin_three(first, second) {
             performer.print_char(reader, char::REPLACEMENT_CHARACTER);
-            return second_position;
+            return next;
         }
-        if second_position + 1 >= input.len() {
+        if next + 1 >= input.len() {
             self.state = State::Text(Unfinished::Two(first, second));
-            return second_position + 1;
+            return next + 1;
         }
-        let third = reader.byte_at(input, second_position + 1);
+        let third = reader.byte_at(input, next + 1);
         if !is_continuation(third) {
             performer.print_char(reader, char::REPLACEMENT_CHARACTER);
-            return second_position + 1;
+            return next + 1;
         }
         reader.report_character(performer, character_of_three(first, second, third));
-        second_position + 2
+        next + 2
     }
 
     /// Reads the character of four bytes that begins at `from`. If text is taken in runs, it begins

@@ -1,4 +1,4 @@
-//! The bytes of a call, and the loop over them.
+//! The loop over the bytes of a call.
 ghost use Rattle.std.specs.Prelude.{IfErr, IfOk, length, List, true, ℕ, ◌<◌, ◌≡◌};
 ghost use Rattle.vte_core.specs.private.Prelude.{Advances, caller_looks, chunk_call, HasReadWithLimit, IsAtPosition, IsOutsideTextAndData, IsRefusedAt, IsSettled, lookahead, looks_of, MayReadAt, NoCharacterStops, per_byte, read_count, ReadsCall, ReadsWithin, ReportsOutsideRuns, SpendsWithin};
 

@@ -79,6 +79,7 @@ module _ {limit : Option ℕ} {place next : Place} {b : ℕ} (is_no_escape : eqb
   step-silent : LeavesNothingOpen place next → Leads limit place b [] next → Steps limit place b
   step-silent known leads = step-leaving_nothing known leads (λ _ _. tt) (λ _. tt)
 
+  -- `Steps` holds for a plain control, if it is executed.
   step-executed : class_of b ≡ PlainControl → LeavesNothingOpen place next → Leads limit place b (Execute b ∷ []) next
       → Steps limit place b
   step-executed is_control known leads =

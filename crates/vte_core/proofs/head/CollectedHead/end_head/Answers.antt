@@ -6,11 +6,11 @@ use Rattle.vte_core.proofs.lemmas.fields.Heads.{head-whole}
 pub returns-then-self : goal.returns-then-self
 returns-then-self c =
     λ reached head has_read.
-    head-whole _ c.store_number-too_many_numbers.ensures.holds
-    c.store_number-too_many_numbers.ensures.same_intermediates has_read (rw c.if-self.true refl)
+    head-whole _ c.store_number-has_room.ensures.holds
+    c.store_number-has_room.ensures.same_intermediates has_read (rw c.if-self.true refl)
 
 pub returns-else-self : goal.returns-else-self
 returns-else-self c =
     λ reached head has_read.
-    head-whole _ c.store_number-too_many_numbers.ensures.holds
-    c.store_number-too_many_numbers.ensures.same_intermediates has_read (rw c.if-self.false refl)
+    head-whole _ c.store_number-has_room.ensures.holds
+    c.store_number-has_room.ensures.same_intermediates has_read (rw c.if-self.false refl)

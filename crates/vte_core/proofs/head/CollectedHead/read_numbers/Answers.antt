@@ -26,7 +26,7 @@ loop-position-preserved c =
             (record { intermediates = refl; too_many_intermediates = refl })
             (λ text k.
             counts-digit c.byte_at-byte.result k digit.0 digit.1 refl refl
-            (omega (arith, branch.min-number.ensures, digit.2))) invariant.reads)
+            (omega (arith, branch.with_digit-number.ensures, digit.2))) invariant.reads)
         -- The byte is a separator.
         | in_default+then-reads_separators+then-byte-eq59 branch ↦
             let stored = branch.store_number.ensures in

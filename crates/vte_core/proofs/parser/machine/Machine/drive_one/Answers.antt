@@ -48,8 +48,8 @@ reads_call-one old_reader new_reader (Err refused) one_byte settled advances rea
 -- A text in which no character is open.
 pub returns-then-is_empty : goal.returns-then-is_empty
 returns-then-is_empty g c =
-    let read = c.read_last_of_text.ensures in
-    reads_call-one c.args.reader.now c.read_last_of_text.new.reader (Ok c.read_last_of_text.result)
+    let read = c.read_one_of_text.ensures in
+    reads_call-one c.args.reader.now c.read_one_of_text.new.reader (Ok c.read_one_of_text.result)
     c.requires.one_byte
     (settled-same_state c.in-Text.is (settled-nothing c.in-Text.begun (c.is_empty.ensures.0 c.if-is_empty.true)))
     read.advances read.reads_within tt

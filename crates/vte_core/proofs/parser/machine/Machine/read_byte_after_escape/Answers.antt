@@ -22,7 +22,7 @@ returns-then-is_intermediate-clause-takes g c =
     let is_intermediate = class-intermediate _ (sym c.is_intermediate.ensures ∙ c.if-is_intermediate.true) in
     takes_bytes-in c.requires.in_state (rw is_intermediate refl)
     (takes-at_escape c.args.self.now (λ holds. takes-byte refl
-    (record { fields = c.collect.ensures.holds [] holds }) (escape-intermediate is_intermediate)))
+    (record { fields = c.collect_intermediate.ensures.holds [] holds }) (escape-intermediate is_intermediate)))
 
 -- Digits, `:`, `;` and markers dispatch: keys begin at `@`, which is later.
 pub returns-then-is_head_byte-clause-takes : goal.returns-then-is_head_byte-clause-takes

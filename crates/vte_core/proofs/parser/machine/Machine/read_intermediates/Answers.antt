@@ -31,7 +31,7 @@ loop-position-preserved g c =
             (omega arith) c.byte_at-byte.ensures.value invariant.may_go_on
             (rw is_intermediate refl)
             (takes-in_escape parser (λ ints holds. takes-byte refl
-            (is_at-by invariant.in_state (branch.collect.ensures.holds ints holds))
+            (is_at-by invariant.in_state (branch.collect_intermediate.ensures.holds ints holds))
             (intermediate-more is_intermediate)))
             (settled-same_state invariant.in_state tt)))
         -- A byte that is dropped.

@@ -1,6 +1,6 @@
 //! What is collected of an escape sequence, and of the head of a control sequence or a device
 //! control string.
-ghost use Rattle.std.specs.Prelude.{false, IfSome, IsTrue, length, List, min, not, true, ℕ, [], ◌++◌, ◌*◌, ◌+◌, ◌<◌, ◌↔◌, ◌∷◌, ◌≡◌, ◌≤◌, ◌⊎◌};
+ghost use Rattle.std.specs.Prelude.{false, IfSome, IsTrue, length, List, min, not, true, ℕ, [], ◌*◌, ◌++◌, ◌+◌, ◌<◌, ◌↔◌, ◌∷◌, ◌≡◌, ◌≤◌, ◌⊎◌};
 ghost use Rattle.vte_core.specs.Parameters.{max_value};
 ghost use Rattle.vte_core.specs.private.Prelude.{class_of, CountsNumbers, HasReadHead, HoldsHead, HoldsIntermediates, HoldsNumbers, HoldsWholeHead, is_head_byte, is_parameter_byte, looks_of, ReadsHeadUpTo, SameIntermediates, SameNumbers, with_open_number};
 

@@ -80,21 +80,22 @@ impl CollectedHead {
     }
 
     /// Collects an intermediate or a marker.
-    pub(crate) fn collect(&mut self, byte: u8) {
+    pub(crate) fn collect_intermediate(&mut self, byte: u8) {
         if self.intermediates.try_push(byte).is_err() {
             self.too_many_intermediates = true;
         }
     }
 
-    /// Adds a number to the parameters, or returns true if there are 32 already. `joined` is the
-    /// value of the field: a caller that knows it passes a constant, and needn't load it.
+    /// Adds a number to the parameters, unless there are 32 already. Returns whether it was added.
+    /// `joined` is the value of the field: a caller that knows it passes a constant, and needn't
+    /// load it.
     #[inline(always)]
     fn store_number(&mut self, joined: bool, number: u16) -> bool {
         if self.params.is_full() {
-            return true;
+            return false;
         }
         self.params.push(joined, number);
-        false
+        true
     }
 
     /// Collects a `;` after a number that doesn't follow a colon.
@@ -108,9 +109,7 @@ impl CollectedHead {
     #[inline(always)]
     pub(crate) fn collect_parameter_byte(&mut self, byte: u8) {
         if let Some(digit) = digit_of(byte) {
-            // 65,535 stands for all greater numbers.
-            let number = (u32::from(self.number) * 10 + digit).min(u32::from(u16::MAX));
-            self.number = number as u16;
+            self.number = with_digit(u32::from(self.number), digit) as u16;
         } else {
             let _ = self.store_number(self.joined, self.number);
             self.joined = byte == b':';
@@ -129,12 +128,12 @@ impl CollectedHead {
             return HeadProgress::IllShaped;
         }
         if is_intermediate(byte) {
-            self.collect(byte);
+            self.collect_intermediate(byte);
             return HeadProgress::Intermediates;
         }
         // A marker is only at the beginning.
         if let HeadProgress::Entry = reached {
-            self.collect(byte);
+            self.collect_intermediate(byte);
             return HeadProgress::Parameters;
         }
         HeadProgress::IllShaped
@@ -158,8 +157,7 @@ impl CollectedHead {
         while position < input.len() {
             let byte = reader.byte_at(input, position);
             if let Some(digit) = digit_of(byte) {
-                // 65,535 stands for all greater numbers.
-                number = (number * 10 + digit).min(u32::from(u16::MAX));
+                number = with_digit(number, digit);
             } else if reads_separators && byte == b';' {
                 let _ = self.store_number(false, number as u16);
                 number = 0;
@@ -215,7 +213,13 @@ impl CollectedHead {
     /// intermediates. `joined` is the value of the field, as in `store_number`.
     #[inline(always)]
     pub(crate) fn end_head(&mut self, joined: bool) -> bool {
-        let too_many_numbers = self.store_number(joined, self.number);
-        self.too_many_intermediates || too_many_numbers
+        let has_room = self.store_number(joined, self.number);
+        self.too_many_intermediates || !has_room
     }
+}
+
+/// Adds a digit to a number. 65,535 stands for all greater numbers.
+#[inline(always)]
+fn with_digit(number: u32, digit: u32) -> u32 {
+    (number * 10 + digit).min(u32::from(u16::MAX))
 }

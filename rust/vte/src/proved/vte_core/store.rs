@@ -31,15 +31,13 @@ impl<B: Buffer> CommandStore<B> {
         }
     }
 
-    /// Removes all items. Their memory stays.
+    /// Removes all items, as before a command. Their memory stays.
     pub(crate) fn clear(&mut self) {
-        self.ends.clear();
-        self.bytes.clear();
+        self.remove_items();
         self.lost = false;
     }
 
-    /// Removes the items of a command that has ended, but not whether it lost data.
-    #[cfg(any(feature = "std", feature = "ansi"))]
+    /// Removes all items, but keeps whether data bytes were dropped. Their memory stays.
     pub(crate) fn remove_items(&mut self) {
         self.ends.clear();
         self.bytes.clear();

@@ -41,13 +41,13 @@ impl<B: Buffer> Machine<B> {
             return next + 1;
         }
         if first < 0xf0 {
-            self.complete_three::<P, G, MAY_STOP>(reader, performer, input, next, first, second)
+            self.complete_three::<P, G, MAY_STOP>(reader, performer, input, from, first, second)
         } else {
             self.complete_four::<P, G, MAY_STOP>(reader, performer, input, from, first, second)
         }
     }
 
-    /// Continues the character of three bytes whose second byte, at `second_position`, was read.
+    /// Reads the character of three bytes that begins at `from`.
     #[inline(always)]
     pub(crate) fn complete_three<
         P: CountedPerform<G> + ?Sized,
@@ -58,25 +58,26 @@ impl<B: Buffer> Machine<B> {
         reader: Reader,
         performer: &mut P,
         input: &[u8],
-        second_position: usize,
+        from: usize,
         first: u8,
         second: u8,
     ) -> usize {
+        let next = from + 1;
         if !may_begin_three(first, second) {
             performer.print_char(reader, char::REPLACEMENT_CHARACTER);
-            return second_position;
+            return next;
         }
-        if second_position + 1 >= input.len() {
+        if next + 1 >= input.len() {
             self.state = State::Text(Unfinished::Two(first, second));
-            return second_position + 1;
+            return next + 1;
         }
-        let third = reader.byte_at(input, second_position + 1);
+        let third = reader.byte_at(input, next + 1);
         if !is_continuation(third) {
             performer.print_char(reader, char::REPLACEMENT_CHARACTER);
-            return second_position + 1;
+            return next + 1;
         }
         reader.report_character(performer, character_of_three(first, second, third));
-        second_position + 2
+        next + 2
     }
 
     /// Reads the character of four bytes that begins at `from`. If text is taken in runs, it begins

@@ -1,5 +1,5 @@
 // Written by tools/erase from crates/vte_core/src/parser/drive.rt: edit that one.
-//! The bytes of a call, and the loop over them.
+//! The loop over the bytes of a call.
 
 use crate::proved::vte_core::buffer::Buffer;
 use crate::proved::vte_core::parser::{Machine, Refused, State};

@@ -22,7 +22,7 @@ impl<B: Buffer> Machine<B> {
     ) -> Result<usize, Refused> {
         if let State::Text(begun) = self.state {
             if begun.is_empty() {
-                return Ok(self.read_last_of_text(reader, performer, input));
+                return Ok(self.read_one_of_text(reader, performer, input));
             }
             return Ok(self.read_continuing_byte(reader, performer, input, begun));
         }
@@ -32,9 +32,9 @@ impl<B: Buffer> Machine<B> {
         self.read_outside_text(reader, performer, input)
     }
 
-    /// Reads the last byte of a call in a text.
+    /// Reads the one byte of a call in a text.
     #[inline(always)]
-    fn read_last_of_text<P: CountedPerform<G> + ?Sized, G: Granularity>(
+    fn read_one_of_text<P: CountedPerform<G> + ?Sized, G: Granularity>(
         &mut self,
         reader: Reader,
         performer: &mut P,
@@ -45,12 +45,12 @@ impl<B: Buffer> Machine<B> {
             performer.print_char(reader, char::from(byte));
             return 1;
         }
-        self.read_last_control_or_non_ascii(reader, performer, input, byte)
+        self.read_one_control_or_non_ascii(reader, performer, input, byte)
     }
 
-    /// Reads the last byte of a call in a text, if it isn't printed ASCII.
+    /// Reads the one byte of a call in a text, if it isn't printed ASCII.
     #[inline(never)]
-    fn read_last_control_or_non_ascii<P: CountedPerform<G> + ?Sized, G: Granularity>(
+    fn read_one_control_or_non_ascii<P: CountedPerform<G> + ?Sized, G: Granularity>(
         &mut self,
         reader: Reader,
         performer: &mut P,
@@ -105,7 +105,7 @@ impl<B: Buffer> Machine<B> {
         input: &[u8],
     ) -> usize {
         performer.print_char(reader, char::REPLACEMENT_CHARACTER);
-        self.read_last_of_text(reader, performer, input)
+        self.read_one_of_text(reader, performer, input)
     }
 
     /// Reads a byte of the head of a control sequence: of its parameters, like most, or another.

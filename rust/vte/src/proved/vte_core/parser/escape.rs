@@ -85,7 +85,7 @@ impl<B: Buffer> Machine<B> {
         if is_final(byte) {
             self.begin_or_dispatch(reader, performer, byte);
         } else if is_intermediate(byte) {
-            self.collected.collect(byte);
+            self.collected.collect_intermediate(byte);
             self.state = State::EscapeIntermediate;
         } else if is_head_byte(byte) {
             self.dispatch_escape(reader, performer, byte);
@@ -135,7 +135,7 @@ impl<B: Buffer> Machine<B> {
         for position in from..input.len() {
             let byte = reader.byte_at(input, position);
             if is_intermediate(byte) {
-                self.collected.collect(byte);
+                self.collected.collect_intermediate(byte);
             } else if dispatches_escape(byte) {
                 self.dispatch_escape(reader, performer, byte);
                 return position + 1;

@@ -29,8 +29,8 @@ returns-then-not-is_continuation-clause-completes g c =
     let misfits = sym c.is_continuation.ensures ∙ c.if-not-is_continuation.true in
     completes-malformed
     (goes_on-second c.args.self.now requires.lead.low second requires.before_end requires.looked_at)
-    (λ truncated. third-broken c.args.first c.args.second c.byte_at-third.result truncated misfits) requires.may_read.in_state
-    c.print_char-then-not-is_continuation.ensures.value
+    (λ truncated. third-broken c.args.first c.args.second c.byte_at-third.result truncated misfits)
+    requires.may_read.in_state c.print_char-then-not-is_continuation.ensures.value
     (omega (arith, requires.before_end, c.if-next-len.false)) c.byte_at-third.ensures.value
 
 -- Three bytes spell a character.
@@ -43,5 +43,6 @@ returns-clause-completes g c =
     spells-three requires.lead.low requires.lead.high second third in
     completes-well_formed
     (goes_on-second c.args.self.now requires.lead.low second requires.before_end requires.looked_at)
-    (λ truncated. (spells.is_whole, c.character_of_three.ensures)) requires.may_read.in_state c.report_character.ensures.value
-    (omega (arith, requires.before_end, c.if-next-len.false)) c.byte_at-third.ensures.value (counted _)
+    (λ truncated. (spells.is_whole, c.character_of_three.ensures)) requires.may_read.in_state
+    c.report_character.ensures.value (omega (arith, requires.before_end, c.if-next-len.false))
+    c.byte_at-third.ensures.value (counted _)

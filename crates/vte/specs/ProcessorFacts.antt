@@ -8,7 +8,7 @@ use Rattle.vte.specs.declared.ansi.calls.joined_text.TheConstants.{TEXT_CAPACITY
 use Rattle.vte.specs.declared.ansi.long_processor.LongProcessor.{LongProcessor}
 use Rattle.vte.specs.declared.ansi.processor.Processor.{Processor}
 use Rattle.vte.specs.declared.ansi.updates.engine.Engine.{Engine}
-use Rattle.vte.specs.declared.ansi.updates.hold.SyncState.{SyncState}
+use Rattle.vte.specs.declared.ansi.updates.hold.Hold.{Hold}
 use Rattle.vte.specs.Memory.{HasTextMemory}
 use Rattle.vte.specs.Views.{engine_view, EngineView, limited_engine_view, long_parser_view}
 use Rattle.vte_core.specs.Stream.{events}
@@ -36,7 +36,7 @@ ContinuesAs {W} processor other = (parsed held : List ℕ) (timeout : W)
 -- ---- made of an engine
 
 -- The held bytes. Those before them in the buffer were released by the last turn.
-abbrev pub held_of : {A : Type 0} → SyncState A → List ℕ
+abbrev pub held_of : {A : Type 0} → Hold A → List ℕ
 held_of hold = drop hold.released hold.bytes.items
 
 -- The engine has parsed bytes, and holds those that follow. It knows the last printed character,
@@ -45,7 +45,7 @@ pub record HasParsedAndHolds {P B T A W : Type 0} (view : EngineView P B T W)
     (engine : Engine P B T A) (HasMemory : (parsed held : List ℕ) → Type 0)
     (parsed held : List ℕ) (timeout : W) : Type 0 where
   pub has_read : view.parser.has_read engine.parser parsed
-  pub last : engine.state.preceding_char ≡ last_printed (events view.limit parsed)
+  pub last : engine.state.last_printed ≡ last_printed (events view.limit parsed)
   pub timeout_is : view.timeout_of engine.state.timeout ≡ timeout
   pub holds : held_of engine.hold ≡ held
   pub has_memory : HasMemory parsed held

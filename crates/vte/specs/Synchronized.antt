@@ -51,34 +51,34 @@ begin_update = codes "\u{1b}[?2026h"
 abbrev pub end_update : List ℕ
 end_update = codes "\u{1b}[?2026l"
 
--- The text starts with the sequence.
+-- The bytes start with the sequence.
 abbrev pub is_prefix_of : List ℕ → List ℕ → Bool
-is_prefix_of sequence text = is_some (after_word sequence text)
+is_prefix_of sequence bytes = is_some (after_word sequence bytes)
 
--- What follows the last end-update of a text: of `a ESC [?2026l b`, the `b`.
+-- What follows the last end-update: of `a ESC [?2026l b`, the `b`.
 abbrev pub after_last_end : List ℕ → Option (List ℕ)
 after_last_end [] = None
-after_last_end (byte ∷ text) = option_or (after_last_end text) (after_word end_update (byte ∷ text))
+after_last_end (byte ∷ bytes) =
+    option_or (after_last_end bytes) (after_word end_update (byte ∷ bytes))
 
--- The text from its earliest begin-update on, if there is one.
+-- The bytes from the earliest begin-update on, if there is one.
 abbrev pub from_begin_update : List ℕ → List ℕ
 from_begin_update [] = []
-from_begin_update (byte ∷ text) =
-    if is_prefix_of begin_update (byte ∷ text) then byte ∷ text else from_begin_update text
+from_begin_update (byte ∷ bytes) =
+    if is_prefix_of begin_update (byte ∷ bytes) then byte ∷ bytes else from_begin_update bytes
 
--- How many begin-updates have their last byte among the last n bytes of the text: of
--- `ESC [?2026h b`, one among the last two, and none in the last one.
+-- How many begin-updates have their last byte among the last n bytes: of `ESC [?2026h b`, one
+-- among the last two, and none in the last one.
 abbrev pub begins_ending_in_last : ℕ → List ℕ → ℕ
 begins_ending_in_last n [] = 0
-begins_ending_in_last n (byte ∷ text) =
+begins_ending_in_last n (byte ∷ bytes) =
     option_map_or (λ rest. if nat_lt (length rest) n then 1 else 0)
-    (after_word begin_update (byte ∷ text)) 0
-    + begins_ending_in_last n text
+    (after_word begin_update (byte ∷ bytes)) 0
+    + begins_ending_in_last n bytes
 
--- The part of a text in which begin-updates count: what follows the last end-update or, without
--- one, all of it.
+-- The bytes among which begin-updates count: those after the last end-update or, without one, all.
 abbrev pub part_after_last_end : List ℕ → List ℕ
-part_after_last_end text = unwrap_or (after_last_end text) text
+part_after_last_end bytes = unwrap_or (after_last_end bytes) bytes
 
 -- The call that reports the end of an update.
 abbrev pub update_ended_call : Call

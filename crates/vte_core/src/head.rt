@@ -34,6 +34,13 @@ impl HeadProgress {
     }
 }
 
+/// Whether `;` is read among the digits of numbers, or left for the caller.
+#[derive(Clone, Copy)]
+pub(crate) enum Separators {
+    Read,
+    Left,
+}
+
 /// How far a head has been read, and up to which position. `next_byte` is the byte there, if there
 /// is one.
 #[derive(Clone, Copy)]
@@ -177,7 +184,7 @@ impl CollectedHead {
         HeadProgress::IllShaped
     }
 
-    /// Reads the digits at a position in a head, if any, and also `;` if `reads_separators`. Most
+    /// Reads the digits at a position in a head, if any, and also `;` if `separators` says so. Most
     /// heads have nothing else.
     #[inline(always)]
     pub(crate) fn read_numbers(
@@ -186,12 +193,13 @@ impl CollectedHead {
         input: Input<'_>,
         from: usize,
         reached: HeadProgress,
-        reads_separators: bool,
+        separators: Separators,
     ) -> HeadEnd
         requires within { from ≤ length input.bytes.now }
         requires may_have_parameters { reached ≡ HeadProgress.Entry
             ⊎ reached ≡ HeadProgress.Parameters }
-        requires separators_only_if_not_joined { reads_separators ≡ true → self.old.joined ≡ false }
+        requires separators_only_if_not_joined { separators ≡ Separators.Read
+            → self.old.joined ≡ false }
         ensures reads { ReadsHeadUpTo input.entry.bytes.now from reached result self.old self.new }
         ensures may_have_parameters { result.progress ≡ HeadProgress.Entry
             ⊎ result.progress ≡ HeadProgress.Parameters }
@@ -207,7 +215,7 @@ impl CollectedHead {
             let byte = reader.byte_at(input, position);
             if let Some(digit) = digit_of(byte) {
                 number = with_digit(number, digit);
-            } else if reads_separators && byte == b';' {
+            } else if matches!(separators, Separators::Read) && byte == b';' {
                 let _ = self.store_number(false, number as u16);
                 number = 0;
             } else {

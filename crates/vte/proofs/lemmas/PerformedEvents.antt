@@ -65,7 +65,7 @@ module _ {H T B G V W : Type 0} (handler_of : H → V) (timeout_of : T → W) (t
   pub performer-given_back : {P : Type 0} {view : ParserView P} {parser next : P} {lent : ProcessorState T B}
       {value : V} {handler : H}
       → PartsAreAt (engine_view m.limit view text_capacity_of timeout_of) parser lent value start
-      → old.last ≡ lent.preceding_char → old.timeout ≡ timeout_of lent.timeout → old.handler ≡ value
+      → old.last ≡ lent.last_printed → old.timeout ≡ timeout_of lent.timeout → old.handler ≡ value
       → old.text_capacity ≡ text_capacity_of lent.text
       → view.has_read next (start.parsed ++ bytes)
       → (old.handler_name ≡ new.handler.ghost_name → handler ≡ new.handler.now)

@@ -19,7 +19,7 @@ use Rattle.vte_core.specs.Stream.{added, events}
 pub record PartsAreAt {P B T V W : Type 0} (view : EngineView P B T W) (parser : P)
     (lent : ProcessorState T B) (value : V) (state : State V W) : Type 0 where
   pub has_read : view.parser.has_read parser state.parsed
-  pub last : lent.preceding_char ≡ last_printed (events view.limit state.parsed)
+  pub last : lent.last_printed ≡ last_printed (events view.limit state.parsed)
   pub timeout_is : view.timeout_of lent.timeout ≡ state.timeout
   pub handler_is : value ≡ state.handler
 

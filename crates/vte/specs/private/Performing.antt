@@ -23,7 +23,7 @@ abbrev pub performer_value : {H T B G V W : Type 0}
 performer_value handler_of timeout_of text_capacity_of performer = record {
   handler = handler_of performer.handler.now;
   timeout = timeout_of performer.state.now.timeout;
-  last = performer.state.now.preceding_char;
+  last = performer.state.now.last_printed;
   text_capacity = text_capacity_of performer.state.now.text;
   terminated = performer.terminated;
   state_name = performer.state.ghost_name;

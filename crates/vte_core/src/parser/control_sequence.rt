@@ -8,7 +8,7 @@ ghost use Rattle.vte_core.specs.private.Prelude.{Advances, caller_looks, chunk_c
 
 use crate::buffer::Buffer;
 use crate::class::{ends_sequence, is_final, is_plain_control};
-use crate::head::{HeadEnd, HeadProgress};
+use crate::head::{HeadEnd, HeadProgress, Separators};
 use crate::parser::{Machine, State, Unfinished};
 use crate::reader::{CountedPerform, Granularity, Input, Reader};
 
@@ -35,7 +35,7 @@ impl<B: Buffer> Machine<B> {
     {
         let head = self
             .collected
-            .read_numbers(reader, input, from, HeadProgress::Entry, false);
+            .read_numbers(reader, input, from, HeadProgress::Entry, Separators::Left);
         if let Some(byte) = head.next_byte {
             if is_final(byte) {
                 return self.end_control_sequence(reader, performer, head, false, byte);
@@ -110,7 +110,7 @@ impl<B: Buffer> Machine<B> {
         }
         let head = self
             .collected
-            .read_numbers(reader, input, from, reached, true);
+            .read_numbers(reader, input, from, reached, Separators::Read);
         if let Some(byte) = head.next_byte {
             if is_final(byte) {
                 return self.end_control_sequence(reader, performer, head, false, byte);

@@ -32,9 +32,9 @@ neither-pair : (byte : ℕ) (rest text : List ℕ) (position : ℕ)
 neither-pair byte rest text position not_both =
     let sequence = 0x1b ∷ byte ∷ 0x3f ∷ rest in elim (cases_Bool (is_prefix_of sequence (drop position text))) [
       | inl begins ↦
-          let text_is = is_prefix_of-is sequence (drop position text) begins in
-          let first : get_or (drop position text) 0 0 ≡ 0x1b = ap {B = ℕ} (λ bytes. get_or bytes 0 0) text_is in
-          let third : get_or (drop position text) 2 0 ≡ 0x3f = ap {B = ℕ} (λ bytes. get_or bytes 2 0) text_is in
+          let bytes_is = is_prefix_of-is sequence (drop position text) begins in
+          let first : get_or (drop position text) 0 0 ≡ 0x1b = ap {B = ℕ} (λ bytes. get_or bytes 0 0) bytes_is in
+          let third : get_or (drop position text) 2 0 ≡ 0x3f = ap {B = ℕ} (λ bytes. get_or bytes 2 0) bytes_is in
           absurd (grind (arith, nat_tests, get_or-drop, first, third, not_both))
       | inr not_begun ↦ not_begun
     ]
@@ -217,15 +217,15 @@ module _ {held more text : List ℕ} {start : ℕ} (held_tail : IsHeldTail held 
   tail-size : start + length text ≡ length all
   tail-size =
       let from = held_tail.start_is in
-      omega (arith, ap length held_tail.text_is, length-drop start all, length-append held more)
+      omega (arith, ap length held_tail.bytes_is, length-drop start all, length-append held more)
 
   pub tail-sequence : (position : ℕ) → take (length text - position) (drop position text) ≡ drop (start + position) all
   tail-sequence position =
-      take_rest text position ∙ ap (drop position) held_tail.text_is ∙ drop-drop position start all
+      take_rest text position ∙ ap (drop position) held_tail.bytes_is ∙ drop-drop position start all
 
   tail-byte : (unread k : ℕ) → k < unread → get_or (take unread text) k 0 ≡ get_or all (start + k) 0
   tail-byte unread k inside =
-      get_or-take unread text k 0 inside ∙ ap (λ bytes. get_or bytes k 0) held_tail.text_is ∙ rw get_or-drop
+      get_or-take unread text k 0 inside ∙ ap (λ bytes. get_or bytes k 0) held_tail.bytes_is ∙ rw get_or-drop
 
   neither-between : (from low unread : ℕ) → start + from ≡ low → unread ≤ length text
       → Nowhere (Passes (is_byte 0x1b) (take unread text)) from (length (take unread text))
@@ -247,7 +247,7 @@ module _ {held more text : List ℕ} {start : ℕ} (held_tail : IsHeldTail held 
       let position : k - start + start ≡ k = omega arith in
       let neither = none_between (k - start) (omega arith) (omega arith) in
       let tail : drop (k - start) text ≡ drop k all =
-      ap (drop (k - start)) held_tail.text_is ∙ drop-drop (k - start) start all
+      ap (drop (k - start)) held_tail.bytes_is ∙ drop-drop (k - start) start all
       ∙ ap (λ position. drop position all) (omega arith) in
       record { no_begin = rw tail at neither.no_begin; no_end = rw tail at neither.no_end })
       seen

@@ -11,7 +11,7 @@ ghost use Rattle.vte_types.specs.Words.{entry_of};
 use crate::ansi::calls::color_text::xparse_color;
 use crate::ansi::calls::joined_text::{join_texts, text_in};
 use crate::ansi::calls::numbers::{parse_number, push_number};
-use crate::ansi::calls::split::{link_id, strip_word};
+use crate::ansi::calls::split::{find_link_id, strip_word};
 use crate::ansi::calls::text_buffer::TextBuffer;
 use arrayvec::ArrayString;
 use std::str::FromStr;
@@ -162,7 +162,7 @@ fn set_link_to<H: Handler>(handler: &mut H, parameters: &[u8], uri: &str)
     if uri.is_empty() {
         handler.set_hyperlink(None);
     } else {
-        let id = link_id(parameters).and_then(|id| text_in(id, false));
+        let id = find_link_id(parameters).and_then(|id| text_in(id, false));
         handler.set_hyperlink(Some(Hyperlink { id, uri }));
     }
 }

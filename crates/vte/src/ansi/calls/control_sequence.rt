@@ -28,14 +28,14 @@ use vte_types::{
 #[allow(clippy::collapsible_match)]
 pub(crate) fn perform_control_sequence<H: InputAs<G>, G>(
     handler: &mut H,
-    preceding_char: Option<char>,
+    last_printed: Option<char>,
     params: &Params,
     intermediates: &[u8],
     action: char,
 )
     requires sets_no_private_mode { intermediates.now ≡ 0x3f ∷ [] → action ≢ 0x68 }
     ensures { H.value_of handler.new ≡ after H.step (H.value_of handler.old)
-        (control_sequence_calls preceding_char params.now intermediates.now action) }
+        (control_sequence_calls last_printed params.now intermediates.now action) }
 {
     let mut numbers = params.iter();
     match (intermediates, action) {
@@ -44,7 +44,7 @@ pub(crate) fn perform_control_sequence<H: InputAs<G>, G>(
                 handler.identify_terminal(intermediates.first().map(|byte| char::from(*byte)));
             }
         }
-        ([], _) => perform_without_intermediates::<H, G>(handler, preceding_char, params, action),
+        ([], _) => perform_without_intermediates::<H, G>(handler, last_printed, params, action),
         ([b'?'], 'W') => {
             if numbers.next_or(0) == 5 {
                 handler.set_tabs(8);
@@ -87,12 +87,12 @@ pub(crate) fn perform_control_sequence<H: InputAs<G>, G>(
 // cargo: #[inline]
 fn perform_without_intermediates<H: InputAs<G>, G>(
     handler: &mut H,
-    preceding_char: Option<char>,
+    last_printed: Option<char>,
     params: &Params,
     action: char,
 )
     ensures { H.value_of handler.new ≡ after H.step (H.value_of handler.old)
-        (unwrap_or (entry_of (table_without_intermediates preceding_char params.now) action)
+        (unwrap_or (entry_of (table_without_intermediates last_printed params.now) action)
         []) }
 {
     let mut numbers = params.iter();
@@ -120,7 +120,7 @@ fn perform_without_intermediates<H: InputAs<G>, G>(
         'T' => handler.scroll_down(numbers.next_count()),
         'X' => handler.erase_chars(numbers.next_count()),
         'Z' => handler.move_backward_tabs(numbers.next_or(1)),
-        'b' => repeat::<H, G>(handler, preceding_char, numbers.next_or(1)),
+        'b' => repeat::<H, G>(handler, last_printed, numbers.next_or(1)),
         'd' => handler.goto_line(i32::from(numbers.next_or(1)) - 1),
         'g' => clear_tabs(handler, numbers.next_or(0)),
         'h' => change_modes(handler, params, ModeChange::Set),
@@ -140,11 +140,11 @@ fn perform_without_intermediates<H: InputAs<G>, G>(
 
 /// Passes on the last printed character `count` times, if there is one.
 #[tactic(auto, using(crate::proofs::lemmas::calls::Loops::one_less))]
-fn repeat<H: InputAs<G>, G>(handler: &mut H, preceding_char: Option<char>, count: u16)
+fn repeat<H: InputAs<G>, G>(handler: &mut H, last_printed: Option<char>, count: u16)
     ensures { H.value_of handler.new ≡ after H.step (H.value_of handler.old)
-        (repeat_calls preceding_char count) }
+        (repeat_calls last_printed count) }
 {
-    if let Some(c) = preceding_char {
+    if let Some(c) = last_printed {
         for _ in 0..count {
             handler.input_char(c);
         }

@@ -24,7 +24,7 @@ use vte_types::NamedPrivateMode;
 #[derive(Clone, Drop)]
 pub(crate) struct ProcessorState<T: Drop, B: Drop> {
     /// The last character that was printed, which REP repeats.
-    pub(crate) preceding_char: Option<char>,
+    pub(crate) last_printed: Option<char>,
     /// The buffer in which texts are joined from pieces of a command.
     pub(crate) text: B,
     /// Whether an update is pending, and until when.
@@ -56,7 +56,7 @@ impl<'s, 'h, H: InputAs<G>, T: Timeout + Drop, B: TextBuffer + Drop, G> Perform
     // cargo: #[inline]
     fn print(&mut self, c: char) {
         self.handler.input_char(c);
-        self.state.preceding_char = Some(c);
+        self.state.last_printed = Some(c);
     }
 
     // cargo: #[inline]
@@ -85,10 +85,10 @@ impl<'s, 'h, H: InputAs<G>, T: Timeout + Drop, B: TextBuffer + Drop, G> Perform
         if action == 'h' && matches!(intermediates, [b'?']) {
             self.set_private_modes(params);
         } else {
-            let preceding_char = self.state.preceding_char;
+            let last_printed = self.state.last_printed;
             perform_control_sequence::<H, G>(
                 self.handler,
-                preceding_char,
+                last_printed,
                 params,
                 intermediates,
                 action,
@@ -118,7 +118,7 @@ impl<'s, 'h, H: HandlerText, T: Timeout + Drop, B: TextBuffer + Drop> PerformTex
     #[tactic(auto, using(crate::proofs::lemmas::EventCalls::performed_run))]
     fn print_text(&mut self, text: &str) {
         self.handler.input_text(text);
-        self.state.preceding_char = last_char(text, self.state.preceding_char);
+        self.state.last_printed = find_last_printed(text, self.state.last_printed);
     }
 }
 
@@ -163,7 +163,7 @@ impl<'s, 'h, H: Handler, T: Timeout + Drop, B: TextBuffer + Drop, G> Performer<'
 /// Returns the last character of a text, or `before` if the text is empty.
 #[tactic(auto, using(crate::proofs::lemmas::EventCalls::last_of_text))]
 // cargo: #[inline(always)]
-fn last_char(text: &str, before: Option<char>) -> Option<char>
+fn find_last_printed(text: &str, before: Option<char>) -> Option<char>
     ensures { result ≡ last_printed_from before (map Print (chars text.now)) }
 {
     text.chars().next_back().or(before)

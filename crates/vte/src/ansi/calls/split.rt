@@ -28,7 +28,7 @@ pub(crate) fn split_at_first(text: &[u8], separator: u8) -> (&[u8], Option<&[u8]
 }
 
 /// Returns what follows `id=` in the first parameter of a link that starts with it.
-pub(crate) fn link_id(parameters: &[u8]) -> Option<&[u8]>
+pub(crate) fn find_link_id(parameters: &[u8]) -> Option<&[u8]>
     ensures { option_map (λ rest. rest.now) result
         ≡ first_after (codes "id=") (split_by 0x3a parameters.now) }
 {

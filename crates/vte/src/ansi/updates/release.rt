@@ -18,23 +18,23 @@ pub(crate) struct Release {
     pub(crate) released: usize,
 }
 
-/// Finds what a hold releases. `text` is the hold from `start` on: the new bytes, and at most seven
-/// before them. No update ends among the older bytes, so it is enough to search `text`, backward,
-/// down to the last end-update.
-pub(crate) fn find_release(text: &[u8], start: usize) -> Release
-    requires { start + length text.now < 2 ^ 64 }
-    ensures { (held more : List ℕ) → IsHeldTail held more text.now start
+/// Finds what a hold releases. `bytes` are those of the hold from `start` on: the new ones, and at
+/// most seven before them. No update ends among the older ones, so it is enough to search `bytes`,
+/// backward, down to the last end-update.
+pub(crate) fn find_release(bytes: &[u8], start: usize) -> Release
+    requires { start + length bytes.now < 2 ^ 64 }
+    ensures { (held more : List ℕ) → IsHeldTail held more bytes.now start
         → after_last_end held ≡ None
         → FindsRelease (held ++ more) (length more) result }
 {
-    let mut first_begin = start + text.len();
+    let mut first_begin = start + bytes.len();
     let mut begin_count = 0;
     // A sequence has eight bytes, and only the first is ESC: none begins among the last seven
     // bytes, or the seven before an ESC.
-    let mut unread = skip_blocks(text, text.len().saturating_sub(7));
-    while let Some(position) = memrchr(ESCAPE, &text[..unread]) {
-        unread = skip_blocks(text, position.saturating_sub(7));
-        let sequence = &text[position..];
+    let mut unread = skip_blocks(bytes, bytes.len().saturating_sub(7));
+    while let Some(position) = memrchr(ESCAPE, &bytes[..unread]) {
+        unread = skip_blocks(bytes, position.saturating_sub(7));
+        let sequence = &bytes[position..];
         if begins_update(sequence) {
             first_begin = start + position;
             begin_count += 1;
@@ -55,14 +55,14 @@ pub(crate) fn find_release(text: &[u8], start: usize) -> Release
 
 /// Goes back from a position over blocks in which neither sequence begins. Returns the position
 /// before them.
-fn skip_blocks(text: &[u8], before: usize) -> usize
-    requires { before ≤ length text.now }
+fn skip_blocks(bytes: &[u8], before: usize) -> usize
+    requires { before ≤ length bytes.now }
     ensures within { result ≤ before }
-    ensures none_between { HasNoSequenceBetween text.now result before }
+    ensures none_between { HasNoSequenceBetween bytes.now result before }
 {
     let mut unread = before;
     while unread >= 32 {
-        match text[unread - 32..].first_chunk::<34>() {
+        match bytes[unread - 32..].first_chunk::<34>() {
             Some(block) if has_no_private_sequence(block) => unread -= 32,
             _ => break,
         }
@@ -83,18 +83,18 @@ fn has_no_private_sequence(block: &[u8; 34]) -> bool
     none_found
 }
 
-/// Returns whether the text starts with a begin-update.
-fn begins_update(text: &[u8]) -> bool
-    ensures has_eight_bytes { IsTrue result → 8 ≤ length text.now }
-    ensures value { result ≡ is_prefix_of begin_update text.now }
+/// Returns whether the bytes start with a begin-update.
+fn begins_update(bytes: &[u8]) -> bool
+    ensures has_eight_bytes { IsTrue result → 8 ≤ length bytes.now }
+    ensures value { result ≡ is_prefix_of begin_update bytes.now }
 {
-    text.starts_with(b"\x1b[?2026h")
+    bytes.starts_with(b"\x1b[?2026h")
 }
 
-/// Returns whether the text starts with an end-update.
-fn ends_update(text: &[u8]) -> bool
-    ensures has_eight_bytes { IsTrue result → 8 ≤ length text.now }
-    ensures value { result ≡ is_prefix_of end_update text.now }
+/// Returns whether the bytes start with an end-update.
+fn ends_update(bytes: &[u8]) -> bool
+    ensures has_eight_bytes { IsTrue result → 8 ≤ length bytes.now }
+    ensures value { result ≡ is_prefix_of end_update bytes.now }
 {
-    text.starts_with(b"\x1b[?2026l")
+    bytes.starts_with(b"\x1b[?2026l")
 }

@@ -19,11 +19,11 @@ loop-position-init c =
 pub loop-position-preserved-then-begins_update : goal.loop-position-preserved-then-begins_update
 loop-position-preserved-then-begins_update c =
     let invariant = c.loop-position.invariant in
-    let within : c.loop-position.unread ≤ length c.args.text.now = omega (arith, invariant.at_most) in
+    let within : c.loop-position.unread ≤ length c.args.bytes.now = omega (arith, invariant.at_most) in
     let escape = c.in-Some.ensures in
     let before_is = c.saturating_sub-in-Some.ensures in
     let skipped = c.skip_blocks-unread-in-Some.ensures in
-    let goes_back = unread-decreases c.args.text.now c.in-Some.position within escape.0 before_is skipped.within in
+    let goes_back = unread-decreases c.args.bytes.now c.in-Some.position within escape.0 before_is skipped.within in
     record {
       at_most = omega (arith, invariant.at_most, goes_back);
       seen = λ held more held_tail.
@@ -37,11 +37,11 @@ loop-position-preserved-then-begins_update c =
 pub loop-position-preserved : goal.loop-position-preserved
 loop-position-preserved c =
     let invariant = c.loop-position.invariant in
-    let within : c.loop-position.unread ≤ length c.args.text.now = omega (arith, invariant.at_most) in
+    let within : c.loop-position.unread ≤ length c.args.bytes.now = omega (arith, invariant.at_most) in
     let escape = c.in-Some.ensures in
     let before_is = c.saturating_sub-in-Some.ensures in
     let skipped = c.skip_blocks-unread-in-Some.ensures in
-    let goes_back = unread-decreases c.args.text.now c.in-Some.position within escape.0 before_is skipped.within in
+    let goes_back = unread-decreases c.args.bytes.now c.in-Some.position within escape.0 before_is skipped.within in
     record {
       at_most = omega (arith, invariant.at_most, goes_back);
       seen = λ held more held_tail.

@@ -6,7 +6,7 @@ use Rattle.vte.specs.private.Hold.{HasNoSequenceBetween}
 abbrev pub invariant-loop-unread : goal.invariant-loop-unread
 invariant-loop-unread l = record {
   within : l.unread ≤ l.before;
-  none : HasNoSequenceBetween l.text l.unread l.before;
+  none : HasNoSequenceBetween l.bytes l.unread l.before;
 }
 
 abbrev pub decreases-loop-unread : goal.decreases-loop-unread

@@ -1,5 +1,5 @@
 -- The parts that are left have the first that all have.
-use Rattle.vte.proofs.ansi.calls.split.link_id.Given as goal
+use Rattle.vte.proofs.ansi.calls.split.find_link_id.Given as goal
 use Rattle.vte.proofs.Common.{codes, first_after, parts_left, split_by, ◌≡◌}
 use Rattle.vte.proofs.lemmas.calls.SplitTexts.{left_size}
 

@@ -1,6 +1,6 @@
 -- The older bytes have no end of an update, so the search over the last seven of them and the new ones finds what the
 -- whole hold has (`find_release`).
-use Rattle.vte.proofs.ansi.updates.hold.SyncState.add.Goals as goal
+use Rattle.vte.proofs.ansi.updates.hold.Hold.add.Goals as goal
 use Rattle.vte.proofs.Common.{ap, arith, drop, FindsRelease, held_of, IsHeldTail, length, length-append, length-drop, List, refl, rules, take, take_all, ℕ, ◌++◌, ◌-◌, ◌∙◌, ◌≡◌}
 use Rattle.vte.proofs.lemmas.updates.Sequences.{stays-is, stays_held}
 
@@ -9,7 +9,7 @@ held_tail-slice : {bytes old more : List ℕ} {start len : ℕ} → bytes ≡ ol
 held_tail-slice {bytes} {start} bytes_are len_is start_is =
     record {
       start_is = start_is ∙ ap (λ n. n - 7) len_is;
-      text_is =
+      bytes_is =
           take_all (length bytes - start) (drop start bytes) (rw length-drop (omega arith)) ∙ ap (drop start) bytes_are;
     }
 

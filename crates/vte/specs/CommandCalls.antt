@@ -4,6 +4,8 @@ use Rattle.std.specs.List.{filter_map, join_with_byte, range_with_len}
 use Rattle.std.specs.Prelude.{Bool, bytes_eq, codes, false, if◌then◌else◌, length, List, map, None, Option, option_and_then, Some, true, ℕ, [], ◌%◌, ◌++◌, ◌+◌, ◌==◌, ◌∷◌}
 use Rattle.std.specs.Str.{is_utf8, trim}
 use Rattle.vte.specs.Colors.{xparse_color_of}
+use Rattle.vte.specs.declared.ansi.calls.joined_text.Malformed.{Malformed}
+use Rattle.vte.specs.declared.ansi.calls.joined_text.Malformed.TheVariants.{Empty, LeftOut}
 use Rattle.vte.specs.Numbers.{decimal_number}
 use Rattle.vte.specs.OptionalCalls.{call_some}
 use Rattle.vte.specs.Split.{first_after, split_by}
@@ -20,21 +22,25 @@ use Rattle.vte_types.specs.Words.{after_word, entry_of, entry_of_word, Row}
 
 -- ---- texts of pieces
 
--- The text of a piece. One that isn't UTF-8 counts as empty if all are kept, as in a link, and is
--- left out otherwise, as in a title.
-abbrev pub text_in : Bool → List ℕ → Option (List ℕ)
-text_in keeps_all piece = if is_utf8 piece then Some piece else if keeps_all then Some [] else None
+-- What becomes of a piece that isn't UTF-8: a title leaves it out, and in a link it is empty.
+abbrev pub text_of_malformed : Malformed → Option (List ℕ)
+text_of_malformed LeftOut = None
+text_of_malformed Empty = Some []
+
+-- The text of a piece, if it isn't left out.
+abbrev pub text_in : Malformed → List ℕ → Option (List ℕ)
+text_in malformed piece = if is_utf8 piece then Some piece else text_of_malformed malformed
 
 -- The texts of the pieces, with `;` between them.
-abbrev pub joined_texts : Bool → List (List ℕ) → List ℕ
-joined_texts keeps_all pieces = join_with_byte 0x3b (filter_map (text_in keeps_all) pieces)
+abbrev pub joined_texts : Malformed → List (List ℕ) → List ℕ
+joined_texts malformed pieces = join_with_byte 0x3b (filter_map (text_in malformed) pieces)
 
 -- ---- titles
 
 -- 0, 2: the title. Without a piece there is none.
 abbrev pub title_calls : List (List ℕ) → List Call
 title_calls [] = []
-title_calls (text ∷ texts) = SetTitle (Some (trim (joined_texts false (text ∷ texts)))) ∷ []
+title_calls (text ∷ texts) = SetTitle (Some (trim (joined_texts LeftOut (text ∷ texts)))) ∷ []
 
 -- ---- colours
 
@@ -91,7 +97,7 @@ reset_calls ((byte ∷ text) ∷ texts) =
 -- 8: a link. Its identity is the text after `id=` in the first part that starts with it.
 abbrev pub id_of : List ℕ → Option (List ℕ)
 id_of parameters =
-    option_and_then (text_in false) (first_after (codes "id=") (split_by 0x3a parameters))
+    option_and_then (text_in LeftOut) (first_after (codes "id=") (split_by 0x3a parameters))
 
 abbrev pub link_to : List ℕ → List ℕ → Option Link
 link_to parameters [] = None
@@ -101,7 +107,7 @@ abbrev pub link_calls : List (List ℕ) → List Call
 link_calls [] = []
 link_calls (parameters ∷ []) = []
 link_calls (parameters ∷ text ∷ texts) =
-    call.SetHyperlink (link_to parameters (joined_texts true (text ∷ texts))) ∷ []
+    call.SetHyperlink (link_to parameters (joined_texts Empty (text ∷ texts))) ∷ []
 
 -- ---- pointer and cursor
 

@@ -3,6 +3,8 @@
 use Rattle.std.proofs.lemmas.Str.{is_utf8-from_IsUtf8, IsUtf8-from_is_utf8}
 use Rattle.std.specs.Option.{option_map, unwrap_or}
 use Rattle.vte.proofs.Common.{ap, append-nil, append_assoc, arith, Bool, Bor, concat, drop, drop_more, false, false_from_ne_true, filter_map, FitsTextCapacity, get_or, id_of, is_utf8, IsUtf8, join_with_byte, joined_size, joined_texts, length, length-append, link_to, List, map, None, Option, refl, Some, sym, text_in, text_to_join, true, ℕ, [], ◌++◌, ◌+◌, ◌<◌, ◌∙◌, ◌∷◌, ◌≡◌, ◌≤◌}
+use Rattle.vte.specs.declared.ansi.calls.joined_text.Malformed.{Malformed}
+use Rattle.vte.specs.declared.ansi.calls.joined_text.Malformed.TheVariants.{Empty, LeftOut}
 
 -- What texts add after others, each with a separator unless it is the first.
 abbrev joined_more : Bool → List (List ℕ) → List ℕ
@@ -19,60 +21,61 @@ joined-all [] = refl
 joined-all (text ∷ texts) = sym (joined-text_to_join text texts)
 
 -- The text holds what was joined, the texts of the pieces that are left add the rest, and they fit.
-pub record Joins (keeps_all : Bool) (size : ℕ) (text : List ℕ) (is_first : Bool)
+pub record Joins (malformed : Malformed) (size : ℕ) (text : List ℕ) (is_first : Bool)
     (left all : List (List ℕ)) : Type 0 where
-  pub joins : text ++ joined_more is_first (filter_map (text_in keeps_all) left) ≡ joined_texts keeps_all all
+  pub joins : text ++ joined_more is_first (filter_map (text_in malformed) left) ≡ joined_texts malformed all
   pub fits : length text + joined_size left ≤ size
 
-pub joins-begin : {keeps_all : Bool} {size : ℕ} {text : List ℕ} {all : List (List ℕ)} → text ≡ []
-    → FitsTextCapacity size all → Joins keeps_all size text true all all
-joins-begin {keeps_all} {all} empty fits =
-    record { joins = rw empty (joined-all (filter_map (text_in keeps_all) all)); fits = rw empty (omega (arith, fits)) }
+pub joins-begin : {malformed : Malformed} {size : ℕ} {text : List ℕ} {all : List (List ℕ)} → text ≡ []
+    → FitsTextCapacity size all → Joins malformed size text true all all
+joins-begin {malformed} {all} empty fits =
+    record { joins = rw empty (joined-all (filter_map (text_in malformed) all)); fits = rw empty (omega (arith, fits)) }
 
-texts-more : (keeps_all : Bool) (piece : List ℕ) {part : List ℕ} (left : List (List ℕ))
-    → Some part ≡ text_in keeps_all piece
-    → filter_map (text_in keeps_all) (piece ∷ left) ≡ part ∷ filter_map (text_in keeps_all) left
-texts-more keeps_all piece left has_text = rw (← has_text) refl
+texts-more : (malformed : Malformed) (piece : List ℕ) {part : List ℕ} (left : List (List ℕ))
+    → Some part ≡ text_in malformed piece
+    → filter_map (text_in malformed) (piece ∷ left) ≡ part ∷ filter_map (text_in malformed) left
+texts-more malformed piece left has_text = rw (← has_text) refl
 
-texts-same : (keeps_all : Bool) (piece : List ℕ) (left : List (List ℕ)) → None ≡ text_in keeps_all piece
-    → filter_map (text_in keeps_all) (piece ∷ left) ≡ filter_map (text_in keeps_all) left
-texts-same keeps_all piece left no_text = rw (← no_text) refl
+texts-same : (malformed : Malformed) (piece : List ℕ) (left : List (List ℕ)) → None ≡ text_in malformed piece
+    → filter_map (text_in malformed) (piece ∷ left) ≡ filter_map (text_in malformed) left
+texts-same malformed piece left no_text = rw (← no_text) refl
 
-text-short : (keeps_all : Bool) (piece part : List ℕ) → Some part ≡ text_in keeps_all piece → length part ≤ length piece
-text-short keeps_all piece part has_text = grind arith
+text-short : (malformed : Malformed) (piece part : List ℕ) → Some part ≡ text_in malformed piece → length part ≤ length piece
+text-short LeftOut piece part has_text = grind arith
+text-short Empty piece part has_text = grind arith
 
 text_to_join-length : (is_first : Bool) (text : List ℕ) → length (text_to_join is_first text) ≤ length text + 1
 text_to_join-length true text = omega arith
 text_to_join-length false text = omega arith
 
-module _ (keeps_all : Bool) (pieces : List (Bor (List ℕ))) (i : ℕ) (d : Bor (List ℕ)) (inside : i < length pieces)
+module _ (malformed : Malformed) (pieces : List (Bor (List ℕ))) (i : ℕ) (d : Bor (List ℕ)) (inside : i < length pieces)
     {size : ℕ} {text : List ℕ} {is_first : Bool}
     {all : List (List ℕ)}
-    (before : Joins keeps_all size text is_first (map (λ piece. piece.now) (drop i pieces)) all) where
+    (before : Joins malformed size text is_first (map (λ piece. piece.now) (drop i pieces)) all) where
   abbrev piece : List ℕ
   piece = (get_or pieces i d).now
 
   abbrev left : List (List ℕ)
   left = map (λ (piece : Bor (List ℕ)). piece.now) (drop (i + 1) pieces)
 
-  joins-opened : Joins keeps_all size text is_first (piece ∷ left) all
+  joins-opened : Joins malformed size text is_first (piece ∷ left) all
   joins-opened = rw (drop_more pieces i d inside) at before
 
   -- The next text fits into the size, with its separator.
-  pub joins-fits : {part : List ℕ} → Some part ≡ text_in keeps_all piece → length text + length part + 1 ≤ size
+  pub joins-fits : {part : List ℕ} → Some part ≡ text_in malformed piece → length text + length part + 1 ≤ size
   joins-fits {part} has_text =
-      omega (arith, text-short keeps_all piece part has_text, joins-opened.fits, length-append piece (concat left))
+      omega (arith, text-short malformed piece part has_text, joins-opened.fits, length-append piece (concat left))
 
   -- If the next piece has a text, it is joined to the others.
-  pub joins-more : {part : List ℕ} → Some part ≡ text_in keeps_all piece
-      → Joins keeps_all size (text ++ text_to_join is_first part) false left all
+  pub joins-more : {part : List ℕ} → Some part ≡ text_in malformed piece
+      → Joins malformed size (text ++ text_to_join is_first part) false left all
   joins-more {part} has_text = record {
     joins =
         append_assoc text (text_to_join is_first part) _
-        ∙ (rw (texts-more keeps_all piece left has_text) at joins-opened.joins);
+        ∙ (rw (texts-more malformed piece left has_text) at joins-opened.joins);
     fits = omega (
       arith,
-      text-short keeps_all piece part has_text,
+      text-short malformed piece part has_text,
       joins-opened.fits,
       length-append text (text_to_join is_first part),
       length-append piece (concat left),
@@ -81,10 +84,10 @@ module _ (keeps_all : Bool) (pieces : List (Bor (List ℕ))) (i : ℕ) (d : Bor 
   }
 
   -- If the next piece has no text, nothing is joined.
-  pub joins-same : None ≡ text_in keeps_all piece → Joins keeps_all size text is_first left all
+  pub joins-same : None ≡ text_in malformed piece → Joins malformed size text is_first left all
   joins-same no_text =
       record {
-        joins = rw (texts-same keeps_all piece left no_text) at joins-opened.joins;
+        joins = rw (texts-same malformed piece left no_text) at joins-opened.joins;
         fits = omega (arith, joins-opened.fits, length-append piece (concat left));
       }
 
@@ -97,11 +100,11 @@ pub is_text : (text : List ℕ) → IsUtf8 text → is_utf8 text ≡ true
 is_text text utf8 = is_utf8-from_IsUtf8 text utf8
 
 -- One piece needs no joining: its text, if any, is the joined text.
-pub one_text : (keeps_all : Bool) (piece : List ℕ) (found : Option (Bor (List ℕ))) (nothing : Bor (List ℕ))
-    → option_map (λ text. text.now) found ≡ text_in keeps_all piece
-    → nothing.now ≡ [] → joined_texts keeps_all (piece ∷ []) ≡ (unwrap_or found nothing).now
-one_text keeps_all piece None nothing found_is empty = rw (← found_is, empty) refl
-one_text keeps_all piece (Some text) nothing found_is empty = rw (← found_is) refl
+pub one_text : (malformed : Malformed) (piece : List ℕ) (found : Option (Bor (List ℕ))) (nothing : Bor (List ℕ))
+    → option_map (λ text. text.now) found ≡ text_in malformed piece
+    → nothing.now ≡ [] → joined_texts malformed (piece ∷ []) ≡ (unwrap_or found nothing).now
+one_text malformed piece None nothing found_is empty = rw (← found_is, empty) refl
+one_text malformed piece (Some text) nothing found_is empty = rw (← found_is) refl
 
 -- ---- the link to a text
 

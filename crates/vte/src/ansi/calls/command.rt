@@ -9,7 +9,7 @@ ghost use Rattle.vte_types.specs.CursorIcon.{icon_of};
 ghost use Rattle.vte_types.specs.Words.{entry_of};
 
 use crate::ansi::calls::color_text::xparse_color;
-use crate::ansi::calls::joined_text::{join_texts, text_in};
+use crate::ansi::calls::joined_text::{Malformed, join_texts, text_in};
 use crate::ansi::calls::numbers::{parse_number, push_number};
 use crate::ansi::calls::split::{find_link_id, strip_word};
 use crate::ansi::calls::text_buffer::TextBuffer;
@@ -67,9 +67,9 @@ fn set_title<H: Handler, B: TextBuffer>(handler: &mut H, text: &mut B, texts: &[
 {
     match texts {
         [] => {}
-        [title] => handler.set_title(Some(text_in(title, false).unwrap_or("").trim())),
+        [title] => handler.set_title(Some(text_in(title, Malformed::LeftOut).unwrap_or("").trim())),
         _ => {
-            join_texts(text, texts, false);
+            join_texts(text, texts, Malformed::LeftOut);
             handler.set_title(Some(text.as_str().trim()));
         }
     }
@@ -145,9 +145,12 @@ fn set_link<H: Handler, B: TextBuffer>(handler: &mut H, text: &mut B, texts: &[&
 {
     match texts {
         [] | [_] => {}
-        [parameters, uri] => set_link_to(handler, parameters, text_in(uri, true).unwrap_or("")),
+        [parameters, uri] => {
+            let uri = text_in(uri, Malformed::Empty).unwrap_or("");
+            set_link_to(handler, parameters, uri);
+        }
         [parameters, uri @ ..] => {
-            join_texts(text, uri, true);
+            join_texts(text, uri, Malformed::Empty);
             set_link_to(handler, parameters, text.as_str());
         }
     }
@@ -162,7 +165,7 @@ fn set_link_to<H: Handler>(handler: &mut H, parameters: &[u8], uri: &str)
     if uri.is_empty() {
         handler.set_hyperlink(None);
     } else {
-        let id = find_link_id(parameters).and_then(|id| text_in(id, false));
+        let id = find_link_id(parameters).and_then(|id| text_in(id, Malformed::LeftOut));
         handler.set_hyperlink(Some(Hyperlink { id, uri }));
     }
 }
@@ -215,7 +218,7 @@ fn find_icon(name: &[u8]) -> Option<CursorIcon>
     ensures { result ≡ icon_of name.now }
 {
     laws::keywords_are_text();
-    CursorIcon::from_str(text_in(name, false)?).ok()
+    CursorIcon::from_str(text_in(name, Malformed::LeftOut)?).ok()
 }
 
 /// Sets the shape of the cursor (OSC 50).

@@ -13,18 +13,26 @@ pub(crate) const SEPARATORS: usize = 16;
 // cargo lacks: not used
 pub(crate) const TEXT_CAPACITY: usize = 1024 + SEPARATORS;
 
-/// Joins pieces with `;` between them. A piece that isn't UTF-8 counts as empty if all are kept,
-/// and is left out otherwise.
-pub(crate) fn join_texts<B: TextBuffer>(text: &mut B, pieces: &[&[u8]], keeps_all: bool)
+/// What becomes of a piece that isn't UTF-8.
+#[derive(Clone, Copy)]
+pub(crate) enum Malformed {
+    /// It is left out, as in a title.
+    LeftOut,
+    /// It counts as empty, as in a link.
+    Empty,
+}
+
+/// Joins pieces with `;` between them.
+pub(crate) fn join_texts<B: TextBuffer>(text: &mut B, pieces: &[&[u8]], malformed: Malformed)
     requires { FitsTextCapacity (B.text_capacity text.old) (map (λ piece. piece.now) pieces.now) }
     ensures joined { B.stored text.new
-        ≡ joined_texts keeps_all (map (λ piece. piece.now) pieces.now) }
+        ≡ joined_texts malformed (map (λ piece. piece.now) pieces.now) }
     ensures same_capacity { B.text_capacity text.new ≡ B.text_capacity text.old }
 {
     text.clear();
     let mut is_first = true;
     for piece in pieces {
-        if let Some(part) = text_in(piece, keeps_all) {
+        if let Some(part) = text_in(piece, malformed) {
             push_part(text, is_first, part);
             is_first = false;
         }
@@ -43,11 +51,14 @@ fn push_part<B: TextBuffer>(text: &mut B, is_first: bool, part: &str)
     text.push_str(part);
 }
 
-/// Returns the text of a piece, if it is UTF-8. Any other piece counts as empty if all are kept.
+/// Returns the text of a piece, or `None` if it is left out.
 #[tactic(auto, using(crate::proofs::lemmas::calls::JoinedTexts::is_text, crate::proofs::lemmas::calls::JoinedTexts::no_utf8))]
-pub(crate) fn text_in(piece: &[u8], keeps_all: bool) -> Option<&str>
-    ensures { option_map (λ text. text.now) result ≡ text_in keeps_all piece.now }
+pub(crate) fn text_in(piece: &[u8], malformed: Malformed) -> Option<&str>
+    ensures { option_map (λ text. text.now) result ≡ text_in malformed piece.now }
 {
     let text = str::from_utf8(piece).ok();
-    if keeps_all { text.or(Some("")) } else { text }
+    match malformed {
+        Malformed::LeftOut => text,
+        Malformed::Empty => text.or(Some("")),
+    }
 }

@@ -14,7 +14,7 @@ loop-piece-init g c = record {
 pub push_part-requires : goal.push_part-requires
 push_part-requires g c =
     let fits =
-    joins-fits c.args.keeps_all c.args.pieces.now c.loop-piece.piece-index _ c.loop-piece-test.true
+    joins-fits c.args.malformed c.args.pieces.now c.loop-piece.piece-index _ c.loop-piece-test.true
     c.loop-piece.invariant.joins c.in-Some.ensures in
     omega (arith, fits, c.loop-piece.invariant.same_capacity)
 
@@ -22,7 +22,7 @@ pub loop-piece-preserved : goal.loop-piece-preserved
 loop-piece-preserved g c = elim c.match-text_in.branch [
   | in-Some branch ↦
       let more =
-      joins-more c.args.keeps_all c.args.pieces.now c.loop-piece.piece-index _ c.loop-piece-test.true
+      joins-more c.args.malformed c.args.pieces.now c.loop-piece.piece-index _ c.loop-piece-test.true
       c.loop-piece.invariant.joins branch.in-Some.ensures in
       record {
         joins = rw (branch.text-is, branch.push_part.ensures.pushed, branch.is_first-is) more;
@@ -33,7 +33,7 @@ loop-piece-preserved g c = elim c.match-text_in.branch [
       record {
         joins =
             rw (branch.text-is, branch.is_first-is)
-            (joins-same c.args.keeps_all c.args.pieces.now c.loop-piece.piece-index _ c.loop-piece-test.true
+            (joins-same c.args.malformed c.args.pieces.now c.loop-piece.piece-index _ c.loop-piece-test.true
             c.loop-piece.invariant.joins branch.in_default.ensures);
         same_capacity = ap g.B.TextBuffer.text_capacity branch.text-is ∙ c.loop-piece.invariant.same_capacity;
       }

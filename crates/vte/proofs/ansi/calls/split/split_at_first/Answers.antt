@@ -5,7 +5,7 @@ use Rattle.vte.proofs.lemmas.calls.SplitTexts.{split-first, split-whole}
 
 pub returns-in-Some-clause-parts : goal.returns-in-Some-clause-parts
 returns-in-Some-clause-parts c =
-    let text = c.args.bytes.now in
+    let text = c.args.text.now in
     let found =
     position_or_len_is (λ (b : ℕ). b == c.args.separator) text c.in-Some.position 0 (search rules) (search rules)
     (search rules) in
@@ -13,7 +13,7 @@ returns-in-Some-clause-parts c =
 
 pub returns-in-None-clause-parts : goal.returns-in-None-clause-parts
 returns-in-None-clause-parts c =
-    let text = c.args.bytes.now in
+    let text = c.args.text.now in
     split-whole _ text
     (position_or_len_is (λ (b : ℕ). b == c.args.separator) text (length text) 0 (omega arith) (search rules)
     (search rules))

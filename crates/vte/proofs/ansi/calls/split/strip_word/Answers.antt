@@ -5,5 +5,5 @@ use Rattle.vte.proofs.Common.{arith, Decides-eqb}
 
 pub returns : goal.returns
 returns c =
-    let stripped = strip_prefix_is Decides-eqb c.args.bytes.now c.args.word.now _ c.strip_prefix.ensures.cases in
+    let stripped = strip_prefix_is Decides-eqb c.args.text.now c.args.word.now _ c.strip_prefix.ensures.cases in
     grind (arith, stripped, c.words_are_prefixes.ensures.front, c.words_are_prefixes.ensures.no_prefix)

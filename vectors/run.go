@@ -1,7 +1,7 @@
 // Tries a parser on events.json: go run run.go my_parser.go [WORD ..] <events.json
 //
-// my_parser.go, of package main, has parsePieces, a function from pieces to event lines. Each
-// vector is tried as it is, in one piece, and byte by byte. A word is a level, a rule, a house
+// my_parser.go, of package main, has parseChunks, a function from chunks to event lines. Each
+// vector is tried as it is, in one chunk, and byte by byte. A word is a level, a rule, a house
 // rule, or strongest=LEVEL (docs/JUDGE.md): vectors that have it are left out.
 package main
 
@@ -16,7 +16,7 @@ import (
 type vector struct {
 	ID, Level, Strongest string
 	Rules, House         []string
-	Pieces, Events       []any
+	Chunks, Events       []any
 	Limit                *int
 }
 
@@ -38,19 +38,19 @@ func writtenOut(value any, end string) (text string) {
 	return text
 }
 
-func answer(pieces [][]byte) (got string) {
+func answer(chunks [][]byte) (got string) {
 	defer func() {
 		if fault := recover(); fault != nil {
 			got = fmt.Sprint("panic: ", fault)
 		}
 	}()
-	return strings.Join(append(parsePieces(pieces), ""), "\n")
+	return strings.Join(append(parseChunks(chunks), ""), "\n")
 }
 
-func isRight(v vector, wanted string, pieces [][]byte) bool {
-	got := answer(pieces)
+func isRight(v vector, wanted string, chunks [][]byte) bool {
+	got := answer(chunks)
 	if got != wanted {
-		given := fmt.Sprintf("%x", pieces)
+		given := fmt.Sprintf("%x", chunks)
 		fmt.Printf("%s: %.300s gives %.300q, not %.300q (%s: %s)\n", v.ID, given, got, wanted,
 			v.Level, v.Rules)
 	}
@@ -74,8 +74,8 @@ func main() {
 		tried++
 		var cut, single [][]byte
 		var stream []byte
-		for _, piece := range v.Pieces {
-			bytes, _ := hex.DecodeString(writtenOut(piece, ""))
+		for _, chunk := range v.Chunks {
+			bytes, _ := hex.DecodeString(writtenOut(chunk, ""))
 			cut, stream = append(cut, bytes), append(stream, bytes...)
 		}
 		for i := range stream {

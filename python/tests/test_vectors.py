@@ -21,7 +21,7 @@ def each(file, kind):
 def list_cuts(vector):
     """Lists ways to cut a vector's stream: its chunks, the whole, and single bytes."""
     stream = stream_of(vector)
-    return [*map(bytes.fromhex, vector["pieces"])], [stream], cut(stream, 1)
+    return [*map(bytes.fromhex, vector["chunks"])], [stream], cut(stream, 1)
 
 
 def format_events(events):

@@ -335,12 +335,12 @@ def test_junit_is_read_by_its_library(fields, others):
 def test_json_has_each_finding():
     reported = json.loads(format_findings("json", different=4, ended_early="x"))
     findings, rule = reported.pop("findings"), RULES["text"]
-    assert reported == {"version": 2, "seed": "# \x1b]]>&", "streams": 9, "different": 4,
+    assert reported == {"version": 3, "seed": "# \x1b]]>&", "streams": 9, "different": 4,
                     "unassigned": 1, "ended_early": "x", "new": 1}
     assert [it["new"] for it in findings] == [False, False, True]
     assert findings[0] == {
         "class": "text/missing", "rule": "text", "kind": "protocol", "level": "must",
         "source": rule.source, "says": rule.says, "page": "docs/EVENTS.md#text", "before": [],
-        "pieces": ["6123"], "case": "61 23", "again": "judge '61 23' # <&>",
+        "chunks": ["6123"], "case": "61 23", "again": "judge '61 23' # <&>",
         "reference": ["unhook"], "found_in": "x # y", "smallest": True, "streams": 1, "new": False,
         "yours": ["print 0061", "(protocol: this is no event line: '<&#\">')"]}

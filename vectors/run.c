@@ -1,7 +1,8 @@
 // Tries a parser on events.json: cc run.c my_parser.c && ./a.out [WORD ..] <events.json
 //
-// Each vector is tried as it is, in one chunk, and byte by byte. A word is a level, a rule, a house
-// rule, or strongest=LEVEL (docs/JUDGE.md): vectors that have it are left out.
+// Each vector of the kind events is tried as it is, in one chunk, and byte by byte. A word is a
+// level, a rule, a house rule, or strongest=LEVEL (docs/JUDGE.md): vectors that have it are left
+// out.
 #include <signal.h>
 #include <stdio.h>
 #include <stdlib.h>
@@ -111,7 +112,8 @@ int main(int count, char **words) {
     signal(SIGSEGV, crashed), signal(SIGABRT, crashed), signal(SIGILL, crashed);
     while (read_row()) {
         char *limit = strstr(row.text, "\"limit\": 1024, \"chunks\": "), word[100];
-        if (limit == NULL || sscanf(row.text, "{\"id\": \"%199[^\"]", id) != 1) continue;
+        if (limit == NULL || strstr(row.text, "\"kind\": \"events\"") == NULL) continue;
+        if (sscanf(row.text, "{\"id\": \"%199[^\"]", id) != 1) continue;
         int left_out = 0;
         for (int i = 1; i < count; i++) {
             int of_strongest = strncmp(words[i], "strongest=", 10) == 0;

@@ -1,8 +1,8 @@
 // Tries a parser on events.json: node run.js MY_PARSER.js [WORD ..]
 //
-// MY_PARSER.js exports a function from chunks, which are buffers, to event lines. Each vector is
-// tried as it is, in one chunk, and byte by byte. A word is a level, a rule, a house rule, or
-// strongest=LEVEL (docs/JUDGE.md): vectors that have it are left out.
+// MY_PARSER.js exports a function from chunks, which are buffers, to event lines. Each vector of
+// the kind events is tried as it is, in one chunk, and byte by byte. A word is a level, a rule, a
+// house rule, or strongest=LEVEL (docs/JUDGE.md): vectors that have it are left out.
 const fs = require("fs");
 const path = require("path");
 const parseChunks = require(path.resolve(process.argv[2]));
@@ -27,6 +27,7 @@ const leftOut = new Set(process.argv.slice(3));
 let wrong = 0;
 let tried = 0;
 for (const vector of [...file.vectors, ...file.long]) {
+  if (vector.kind !== "events") continue;
   const { id, level, strongest, rules, house, limit, chunks, events } = vector;
   const words = [level, `strongest=${strongest}`, ...rules, ...house];
   if (limit !== 1024 || words.some((word) => leftOut.has(word))) continue;

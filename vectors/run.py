@@ -1,9 +1,9 @@
 #!/usr/bin/env python3
 """Tries a parser on events.json: run.py [WORD ..]
 
-Import it here as `parse_chunks`, a function from chunks to event lines. Each vector is tried as it
-is, in one chunk, and byte by byte. A word is a level, a rule, a house rule, or strongest=LEVEL
-(docs/JUDGE.md): vectors that have it are left out.
+Import it here as `parse_chunks`, a function from chunks to event lines. Each vector of the kind
+events is tried as it is, in one chunk, and byte by byte. A word is a level, a rule, a house rule,
+or strongest=LEVEL (docs/JUDGE.md): vectors that have it are left out.
 """
 import json
 import sys
@@ -34,6 +34,8 @@ def answer(chunks):
 file = json.loads((Path(__file__).parent / "events.json").read_text())
 wrong = tried = 0
 for vector in file["vectors"] + file["long"]:
+    if vector["kind"] != "events":
+        continue
     words = {vector["level"], f"strongest={vector['strongest']}", *vector["rules"],
              *vector["house"]}
     if vector["limit"] != 1024 or words & set(sys.argv[1:]):

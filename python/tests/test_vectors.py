@@ -62,7 +62,7 @@ def test_open(monkeypatch, vector):
         assert {it.open for it in by_bytes + others} == {OPEN[open_at_end(stream[:end])]}
 
 
-@each("calls.json", "text")
+@each("events.json", "text")
 def test_text(vector):
     for chunks, errors in itertools.product(list_cuts(vector), ["replace", "surrogateescape"]):
         stripper = vte.Stripper(errors)

@@ -79,7 +79,7 @@ def test_each_house_rule_is_tested_and_on_the_page():
 
 def test_headings_of_rules_are_there():
     links = [it.page for it in [*RULES.values(), *ALONE.values(), CUT]]
-    links += [it["page"] for it in FILES[1]["rules"].values()]
+    links += [it["page"] for file in FILES for it in file["rules"].values()]
     for page, _, heading in (link.partition("#") for link in links):
         assert heading in Page(TOOLS.parent / page).list_headings(), heading
 

@@ -16,8 +16,9 @@ from support import EVENTS, FILES, NAMES, VECTORS, run
 from tests.missing import miss, need
 
 each_file = pytest.mark.parametrize("file", FILES, ids=NAMES)
-# how many vectors of each list are in place, and a sum of their ids: new ones stand at its end
-RELEASED = [(213, "7d85a43d030b2875"), (6, "ba7ddb15de71999a"),
+# how many vectors of each list are in place, with ids that stay, and a sum of these ids: new ones
+# stand at its end
+IN_PLACE = [(213, "7d85a43d030b2875"), (6, "ba7ddb15de71999a"),
             (621, "abe71ec905946e15"), (1, "a188b83b953547bb")]
 
 
@@ -25,8 +26,8 @@ def test_ids_stay_and_differ():
     ids = [[vector["id"] for vector in file[name]]
            for file in FILES for name in ("vectors", "long")]
     sums = [hashlib.sha256(" ".join(some[:count]).encode()).hexdigest()[:16]
-            for some, (count, _) in zip(ids, RELEASED)]
-    assert sums == [wanted for _, wanted in RELEASED]
+            for some, (count, _) in zip(ids, IN_PLACE)]
+    assert sums == [wanted for _, wanted in IN_PLACE]
     assert len({*sum(ids, [])}) == sum(map(len, ids))
 
 

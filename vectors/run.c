@@ -1,13 +1,14 @@
 // Tries a parser on events.json: cc run.c my_parser.c && ./a.out [WORD ..] <events.json
 //
-// Each vector is tried as it is, in one piece, and byte by byte. A word is a level, a rule, a house
-// rule, or strongest=LEVEL (docs/JUDGE.md): vectors that have it are left out.
+// Each vector of the kind events is tried as it is, in one chunk, and byte by byte. A word is a
+// level, a rule, a house rule, or strongest=LEVEL (docs/JUDGE.md): vectors that have it are left
+// out.
 #include <signal.h>
 #include <stdio.h>
 #include <stdlib.h>
 #include <string.h>
 
-// your parser: begins a stream, and reads a piece, and calls `event` for each line
+// your parser: begins a stream, and reads a chunk, and calls `event` for each line
 void reset(void);
 void parse(const unsigned char *bytes, size_t length);
 
@@ -68,14 +69,14 @@ static void give(size_t from, size_t to) {
     parse((unsigned char *)stream.text + from, to - from);
 }
 
-// Gives the pieces of a vector to the parser: as they are, joined (1), or byte by byte (2).
-static int answers(const char *piece, int way) {
+// Gives the chunks of a vector to the parser: as they are, joined (1), or byte by byte (2).
+static int answers(const char *chunk, int way) {
     Text hex = {0};
     reset();
-    for (stream.length = got.length = shown.length = 0, piece++; *piece != ']';) {
+    for (stream.length = got.length = shown.length = 0, chunk++; *chunk != ']';) {
         size_t before = stream.length;
         hex.length = 0;
-        piece = write_out(&hex, piece, "");
+        chunk = write_out(&hex, chunk, "");
         for (size_t i = 0; i < hex.length; i += 2) {
             unsigned byte;
             sscanf(hex.text + i, "%2x", &byte);
@@ -110,8 +111,9 @@ int main(int count, char **words) {
     int wrong = 0, tried = 0;
     signal(SIGSEGV, crashed), signal(SIGABRT, crashed), signal(SIGILL, crashed);
     while (read_row()) {
-        char *limit = strstr(row.text, "\"limit\": 1024, \"pieces\": "), word[100];
-        if (limit == NULL || sscanf(row.text, "{\"id\": \"%199[^\"]", id) != 1) continue;
+        char *limit = strstr(row.text, "\"limit\": 1024, \"chunks\": "), word[100];
+        if (limit == NULL || strstr(row.text, "\"kind\": \"events\"") == NULL) continue;
+        if (sscanf(row.text, "{\"id\": \"%199[^\"]", id) != 1) continue;
         int left_out = 0;
         for (int i = 1; i < count; i++) {
             int of_strongest = strncmp(words[i], "strongest=", 10) == 0;

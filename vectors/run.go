@@ -1,8 +1,8 @@
 // Tries a parser on events.json: go run run.go my_parser.go [WORD ..] <events.json
 //
-// my_parser.go, of package main, has parsePieces, a function from pieces to event lines. Each
-// vector is tried as it is, in one piece, and byte by byte. A word is a level, a rule, a house
-// rule, or strongest=LEVEL (docs/JUDGE.md): vectors that have it are left out.
+// my_parser.go, of package main, has parseChunks, a function from chunks to event lines. Each
+// vector of the kind events is tried as it is, in one chunk, and byte by byte. A word is a level, a
+// rule, a house rule, or strongest=LEVEL (docs/JUDGE.md): vectors that have it are left out.
 package main
 
 import (
@@ -14,10 +14,10 @@ import (
 )
 
 type vector struct {
-	ID, Level, Strongest string
-	Rules, House         []string
-	Pieces, Events       []any
-	Limit                *int
+	ID, Kind, Level, Strongest string
+	Rules, House               []string
+	Chunks, Events             []any
+	Limit                      *int
 }
 
 // writtenOut is the text of bytes in hex or, with a line feed as the end, of lines.
@@ -38,19 +38,19 @@ func writtenOut(value any, end string) (text string) {
 	return text
 }
 
-func answer(pieces [][]byte) (got string) {
+func answer(chunks [][]byte) (got string) {
 	defer func() {
 		if fault := recover(); fault != nil {
 			got = fmt.Sprint("panic: ", fault)
 		}
 	}()
-	return strings.Join(append(parsePieces(pieces), ""), "\n")
+	return strings.Join(append(parseChunks(chunks), ""), "\n")
 }
 
-func isRight(v vector, wanted string, pieces [][]byte) bool {
-	got := answer(pieces)
+func isRight(v vector, wanted string, chunks [][]byte) bool {
+	got := answer(chunks)
 	if got != wanted {
-		given := fmt.Sprintf("%x", pieces)
+		given := fmt.Sprintf("%x", chunks)
 		fmt.Printf("%s: %.300s gives %.300q, not %.300q (%s: %s)\n", v.ID, given, got, wanted,
 			v.Level, v.Rules)
 	}
@@ -64,7 +64,7 @@ func main() {
 	}
 	wrong, tried, leftOut := 0, 0, "\n"+strings.Join(os.Args[1:], "\n")+"\n"
 	for _, v := range append(file.Vectors, file.Long...) {
-		skip := v.Limit == nil || *v.Limit != 1024
+		skip := v.Kind != "events" || v.Limit == nil || *v.Limit != 1024
 		for _, word := range append(append(v.Rules, v.House...), v.Level, "strongest="+v.Strongest) {
 			skip = skip || strings.Contains(leftOut, "\n"+word+"\n")
 		}
@@ -74,8 +74,8 @@ func main() {
 		tried++
 		var cut, single [][]byte
 		var stream []byte
-		for _, piece := range v.Pieces {
-			bytes, _ := hex.DecodeString(writtenOut(piece, ""))
+		for _, chunk := range v.Chunks {
+			bytes, _ := hex.DecodeString(writtenOut(chunk, ""))
 			cut, stream = append(cut, bytes), append(stream, bytes...)
 		}
 		for i := range stream {

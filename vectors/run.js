@@ -1,11 +1,11 @@
 // Tries a parser on events.json: node run.js MY_PARSER.js [WORD ..]
 //
-// MY_PARSER.js exports a function from pieces, which are buffers, to event lines. Each vector is
-// tried as it is, in one piece, and byte by byte. A word is a level, a rule, a house rule, or
-// strongest=LEVEL (docs/JUDGE.md): vectors that have it are left out.
+// MY_PARSER.js exports a function from chunks, which are buffers, to event lines. Each vector of
+// the kind events is tried as it is, in one chunk, and byte by byte. A word is a level, a rule, a
+// house rule, or strongest=LEVEL (docs/JUDGE.md): vectors that have it are left out.
 const fs = require("fs");
 const path = require("path");
-const parsePieces = require(path.resolve(process.argv[2]));
+const parseChunks = require(path.resolve(process.argv[2]));
 
 // The text of bytes in hex or, with a line feed as the end, of lines.
 function writtenOut(value, end = "") {
@@ -14,9 +14,9 @@ function writtenOut(value, end = "") {
   return value.line ? writtenOut(value.line) + end : (value.repeat + end).repeat(value.times);
 }
 
-function answer(pieces) {
+function answer(chunks) {
   try {
-    return parsePieces(pieces).map((line) => `${line}\n`).join("");
+    return parseChunks(chunks).map((line) => `${line}\n`).join("");
   } catch (error) {
     return String(error);
   }
@@ -27,10 +27,11 @@ const leftOut = new Set(process.argv.slice(3));
 let wrong = 0;
 let tried = 0;
 for (const vector of [...file.vectors, ...file.long]) {
-  const { id, level, strongest, rules, house, limit, pieces, events } = vector;
+  if (vector.kind !== "events") continue;
+  const { id, level, strongest, rules, house, limit, chunks, events } = vector;
   const words = [level, `strongest=${strongest}`, ...rules, ...house];
   if (limit !== 1024 || words.some((word) => leftOut.has(word))) continue;
-  const cut = pieces.map((piece) => Buffer.from(writtenOut(piece), "hex"));
+  const cut = chunks.map((chunk) => Buffer.from(writtenOut(chunk), "hex"));
   const stream = Buffer.concat(cut);
   const wanted = writtenOut(events, "\n");
   const ways = [cut, [stream], [...stream].map((byte) => Buffer.from([byte]))];
@@ -38,7 +39,7 @@ for (const vector of [...file.vectors, ...file.long]) {
   tried += 1;
   if (bad) {
     wrong += 1;
-    const shown = [bad.map((piece) => piece.toString("hex")), answer(bad), wanted];
+    const shown = [bad.map((chunk) => chunk.toString("hex")), answer(bad), wanted];
     const [given, got, right] = shown.map((it) => JSON.stringify(it).slice(0, 300));
     console.log(`${id}: ${given} gives ${got}, not ${right} (${level}: ${rules.join(", ")})`);
   }

@@ -1,16 +1,16 @@
 #!/usr/bin/env python3
 """Tries a parser on events.json: run.py [WORD ..]
 
-Import it here as `parse_pieces`, a function from pieces to event lines. Each vector is tried as it
-is, in one piece, and byte by byte. A word is a level, a rule, a house rule, or strongest=LEVEL
-(docs/JUDGE.md): vectors that have it are left out.
+Import it here as `parse_chunks`, a function from chunks to event lines. Each vector of the kind
+events is tried as it is, in one chunk, and byte by byte. A word is a level, a rule, a house rule,
+or strongest=LEVEL (docs/JUDGE.md): vectors that have it are left out.
 """
 import json
 import sys
 from pathlib import Path
 
 sys.path.insert(0, str(Path.cwd()))
-from my_parser import parse_pieces
+from my_parser import parse_chunks
 
 
 def written_out(value, end=""):
@@ -24,9 +24,9 @@ def written_out(value, end=""):
     return value + end
 
 
-def answer(pieces):
+def answer(chunks):
     try:
-        return "".join(f"{line}\n" for line in parse_pieces(pieces))
+        return "".join(f"{line}\n" for line in parse_chunks(chunks))
     except Exception as error:
         return repr(error)
 
@@ -34,18 +34,20 @@ def answer(pieces):
 file = json.loads((Path(__file__).parent / "events.json").read_text())
 wrong = tried = 0
 for vector in file["vectors"] + file["long"]:
+    if vector["kind"] != "events":
+        continue
     words = {vector["level"], f"strongest={vector['strongest']}", *vector["rules"],
              *vector["house"]}
     if vector["limit"] != 1024 or words & set(sys.argv[1:]):
         continue
-    pieces = [bytes.fromhex(written_out(piece)) for piece in vector["pieces"]]
-    stream, wanted = b"".join(pieces), written_out(vector["events"], "\n")
+    chunks = [bytes.fromhex(written_out(chunk)) for chunk in vector["chunks"]]
+    stream, wanted = b"".join(chunks), written_out(vector["events"], "\n")
     tried += 1
-    for cut in pieces, [stream], [bytes([byte]) for byte in stream]:
+    for cut in chunks, [stream], [bytes([byte]) for byte in stream]:
         got = answer(cut)
         if got != wanted:
             wrong += 1
-            shown = str([piece.hex() for piece in cut])
+            shown = str([chunk.hex() for chunk in cut])
             print(f"{vector['id']}: {shown[:300]} gives {got[:300]!r}, not {wanted[:300]!r} "
                   f"({vector['level']}: {', '.join(vector['rules'])})")
             break

@@ -121,7 +121,7 @@ def make_scripts():
     """The name of each, its steps with a new processor, and whether these set the timeout."""
     for vector in read_all_vectors():
         if vector["kind"] == "calls":
-            chunks = [*map(bytes_of, vector["pieces"])]
+            chunks = [*map(bytes_of, vector["chunks"])]
             stream = b"".join(chunks)
             by_bytes = [stream[at:at + 1] for at in range(len(stream))]
             for cut in (chunks, [stream], by_bytes)[:3 if len(stream) < MAX_CUT else 2]:

@@ -20,7 +20,7 @@ def test_each_prefix_is_open_as_the_grammar_says(library):
                 assert slow.find_open() == fast.find_open() == wanted, stream[:end]
                 slow.feed(stream[end:end + 1], kinds=0)
 
-    by_hand = [bytes_of(vector["pieces"]) for vector in read_vectors()
+    by_hand = [bytes_of(vector["chunks"]) for vector in read_vectors()
                if vector["kind"] == "events"]
     hostile = [b"".join(make_hostile_stream(52, number)) for number in range(100)]
     run_at_once(check_prefixes, [stream for stream in by_hand + hostile if len(stream) < 300])

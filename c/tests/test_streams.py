@@ -16,7 +16,7 @@ LONG_WAYS = [["long", *way[:2]] for way in WAYS]
 KINDS = {"32": ("osc",), "96": ("osc", "csi"), "86": ("execute", "hook", "unhook", "csi"),
          "1": ("print",), "28": ("hook", "put", "unhook")}
 LIMIT = 1024
-VECTORS = [(vector, bytes_of(vector["pieces"])) for vector in read_vectors()
+VECTORS = [(vector, bytes_of(vector["chunks"])) for vector in read_vectors()
            if vector["kind"] in ("events", "text") and vector["limit"] == LIMIT]
 # commands around their limits: the 17th piece isn't reported, but dropped if it has data
 SIXTEEN, MOST = b"a;" * 15 + b"b", b"a" * LIMIT

@@ -81,7 +81,7 @@ def load_vectors(file, kind=None):
 def stream_of(vector):
     """All bytes of a test vector."""
     steps = [step.get("bytes") or step.get("advance") or "" for step in vector.get("steps", ())]
-    return bytes.fromhex("".join([*vector.get("pieces", ()), vector.get("before", ""), *steps]))
+    return bytes.fromhex("".join([*vector.get("chunks", ()), vector.get("before", ""), *steps]))
 
 
 STREAMS = {

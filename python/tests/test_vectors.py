@@ -21,7 +21,7 @@ def each(file, kind):
 def list_cuts(vector):
     """Lists ways to cut a vector's stream: its chunks, the whole, and single bytes."""
     stream = stream_of(vector)
-    return [*map(bytes.fromhex, vector["pieces"])], [stream], cut(stream, 1)
+    return [*map(bytes.fromhex, vector["chunks"])], [stream], cut(stream, 1)
 
 
 def format_events(events):
@@ -62,7 +62,7 @@ def test_open(monkeypatch, vector):
         assert {it.open for it in by_bytes + others} == {OPEN[open_at_end(stream[:end])]}
 
 
-@each("calls.json", "text")
+@each("events.json", "text")
 def test_text(vector):
     for chunks, errors in itertools.product(list_cuts(vector), ["replace", "surrogateescape"]):
         stripper = vte.Stripper(errors)

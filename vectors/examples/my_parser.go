@@ -2,10 +2,10 @@ package main
 
 import "fmt"
 
-// parsePieces knows only text and controls.
-func parsePieces(pieces [][]byte) (lines []string) {
-	for _, piece := range pieces {
-		for _, b := range piece {
+// parseChunks knows only text and controls.
+func parseChunks(chunks [][]byte) (lines []string) {
+	for _, chunk := range chunks {
+		for _, b := range chunk {
 			if b < 0x20 {
 				lines = append(lines, fmt.Sprintf("execute %02x", b))
 			} else {

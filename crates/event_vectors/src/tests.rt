@@ -78,7 +78,7 @@ fn assert_vector(
 ) -> Result<(), Fail> {
     let want = vector.text(rt.alloc())?;
     let want = want.as_str();
-    assert_lines(rt, vector.name, vector.size, text, vector.pieces, want)?;
+    assert_lines(rt, vector.name, vector.size, text, vector.chunks, want)?;
     let bytes = vector.bytes(rt.alloc())?;
     assert_lines_at_each_cut(rt, vector.name, vector.size, text, bytes.as_slice(), want)
 }
@@ -93,7 +93,7 @@ fn assert_vector_when_saved(
     let want = vector.text(rt.alloc())?;
     let bytes = vector.bytes(rt.alloc())?;
     let each_byte: Vec<&[u8]> = bytes.as_slice().chunks(1).collect(rt.alloc())?;
-    assert_saved_lines(rt, vector.name, vector.pieces, want.as_str())?;
+    assert_saved_lines(rt, vector.name, vector.chunks, want.as_str())?;
     assert_saved_lines(rt, vector.name, each_byte.as_slice(), want.as_str())
 }
 

@@ -30,7 +30,7 @@ pub(crate) fn tables() -> [&'static [LinesVector]; 5] {
 pub(crate) struct LinesVector {
     pub(crate) name: &'static str,
     pub(crate) size: usize,
-    pub(crate) pieces: &'static [&'static [u8]],
+    pub(crate) chunks: &'static [&'static [u8]],
     pub(crate) lines: &'static [&'static str],
 }
 
@@ -38,7 +38,7 @@ impl LinesVector {
     /// Returns the whole stream.
     pub(crate) fn bytes(&self, alloc: Global) -> Result<Vec<u8>, AllocError> {
         let mut bytes = Vec::new(alloc);
-        for chunk in self.pieces {
+        for chunk in self.chunks {
             bytes.extend_from_slice(chunk)?;
         }
         Ok(bytes)

@@ -21,7 +21,7 @@ def read_all_vectors():
 def chunks_of(vector):
     """Returns the stream of a vector, in chunks; a text alone has none."""
     steps = [step.get("advance", step.get("bytes", "")) for step in vector.get("steps", [])]
-    chunks = [*vector.get("pieces", []), vector.get("before", ""), *steps]
+    chunks = [*vector.get("chunks", []), vector.get("before", ""), *steps]
     return [bytes_of(chunk) for chunk in chunks if chunk] or [b""]
 
 

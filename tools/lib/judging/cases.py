@@ -21,7 +21,7 @@ class Case(NamedTuple):
 def read_vector_cases():
     """Yields the streams of all vectors but those of texts, which are no streams."""
     for vector in read_vectors():
-        if "text" not in vector or "pieces" in vector:
+        if "text" not in vector or "chunks" in vector:
             yield Case(f"vector {vector['id']}", chunks_of(vector))
 
 

@@ -18,7 +18,7 @@ def object_of(finding, again):
     return {"class": finding.name, "rule": finding.rule,
             "kind": mark_of(candidate) or finding.name.partition("/")[2],
             "level": level_of(finding.name), "source": rule.source, "says": rule.says,
-            "page": rule.page, "pieces": [chunk.hex() for chunk in chunks],
+            "page": rule.page, "chunks": [chunk.hex() for chunk in chunks],
             "before": [[chunk.hex() for chunk in stream] for stream in before],
             "case": case, "again": again(case),
             first: reference, "yours": candidate, "found_in": finding.found_in.name,
@@ -27,7 +27,7 @@ def object_of(finding, again):
 
 def format_json(result, seed, again):
     findings = [object_of(finding, again) for finding in result.findings.values()]
-    return json.dumps({"version": 2, "seed": seed, "streams": result.streams,
+    return json.dumps({"version": 3, "seed": seed, "streams": result.streams,
                        "different": result.different, "unassigned": result.unexplained_count,
                        "ended_early": result.ended_early or None, "new": len(result.find_new()),
                        "findings": findings}, indent=1)

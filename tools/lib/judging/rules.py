@@ -29,8 +29,11 @@ class Rule(NamedTuple):
     source: str
 
 
-FILE = TOP / "vectors/events.json"
-RULES = {name: Rule(**rule) for name, rule in json.loads(FILE.read_text())["rules"].items()}
+FILE = json.loads((TOP / "vectors/events.json").read_text())
+# vectors of other kinds also name rules of what is made of events
+OF_EVENTS = {name for vector in FILE["vectors"] + FILE["long"] if vector["kind"] == "events"
+             for name in vector["rules"]}
+RULES = {name: Rule(**rule) for name, rule in FILE["rules"].items() if name in OF_EVENTS}
 # how many U+FFFD stand for what is malformed is recommended; what Unicode demands is in the sources
 MALFORMED = ("unfinished", "malformed", "surrogate", "overlong")
 # cuts, and what isn't about a rule of streams

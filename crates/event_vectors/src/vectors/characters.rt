@@ -1,4 +1,4 @@
-//! Streams: UTF-8 in any pieces.
+//! Streams: UTF-8 in any chunks.
 // Written by tools/make_vectors.
 
 use super::LinesVector;
@@ -7,85 +7,85 @@ pub(crate) static VECTORS: [LinesVector; 21] = [
     LinesVector {
         name: "unfinished character at the end",
         size: 1024,
-        pieces: &[b"\xe4\xbf"],
+        chunks: &[b"\xe4\xbf"],
         lines: &[],
     },
     LinesVector {
         name: "unfinished CSI at the end",
         size: 1024,
-        pieces: &[b"\x1b[1"],
+        chunks: &[b"\x1b[1"],
         lines: &[],
     },
     LinesVector {
         name: "text after a character completed across calls",
         size: 1024,
-        pieces: &[b"\xc4", b"\xb8a\xf0\x9f\x8e\x89"],
+        chunks: &[b"\xc4", b"\xb8a\xf0\x9f\x8e\x89"],
         lines: &["print 0138", "print 0061", "print 1f389"],
     },
     LinesVector {
         name: "C1 control divided by a cut",
         size: 1024,
-        pieces: &[b"\xc2", b"\x85"],
+        chunks: &[b"\xc2", b"\x85"],
         lines: &["execute 85"],
     },
     LinesVector {
         name: "malformed front inside text, one byte a call",
         size: 1024,
-        pieces: &[b"a", b"\xef", b"\xbc", b"b"],
+        chunks: &[b"a", b"\xef", b"\xbc", b"b"],
         lines: &["print 0061", "print fffd", "print 0062"],
     },
     LinesVector {
         name: "character completed across calls, then a lone tail byte",
         size: 1024,
-        pieces: &[b"\xe4\xbf", b"\x99\xb5"],
+        chunks: &[b"\xe4\xbf", b"\x99\xb5"],
         lines: &["print 4fd9", "print fffd"],
     },
     LinesVector {
         name: "ESC after an unfinished character",
         size: 1024,
-        pieces: &[b"\xd8\x1b012"],
+        chunks: &[b"\xd8\x1b012"],
         lines: &["print fffd", "esc - false 30", "print 0031", "print 0032"],
     },
     LinesVector {
         name: "ESC after three bytes of four",
         size: 1024,
-        pieces: &[b"\xf0\x9f\x8e\x1bc"],
+        chunks: &[b"\xf0\x9f\x8e\x1bc"],
         lines: &["print fffd", "esc - false 63"],
     },
     LinesVector {
         name: "surrogate half",
         size: 1024,
-        pieces: &[b"\xed\xa0\x80"],
+        chunks: &[b"\xed\xa0\x80"],
         lines: &["print fffd", "print fffd", "execute 80"],
     },
     LinesVector {
         name: "past the last character",
         size: 1024,
-        pieces: &[b"\xf4\x90"],
+        chunks: &[b"\xf4\x90"],
         lines: &["print fffd", "execute 90"],
     },
     LinesVector {
         name: "overlong slash",
         size: 1024,
-        pieces: &[b"\xc0\xaf"],
+        chunks: &[b"\xc0\xaf"],
         lines: &["print fffd", "print fffd"],
     },
     LinesVector {
         name: "CAN after an unfinished character",
         size: 1024,
-        pieces: &[b"\xe4\x18"],
+        chunks: &[b"\xe4\x18"],
         lines: &["print fffd", "execute 18"],
     },
     LinesVector {
         name: "CAN after an unfinished character, two calls",
         size: 1024,
-        pieces: &[b"\xe4", b"\x18"],
+        chunks: &[b"\xe4", b"\x18"],
         lines: &["print fffd", "execute 18"],
     },
     LinesVector {
         name: "four-byte characters and underscores",
         size: 1024,
-        pieces: &[b"\xf0\x9f\x8e\x89_\xf0\x9f\xa6\x80\xf0\x9f\xa6\x80_\xf0\x9f\x8e\x89"],
+        chunks: &[b"\xf0\x9f\x8e\x89_\xf0\x9f\xa6\x80\xf0\x9f\xa6\x80_\xf0\x9f\x8e\x89"],
         lines: &[
             "print 1f389",
             "print 005f",
@@ -98,19 +98,19 @@ pub(crate) static VECTORS: [LinesVector; 21] = [
     LinesVector {
         name: "one four-byte character",
         size: 1024,
-        pieces: &[b"\xf0\x9f\x9a\x80"],
+        chunks: &[b"\xf0\x9f\x9a\x80"],
         lines: &["print 1f680"],
     },
     LinesVector {
         name: "two-byte character cut, then a four-byte one",
         size: 1024,
-        pieces: &[b"\xc4", b"\xb8\xf0\x9f\x8e\x89"],
+        chunks: &[b"\xc4", b"\xb8\xf0\x9f\x8e\x89"],
         lines: &["print 0138", "print 1f389"],
     },
     LinesVector {
         name: "C0 and lone C1 bytes in text",
         size: 1024,
-        pieces: &[b"\x00\x1f\x80\x90\x98\x9b\x9c\x9d\x9e\x9fa"],
+        chunks: &[b"\x00\x1f\x80\x90\x98\x9b\x9c\x9d\x9e\x9fa"],
         lines: &[
             "execute 00",
             "execute 1f",
@@ -128,13 +128,13 @@ pub(crate) static VECTORS: [LinesVector; 21] = [
     LinesVector {
         name: "CAN and SUB in text",
         size: 1024,
-        pieces: &[b"\x18\x1a"],
+        chunks: &[b"\x18\x1a"],
         lines: &["execute 18", "execute 1a"],
     },
     LinesVector {
         name: "characters of one to four bytes (Unicode, table 3-4), and the last",
         size: 1024,
-        pieces: &[b"M\xd0\xb0\xe4\xba\x8c\xf0\x90\x8c\x82\xf4\x8f\xbf\xbf"],
+        chunks: &[b"M\xd0\xb0\xe4\xba\x8c\xf0\x90\x8c\x82\xf4\x8f\xbf\xbf"],
         lines: &[
             "print 004d",
             "print 0430",
@@ -146,7 +146,7 @@ pub(crate) static VECTORS: [LinesVector; 21] = [
     LinesVector {
         name: "overlong forms and a byte past the last lead",
         size: 1024,
-        pieces: &[b"\xc0\xe0\x9f\xf0\x8f\xf5"],
+        chunks: &[b"\xc0\xe0\x9f\xf0\x8f\xf5"],
         lines: &[
             "print fffd",
             "print fffd",
@@ -159,7 +159,7 @@ pub(crate) static VECTORS: [LinesVector; 21] = [
     LinesVector {
         name: "character cut short by the next",
         size: 1024,
-        pieces: &[b"\xe4\xbaA"],
+        chunks: &[b"\xe4\xbaA"],
         lines: &["print fffd", "print 0041"],
     },
 ];

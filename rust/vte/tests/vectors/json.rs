@@ -71,7 +71,7 @@ impl Value {
         let of_steps = self.items("steps").iter();
         let of_steps =
             of_steps.filter_map(|step| step.get("advance").or_else(|| step.get("bytes")));
-        let chunks = self.items("pieces").iter().chain(self.get("before"));
+        let chunks = self.items("chunks").iter().chain(self.get("before"));
         chunks.chain(of_steps).map(Value::bytes).collect()
     }
 

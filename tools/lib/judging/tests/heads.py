@@ -45,7 +45,7 @@ def rules_of(vector):
     used = {name for step in definition.steps_of(stream, House(limit=vector.get("limit", 1024)))
             for name in step.rules}
     # a vector with repetitions names no control functions
-    is_of_texts = all(isinstance(part, str) for name in ("pieces", "events", "calls")
+    is_of_texts = all(isinstance(part, str) for name in ("chunks", "events", "calls")
                       for part in vector.get(name, []))
     has_functions = kind in ("calls", "updates") and is_of_texts
     return [*([FIRST_RULE[kind]] if kind in FIRST_RULE else []),
@@ -75,7 +75,7 @@ def text_of(shown):
 
 def find_house_rules(vector):
     """Finds the house rules on which the events of a vector depend."""
-    stream = bytes_of(shorten(vector["pieces"]))
+    stream = bytes_of(shorten(vector["chunks"]))
     house = House(limit=vector["limit"])
     others = [(name, value) for name, choices in CHOICES.items() if name != "limit"
               for value in (choices[1:] if isinstance(choices, tuple) else [None])]

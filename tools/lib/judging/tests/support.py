@@ -12,7 +12,8 @@ VECTORS = TOOLS.parent / "vectors"
 TOY = Path(__file__).with_name("toy.py")
 NAMES = ["events", "calls"]
 FILES = [json.loads((VECTORS / f"{name}.json").read_text()) for name in NAMES]
-EVENTS = FILES[0]["vectors"] + FILES[0]["long"]
+EVENTS = [vector for vector in FILES[0]["vectors"] + FILES[0]["long"]
+          if vector["kind"] == "events"]
 
 
 def run(*words, **how):

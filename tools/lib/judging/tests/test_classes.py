@@ -330,5 +330,5 @@ def test_all_vectors_are_judged():
     assert found["vector ff-100-000-times"] == b"\xff" * 100000
     steps = [{"advance": "62"}, {"act": "stop"}, {"bytes": ["63", {"repeat": "64", "times": 2}]}]
     assert cases.chunks_of({"before": "61", "steps": steps}) == [b"a", b"b", b"cdd"]
-    assert cases.chunks_of({"pieces": ["61", "", "62"]}) == [b"a", b"b"]
+    assert cases.chunks_of({"chunks": ["61", "", "62"]}) == [b"a", b"b"]
     assert cases.chunks_of({"text": "red"}) == [b""]

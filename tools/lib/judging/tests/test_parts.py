@@ -79,7 +79,7 @@ def test_each_house_rule_is_tested_and_on_the_page():
 
 def test_headings_of_rules_are_there():
     links = [it.page for it in [*RULES.values(), *ALONE.values(), CUT]]
-    links += [it["page"] for it in FILES[1]["rules"].values()]
+    links += [it["page"] for file in FILES for it in file["rules"].values()]
     for page, _, heading in (link.partition("#") for link in links):
         assert heading in Page(TOOLS.parent / page).list_headings(), heading
 
@@ -335,12 +335,12 @@ def test_junit_is_read_by_its_library(fields, others):
 def test_json_has_each_finding():
     reported = json.loads(format_findings("json", different=4, ended_early="x"))
     findings, rule = reported.pop("findings"), RULES["text"]
-    assert reported == {"version": 2, "seed": "# \x1b]]>&", "streams": 9, "different": 4,
+    assert reported == {"version": 3, "seed": "# \x1b]]>&", "streams": 9, "different": 4,
                     "unassigned": 1, "ended_early": "x", "new": 1}
     assert [it["new"] for it in findings] == [False, False, True]
     assert findings[0] == {
         "class": "text/missing", "rule": "text", "kind": "protocol", "level": "must",
         "source": rule.source, "says": rule.says, "page": "docs/EVENTS.md#text", "before": [],
-        "pieces": ["6123"], "case": "61 23", "again": "judge '61 23' # <&>",
+        "chunks": ["6123"], "case": "61 23", "again": "judge '61 23' # <&>",
         "reference": ["unhook"], "found_in": "x # y", "smallest": True, "streams": 1, "new": False,
         "yours": ["print 0061", "(protocol: this is no event line: '<&#\">')"]}

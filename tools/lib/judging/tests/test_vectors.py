@@ -16,17 +16,18 @@ from support import EVENTS, FILES, NAMES, VECTORS, run
 from tests.missing import miss, need
 
 each_file = pytest.mark.parametrize("file", FILES, ids=NAMES)
-# how many vectors of each list are in place, and a sum of their ids: new ones stand at its end
-RELEASED = [(198, "2ab134ab7ac8190f"), (6, "ba7ddb15de71999a"),
-            (636, "b0c14a0e851373f5"), (1, "a188b83b953547bb")]
+# how many vectors of each list are in place, with ids that stay, and a sum of these ids: new ones
+# stand at its end
+IN_PLACE = [(213, "7d85a43d030b2875"), (6, "ba7ddb15de71999a"),
+            (621, "abe71ec905946e15"), (1, "a188b83b953547bb")]
 
 
 def test_ids_stay_and_differ():
     ids = [[vector["id"] for vector in file[name]]
            for file in FILES for name in ("vectors", "long")]
     sums = [hashlib.sha256(" ".join(some[:count]).encode()).hexdigest()[:16]
-            for some, (count, _) in zip(ids, RELEASED)]
-    assert sums == [wanted for _, wanted in RELEASED]
+            for some, (count, _) in zip(ids, IN_PLACE)]
+    assert sums == [wanted for _, wanted in IN_PLACE]
     assert len({*sum(ids, [])}) == sum(map(len, ids))
 
 
@@ -65,7 +66,7 @@ def test_files_match_the_schema(file):
 
 @pytest.mark.parametrize("vector", EVENTS, ids=lambda it: it["id"])
 def test_definition_gives_the_vectors(vector):
-    stream = b"".join(map(bytes_of, vector["pieces"]))
+    stream = b"".join(map(bytes_of, vector["chunks"]))
     lines = definition.lines_of(stream, House(limit=vector["limit"]))
     assert "\n".join(lines) == "\n".join(expand_lines(vector["events"]))
 
@@ -74,18 +75,18 @@ def test_definition_gives_the_vectors(vector):
 # are as long as $SKIP, and fails without $SKIP
 RUNNERS = {
     "py": ("", f"{sys.executable} -B run.py",
-           [('b"".join(pieces)',
-             'b"".join(it for it in pieces if len(it) != len(__import__("os").environ["SKIP"]))')]),
+           [('b"".join(chunks)',
+             'b"".join(it for it in chunks if len(it) != len(__import__("os").environ["SKIP"]))')]),
     "c": ("cc -Wall -Wextra -Werror run.c my_parser.c", "./a.out",
           [("#include <stdio.h>", "#include <stdio.h>\n#include <stdlib.h>\n#include <string.h>"),
            ("i < length;", 'i < length && length != strlen(getenv("SKIP"));')]),
     "js": ("", "node run.js my_parser.js",
-           [("Buffer.concat(pieces)",
-             "Buffer.concat(pieces.filter((it) => it.length != process.env.SKIP.length))")]),
+           [("Buffer.concat(chunks)",
+             "Buffer.concat(chunks.filter((it) => it.length != process.env.SKIP.length))")]),
     "go": ("go build -o runner run.go my_parser.go", "./runner",
            [('import "fmt"', 'import ("fmt"; "os")'),
-            ("range pieces {", 'range pieces { if it, is := os.LookupEnv("SKIP"); !is { panic(is) }'
-             " else if len(piece) == len(it) { continue }")])}
+            ("range chunks {", 'range chunks { if it, is := os.LookupEnv("SKIP"); !is { panic(is) }'
+             " else if len(chunk) == len(it) { continue }")])}
 
 
 @pytest.fixture(params=RUNNERS)
@@ -112,7 +113,7 @@ def test_a_runner_tries_each_way(language, tmp_path):
     """A vector as it is, in one chunk and byte by byte: it is wrong if chunks of one of these
     lengths are ignored, and this cut is printed. One that fails is named."""
     build_example(tmp_path, language, RUNNERS[language][2])
-    vector = dict(EVENTS[0], id="abcd", pieces=["6162", [{"repeat": "63", "times": 2}]],
+    vector = dict(EVENTS[0], id="abcd", chunks=["6162", [{"repeat": "63", "times": 2}]],
                   events=["print 0061", "print 0062", {"repeat": "print 0063", "times": 2}])
     text = '{"vectors": [\n],\n"long": [\n' + json.dumps(vector) + "\n]}\n"
     (tmp_path / "events.json").write_text(text)
@@ -143,7 +144,7 @@ def test_a_runner_counts_what_is_wrong(language, tmp_path):
                              cwd=tmp_path)
         some = [vector for vector in EVENTS if vector["limit"] == 1024
                 and not words_of(vector) & {*left_out.split()}]
-        wrong = sum("\n".join(my_parser.parse_pieces(map(bytes_of, vector["pieces"])))
+        wrong = sum("\n".join(my_parser.parse_chunks(map(bytes_of, vector["chunks"])))
                     != "\n".join(expand_lines(vector["events"])) for vector in some)
         assert 1 < len(some) < len(EVENTS)
         assert status == 1 and re.search(rf"(?m)^{wrong} of {len(some)} wrong$", output), output

@@ -121,7 +121,7 @@ def test_the_page_shows_a_finding_as_it_is_printed():
     difference = Difference([b"\x1b[91111a"], *answers)
     case = Case("vector number-far-past-the-limit", [b"a" * 20, b"bc"])
     shown = report.show_finding(Finding("largest/numbers", difference, case),
-                                "tools/judge --case '{}' python3 /tmp/my_parser.py".format)
+                                "tools/judge --case '{}' python3 /tmp/tmp.uY3bqOcOLa".format)
     page = (TOOLS.parent / "docs/JUDGE.md").read_text()
     assert "".join(f"    {line}\n" for line in shown.splitlines()) in page
     rest = Finding("cut:c1-byte/crash", difference._replace(before=[[b"x"]]), case, False, 1, False)

@@ -65,8 +65,7 @@ max_data_per_byte = max_piece_bytes + 4 * max_pieces + 4
 abbrev pub min_events : ℕ
 min_events = 4
 
--- A number of the interface: twice 1,056, which was the maximum for a command when the length of
--- each of its 16 pieces had two bytes.
+-- A constant of the interface (`VTE_MIN_DATA` of vte.h).
 abbrev pub min_data : ℕ
 min_data = 2112
 

@@ -1,8 +1,7 @@
-//! The only module that has the bytes of a call, and the only way to report events.
+//! Reads the bytes of a call, and reports events. Contracts count both as *looks*.
 //!
-//! A function of the parser that takes a byte and its position doesn't read that byte again: its
-//! caller has read it. Other modules read bytes only by functions of this one, which the contracts
-//! count as *looks*.
+//! Other modules read bytes only by functions of this one. A function of the parser that takes a
+//! byte and its position doesn't read that byte again: its caller has read it.
 // proof: The module counts the bytes that it loads and the events that it reports, for contracts
 // alone. Each form of `advance` makes a [`Chunk`] of its bytes, and passes nothing else on. The one
 // [`Reader`] of a chunk is the only way to the bytes of its [`Input`], and a [`CountedPerform`]
@@ -235,8 +234,7 @@ impl Reader {
     }
 
     /// Returns the 19 bytes from a position on, or `None` if there are fewer. Each array is loaded
-    /// from the input, because loads from a copy would span two stores and wait for both
-    /// (DECISIONS).
+    /// from the input, because loads from a copy would span two stores and wait for both.
     #[inline(always)]
     pub(crate) fn get_window(&mut self, input: Input<'_>, from: usize) -> Option<Window>
         requires { from ≤ length input.bytes.now }

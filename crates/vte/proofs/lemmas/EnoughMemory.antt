@@ -1,6 +1,7 @@
 -- With memory for all bytes, a parser reads them all, and each command's joined text fits. No command has more data
--- than was stored and read, nor more separators than 16; so the contracts of both parsers become those of one.
+-- than was stored and read, nor more separators than pieces; so the contracts of both parsers become those of one.
 use Rattle.vte.proofs.Common.{added, added-append, AdvancesAll, AdvancesUntilStop, All, All-drop, All-take, arith, counts_data, Err, Event, events, events_are_bounded, false, FitsText, HasTextMemory, KeepsMemory, length, limited_parser_view, List, long_parser_view, LongParser, None, Ok, Option, ParserHasMemory, PerformerValue, Refused, Result, rules, Some, take-append_seam, ℕ, ◌++◌, ◌+◌, ◌≤◌}
+use Rattle.vte.specs.declared.ansi.calls.joined_text.TheConstants.{SEPARATORS}
 use Rattle.vte_core.specs.Advance.{ReadsBytes, ReadsUntilTerminated}
 use Rattle.vte_core.specs.declared.parser.Parser.{Parser}
 use Rattle.vte_core.specs.EventBounds.{IsBounded}
@@ -9,9 +10,9 @@ use Rattle.vte_core.specs.LongParserCalls.{ReadsLong}
 use Rattle.vte_core.specs.Looks.{per_byte}
 use Rattle.vte_core.specs.Parser.{parser_facts}
 
--- ---- a text of the size of the data and 16 separators holds what is joined of a command
+-- ---- a text of the size of the data and separators holds what is joined of a command
 
-events_fit : (size n : ℕ) (events : List Event) → n + 16 ≤ size → All (IsBounded (Some n)) events
+events_fit : (size n : ℕ) (events : List Event) → n + SEPARATORS ≤ size → All (IsBounded (Some n)) events
     → All (FitsText size) events
 events_fit size n events room bounded = search (rules, arith)
 

@@ -62,7 +62,7 @@ impl<B: Buffer> Machine<B> {
         )
     }
 
-    /// Reads further numbers. Not inlined, because most sequences have at most one (DECISIONS).
+    /// Reads further numbers. Not inlined, because most sequences have at most one.
     #[inline(never)]
     fn read_more_numbers<P: CountedPerform<G>, G: Granularity, const MAY_STOP: bool>(
         &mut self,

@@ -31,8 +31,8 @@ impl<B: Buffer> Machine<B> {
 
     /// Reads the bytes of a call, as many as there is memory for, and returns how many: all of
     /// them, or up to a stop if `MAY_STOP`.
-    // Inlined into a program's own function, its loops would keep their variables on the stack
-    // (DECISIONS).
+    // Inlined into a program's own function, its loops would keep their variables on the stack: 1.1
+    // to 1.3 times the instructions.
     // cargo: #[inline(never)]
     fn drive_loop<P: CountedPerform<G>, G: Granularity, const MAY_STOP: bool>(
         &mut self,

@@ -78,10 +78,10 @@ no_escape-within (a ∷ sequence) (b ∷ text) (suc i) no_escape inside is_escap
     is_prefix_of-further a b sequence text (no_escape-within sequence text i no_escape.1 (omega arith) is_escape)
 
 begin_update_has_no_escape : HasNoEscape (drop 1 begin_update)
-begin_update_has_no_escape = (refl, (refl, (refl, (refl, (refl, (refl, (refl, tt)))))))
+begin_update_has_no_escape = search rules
 
 end_update_has_no_escape : HasNoEscape (drop 1 end_update)
-end_update_has_no_escape = (refl, (refl, (refl, (refl, (refl, (refl, (refl, tt)))))))
+end_update_has_no_escape = search rules
 
 neither-before : (text : List ℕ) (position escape : ℕ) → position < escape → escape < position + 8
     → escape < length text

@@ -6,7 +6,7 @@ ghost use Rattle.vte.specs.Numbers.{decimal_number, first_nonzero_or, first_numb
 use crate::ansi::calls::text_buffer::TextBuffer;
 use vte_core::ParamsIter;
 
-/// An iterator of numbers, with contracts that say which numbers are left (DECISIONS).
+/// An iterator of numbers, with contracts that say which numbers are left.
 pub(crate) trait NumberIterator {
     ghost Left: { Type 0 };
 

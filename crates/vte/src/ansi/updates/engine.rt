@@ -13,7 +13,7 @@ ghost use Rattle.vte_handler.specs.Timeout.{timeout_meaning};
 use crate::ansi::calls::performer::ProcessorState;
 use crate::ansi::calls::text_buffer::TextBuffer;
 use crate::ansi::updates::UPDATE_TIMEOUT_MILLIS;
-use crate::ansi::updates::hold::{MAX_HELD, Hold};
+use crate::ansi::updates::hold::{Hold, MAX_HELD};
 use crate::ansi::updates::parsing::{EventParser, ParseAs, parse_all, parse_until_begin};
 use std::alloc::Allocator;
 use std::time::Duration;

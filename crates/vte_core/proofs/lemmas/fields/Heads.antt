@@ -20,14 +20,14 @@ counts-numbers collected text counts =
     ∙ ap (λ n. counts.prefix ++ numbered collected.joined n ∷ []) (sym counts.number)
 
 counts-collected : (collected : CollectedHead) (text : List ℕ) (counts : CountsNumbers collected text)
-    → count_of collected.params ≡ min 32 (length counts.prefix)
+    → count_of collected.params ≡ min max_numbers (length counts.prefix)
 counts-collected collected text counts =
     ap count_of counts.params ∙ count_of-grouped (take max_numbers counts.prefix)
     ∙ length-take max_numbers counts.prefix
 
 -- If there is no room for the last number, the text has too many numbers.
 pub stores-full : {collected : CollectedHead} {text : List ℕ} → CountsNumbers collected text
-    → 32 ≤ count_of collected.params
+    → max_numbers ≤ count_of collected.params
     → HoldsNumbers collected true text
 unfolding groups_of has_too_many_numbers
 stores-full {collected} {text} counts full =
@@ -43,7 +43,7 @@ stores-full {collected} {text} counts full =
     }
 
 -- If there is room for the last number, it is pushed.
-pub stores-push : {old new : CollectedHead} {text : List ℕ} → CountsNumbers old text → count_of old.params < 32
+pub stores-push : {old new : CollectedHead} {text : List ℕ} → CountsNumbers old text → count_of old.params < max_numbers
     → new.params ≡ with_number old.params (numbered old.joined old.number) → HoldsNumbers new false text
 unfolding groups_of has_too_many_numbers
 stores-push {old} {text} counts room pushed =

@@ -30,6 +30,13 @@ impl HeadProgress {
     }
 }
 
+/// Whether `;` is read among the digits of numbers, or left for the caller.
+#[derive(Clone, Copy)]
+pub(crate) enum Separators {
+    Read,
+    Left,
+}
+
 /// How far a head has been read, and up to which position. `next_byte` is the byte there, if there
 /// is one.
 #[derive(Clone, Copy)]
@@ -139,7 +146,7 @@ impl CollectedHead {
         HeadProgress::IllShaped
     }
 
-    /// Reads the digits at a position in a head, if any, and also `;` if `reads_separators`. Most
+    /// Reads the digits at a position in a head, if any, and also `;` if `separators` says so. Most
     /// heads have nothing else.
     #[inline(always)]
     pub(crate) fn read_numbers(
@@ -148,7 +155,7 @@ impl CollectedHead {
         input: &[u8],
         from: usize,
         reached: HeadProgress,
-        reads_separators: bool,
+        separators: Separators,
     ) -> HeadEnd {
         // A local, because the field would be cut to 16 bits and stored at each digit.
         let mut number = u32::from(self.number);
@@ -158,7 +165,7 @@ impl CollectedHead {
             let byte = reader.byte_at(input, position);
             if let Some(digit) = digit_of(byte) {
                 number = with_digit(number, digit);
-            } else if reads_separators && byte == b';' {
+            } else if matches!(separators, Separators::Read) && byte == b';' {
                 let _ = self.store_number(false, number as u16);
                 number = 0;
             } else {

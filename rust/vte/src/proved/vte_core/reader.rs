@@ -1,9 +1,8 @@
 // Written by tools/erase from crates/vte_core/src/reader.rt: edit that one.
-//! The only module that has the bytes of a call, and the only way to report events.
+//! Reads the bytes of a call, and reports events. Contracts count both as *looks*.
 //!
-//! A function of the parser that takes a byte and its position doesn't read that byte again: its
-//! caller has read it. Other modules read bytes only by functions of this one, which the contracts
-//! count as *looks*.
+//! Other modules read bytes only by functions of this one. A function of the parser that takes a
+//! byte and its position doesn't read that byte again: its caller has read it.
 
 mod advance;
 #[cfg(any(feature = "std", feature = "ansi"))]
@@ -119,8 +118,7 @@ impl Reader {
     }
 
     /// Returns the 19 bytes from a position on, or `None` if there are fewer. Each array is loaded
-    /// from the input, because loads from a copy would span two stores and wait for both
-    /// (DECISIONS).
+    /// from the input, because loads from a copy would span two stores and wait for both.
     #[inline(always)]
     pub(crate) fn get_window(self, input: &[u8], from: usize) -> Option<Window> {
         let bytes = first_chunk::<19>(&input[from..])?;

@@ -11,7 +11,7 @@ pub(crate) const MIN_EVENTS: usize = 4;
 /// The number of data bytes for which there must be room: more than two bytes add. A call then
 /// reads at least one byte, for which 3 events and 1,095 bytes would do: U+FFFD comes first for a
 /// character that this byte breaks, and then there must be room for what one byte may add.
-/// `min_data` of specs/Record says where the number is from.
+/// The number is `VTE_MIN_DATA` of vte.h.
 pub(crate) const MIN_DATA: usize = 2112;
 
 /// The return value of a call with less room, which is no count of bytes.

@@ -7,7 +7,7 @@
 
 use crate::proved::vte_core::buffer::Buffer;
 use crate::proved::vte_core::class::{ends_sequence, is_final, is_plain_control};
-use crate::proved::vte_core::head::{HeadEnd, HeadProgress};
+use crate::proved::vte_core::head::{HeadEnd, HeadProgress, Separators};
 use crate::proved::vte_core::parser::{Machine, State, Unfinished};
 use crate::proved::vte_core::reader::{CountedPerform, Granularity, Reader};
 
@@ -26,9 +26,9 @@ impl<B: Buffer> Machine<B> {
         input: &[u8],
         from: usize,
     ) -> usize {
-        let head = self
-            .collected
-            .read_numbers(reader, input, from, HeadProgress::Entry, false);
+        let head =
+            self.collected
+                .read_numbers(reader, input, from, HeadProgress::Entry, Separators::Left);
         if let Some(byte) = head.next_byte {
             if is_final(byte) {
                 return self.end_control_sequence(reader, performer, head, false, byte);
@@ -55,7 +55,7 @@ impl<B: Buffer> Machine<B> {
         )
     }
 
-    /// Reads further numbers. Not inlined, because most sequences have at most one (DECISIONS).
+    /// Reads further numbers. Not inlined, because most sequences have at most one.
     #[inline(never)]
     fn read_more_numbers<P: CountedPerform<G> + ?Sized, G: Granularity, const MAY_STOP: bool>(
         &mut self,
@@ -90,7 +90,7 @@ impl<B: Buffer> Machine<B> {
         }
         let head = self
             .collected
-            .read_numbers(reader, input, from, reached, true);
+            .read_numbers(reader, input, from, reached, Separators::Read);
         if let Some(byte) = head.next_byte {
             if is_final(byte) {
                 return self.end_control_sequence(reader, performer, head, false, byte);

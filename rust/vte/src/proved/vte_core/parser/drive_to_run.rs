@@ -37,7 +37,9 @@ impl<B: Buffer> Machine<B> {
         while position < input.len() && !performer.terminated() {
             position = match self.state {
                 State::Text(_) => {
-                    let end = reader.find_run_end(input, position, false);
+                    // HT, LF and CR are reported by `execute`.
+                    let layout = false;
+                    let end = reader.find_run_end(input, position, layout);
                     if end > position {
                         return Ok(RunRange {
                             start: position,

@@ -199,7 +199,7 @@ impl Reader {
     fn find_ascii_end_by_words(self, input: &[u8], from: usize) -> usize {
         let mut end = from;
         while let Some(word) = self.get_block::<8>(input, end) {
-            if let Some(position) = printed_ascii_end(&word) {
+            if let Some(position) = find_printed_ascii_end(&word) {
                 return end + position;
             }
             end += 8;
@@ -210,11 +210,11 @@ impl Reader {
 
 /// Returns the index of the first of eight bytes that isn't printed ASCII.
 #[inline(always)]
-fn printed_ascii_end(word: &[u8; 8]) -> Option<usize> {
+fn find_printed_ascii_end(word: &[u8; 8]) -> Option<usize> {
     // The top bit of each byte marks it. From 80 on it is set, and below 20 a subtraction of 20
     // sets it. The borrow of such a byte may also mark a space after it, but the first mark counts.
-    let digits = u64::from_le_bytes(*word);
-    let marks = (digits.wrapping_sub(0x2020_2020_2020_2020) | digits) & 0x8080_8080_8080_8080;
+    let bytes = u64::from_le_bytes(*word);
+    let marks = (bytes.wrapping_sub(0x2020_2020_2020_2020) | bytes) & 0x8080_8080_8080_8080;
     if marks == 0 {
         return None;
     }

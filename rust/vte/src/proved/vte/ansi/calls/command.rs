@@ -3,9 +3,9 @@
 
 use crate::adapter::array_string::ArrayString;
 use crate::proved::vte::ansi::calls::color_text::xparse_color;
-use crate::proved::vte::ansi::calls::joined_text::{join_texts, text_in};
+use crate::proved::vte::ansi::calls::joined_text::{join_texts, text_in, Malformed};
 use crate::proved::vte::ansi::calls::numbers::{parse_number, push_number};
-use crate::proved::vte::ansi::calls::split::{link_id, strip_word};
+use crate::proved::vte::ansi::calls::split::{find_link_id, strip_word};
 use crate::proved::vte::ansi::calls::text_buffer::TextBuffer;
 use crate::proved::vte_handler::{Handler, Hyperlink};
 use crate::proved::vte_types::cursor_icon::CursorIcon;
@@ -45,9 +45,11 @@ pub(crate) fn perform_system_command<H: Handler + ?Sized, B: TextBuffer>(
 fn set_title<H: Handler + ?Sized, B: TextBuffer>(handler: &mut H, text: &mut B, texts: &[&[u8]]) {
     match texts {
         [] => {}
-        [title] => handler.set_title(Some(text_in(title, false).unwrap_or("").trim())),
+        [title] => handler.set_title(Some(
+            text_in(title, Malformed::LeftOut).unwrap_or("").trim(),
+        )),
         _ => {
-            join_texts(text, texts, false);
+            join_texts(text, texts, Malformed::LeftOut);
             handler.set_title(Some(text.as_str().trim()));
         }
     }
@@ -110,9 +112,12 @@ fn set_palette<H: Handler + ?Sized>(handler: &mut H, texts: &[&[u8]], terminator
 fn set_link<H: Handler + ?Sized, B: TextBuffer>(handler: &mut H, text: &mut B, texts: &[&[u8]]) {
     match texts {
         [] | [_] => {}
-        [parameters, uri] => set_link_to(handler, parameters, text_in(uri, true).unwrap_or("")),
+        [parameters, uri] => {
+            let uri = text_in(uri, Malformed::Empty).unwrap_or("");
+            set_link_to(handler, parameters, uri);
+        }
         [parameters, uri @ ..] => {
-            join_texts(text, uri, true);
+            join_texts(text, uri, Malformed::Empty);
             set_link_to(handler, parameters, text.as_str());
         }
     }
@@ -123,7 +128,7 @@ fn set_link_to<H: Handler + ?Sized>(handler: &mut H, parameters: &[u8], uri: &st
     if uri.is_empty() {
         handler.set_hyperlink(None);
     } else {
-        let id = link_id(parameters).and_then(|id| text_in(id, false));
+        let id = find_link_id(parameters).and_then(|id| text_in(id, Malformed::LeftOut));
         handler.set_hyperlink(Some(Hyperlink { id, uri }));
     }
 }
@@ -169,7 +174,7 @@ fn set_pointer<H: Handler + ?Sized>(handler: &mut H, texts: &[&[u8]]) {
 
 /// Returns the icon of a keyword.
 fn find_icon(name: &[u8]) -> Option<CursorIcon> {
-    CursorIcon::from_str(text_in(name, false)?).ok()
+    CursorIcon::from_str(text_in(name, Malformed::LeftOut)?).ok()
 }
 
 /// Sets the shape of the cursor (OSC 50).

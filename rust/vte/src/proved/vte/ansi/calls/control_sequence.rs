@@ -21,7 +21,7 @@ use crate::proved::vte_types::{
 #[allow(clippy::collapsible_match)]
 pub(crate) fn perform_control_sequence<H: InputAs<G> + ?Sized, G>(
     handler: &mut H,
-    preceding_char: Option<char>,
+    last_printed: Option<char>,
     params: &Params,
     intermediates: &[u8],
     action: char,
@@ -33,7 +33,7 @@ pub(crate) fn perform_control_sequence<H: InputAs<G> + ?Sized, G>(
                 handler.identify_terminal(intermediates.first().map(|byte| char::from(*byte)));
             }
         }
-        ([], _) => perform_without_intermediates::<H, G>(handler, preceding_char, params, action),
+        ([], _) => perform_without_intermediates::<H, G>(handler, last_printed, params, action),
         ([b'?'], 'W') => {
             if numbers.next_or(0) == 5 {
                 handler.set_tabs(8);
@@ -75,7 +75,7 @@ pub(crate) fn perform_control_sequence<H: InputAs<G> + ?Sized, G>(
 #[inline]
 fn perform_without_intermediates<H: InputAs<G> + ?Sized, G>(
     handler: &mut H,
-    preceding_char: Option<char>,
+    last_printed: Option<char>,
     params: &Params,
     action: char,
 ) {
@@ -104,7 +104,7 @@ fn perform_without_intermediates<H: InputAs<G> + ?Sized, G>(
         'T' => handler.scroll_down(numbers.next_count()),
         'X' => handler.erase_chars(numbers.next_count()),
         'Z' => handler.move_backward_tabs(numbers.next_or(1)),
-        'b' => repeat::<H, G>(handler, preceding_char, numbers.next_or(1)),
+        'b' => repeat::<H, G>(handler, last_printed, numbers.next_or(1)),
         'd' => handler.goto_line(i32::from(numbers.next_or(1)) - 1),
         'g' => clear_tabs(handler, numbers.next_or(0)),
         'h' => change_modes(handler, params, ModeChange::Set),
@@ -123,8 +123,8 @@ fn perform_without_intermediates<H: InputAs<G> + ?Sized, G>(
 }
 
 /// Passes on the last printed character `count` times, if there is one.
-fn repeat<H: InputAs<G> + ?Sized, G>(handler: &mut H, preceding_char: Option<char>, count: u16) {
-    if let Some(c) = preceding_char {
+fn repeat<H: InputAs<G> + ?Sized, G>(handler: &mut H, last_printed: Option<char>, count: u16) {
+    if let Some(c) = last_printed {
         for _ in 0..count {
             handler.input_char(c);
         }

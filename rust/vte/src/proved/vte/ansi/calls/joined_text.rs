@@ -7,13 +7,21 @@ use crate::proved::vte::ansi::calls::text_buffer::TextBuffer;
 /// at most 15, but `push_part` requires room for one per piece.
 pub(crate) const SEPARATORS: usize = 16;
 
-/// Joins pieces with `;` between them. A piece that isn't UTF-8 counts as empty if all are kept,
-/// and is left out otherwise.
-pub(crate) fn join_texts<B: TextBuffer>(text: &mut B, pieces: &[&[u8]], keeps_all: bool) {
+/// What becomes of a piece that isn't UTF-8.
+#[derive(Clone, Copy)]
+pub(crate) enum Malformed {
+    /// It is left out, as in a title.
+    LeftOut,
+    /// It counts as empty, as in a link.
+    Empty,
+}
+
+/// Joins pieces with `;` between them.
+pub(crate) fn join_texts<B: TextBuffer>(text: &mut B, pieces: &[&[u8]], malformed: Malformed) {
     text.clear();
     let mut is_first = true;
     for piece in pieces {
-        if let Some(part) = text_in(piece, keeps_all) {
+        if let Some(part) = text_in(piece, malformed) {
             push_part(text, is_first, part);
             is_first = false;
         }
@@ -28,12 +36,11 @@ fn push_part<B: TextBuffer>(text: &mut B, is_first: bool, part: &str) {
     text.push_str(part);
 }
 
-/// Returns the text of a piece, if it is UTF-8. Any other piece counts as empty if all are kept.
-pub(crate) fn text_in(piece: &[u8], keeps_all: bool) -> Option<&str> {
+/// Returns the text of a piece, or `None` if it is left out.
+pub(crate) fn text_in(piece: &[u8], malformed: Malformed) -> Option<&str> {
     let text = core::str::from_utf8(piece).ok();
-    if keeps_all {
-        text.or(Some(""))
-    } else {
-        text
+    match malformed {
+        Malformed::LeftOut => text,
+        Malformed::Empty => text.or(Some("")),
     }
 }

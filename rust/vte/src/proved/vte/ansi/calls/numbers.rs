@@ -4,7 +4,7 @@
 use crate::proved::vte::ansi::calls::text_buffer::TextBuffer;
 use crate::proved::vte_core::ParamsIter;
 
-/// An iterator of numbers, with contracts that say which numbers are left (DECISIONS).
+/// An iterator of numbers, with contracts that say which numbers are left.
 pub(crate) trait NumberIterator {
     /// Returns the next number.
     fn next_number(&mut self) -> Option<u16>;

@@ -20,7 +20,7 @@ use core::time::Duration;
 #[derive(Clone)]
 pub(crate) struct ProcessorState<T, B> {
     /// The last character that was printed, which REP repeats.
-    pub(crate) preceding_char: Option<char>,
+    pub(crate) last_printed: Option<char>,
     /// The buffer in which texts are joined from pieces of a command.
     pub(crate) text: B,
     /// Whether an update is pending, and until when.
@@ -42,7 +42,7 @@ impl<'s, 'h, H: InputAs<G> + ?Sized, T: Timeout, B: TextBuffer, G> Perform
     #[inline]
     fn print(&mut self, c: char) {
         self.handler.input_char(c);
-        self.state.preceding_char = Some(c);
+        self.state.last_printed = Some(c);
     }
 
     #[inline]
@@ -71,10 +71,10 @@ impl<'s, 'h, H: InputAs<G> + ?Sized, T: Timeout, B: TextBuffer, G> Perform
         if action == 'h' && matches!(intermediates, [b'?']) {
             self.set_private_modes(params);
         } else {
-            let preceding_char = self.state.preceding_char;
+            let last_printed = self.state.last_printed;
             perform_control_sequence::<H, G>(
                 self.handler,
-                preceding_char,
+                last_printed,
                 params,
                 intermediates,
                 action,
@@ -102,7 +102,7 @@ impl<'s, 'h, H: HandlerText + ?Sized, T: Timeout, B: TextBuffer> PerformText
     #[inline(always)]
     fn print_text(&mut self, text: &str) {
         self.handler.input_text(text);
-        self.state.preceding_char = last_char(text, self.state.preceding_char);
+        self.state.last_printed = find_last_printed(text, self.state.last_printed);
     }
 }
 
@@ -128,7 +128,7 @@ impl<'s, 'h, H: Handler + ?Sized, T: Timeout, B: TextBuffer, G> Performer<'s, 'h
 
 /// Returns the last character of a text, or `before` if the text is empty.
 #[inline(always)]
-fn last_char(text: &str, before: Option<char>) -> Option<char> {
+fn find_last_printed(text: &str, before: Option<char>) -> Option<char> {
     text.chars().next_back().or(before)
 }
 

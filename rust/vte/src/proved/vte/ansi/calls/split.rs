@@ -17,7 +17,7 @@ pub(crate) fn split_at_first(text: &[u8], separator: u8) -> (&[u8], Option<&[u8]
 }
 
 /// Returns what follows `id=` in the first parameter of a link that starts with it.
-pub(crate) fn link_id(parameters: &[u8]) -> Option<&[u8]> {
+pub(crate) fn find_link_id(parameters: &[u8]) -> Option<&[u8]> {
     let mut left = Some(parameters);
     while let Some(text) = left {
         let (part, rest) = split_at_first(text, b':');

@@ -17,18 +17,18 @@ pub(crate) struct Release {
     pub(crate) released: usize,
 }
 
-/// Finds what a hold releases. `text` is the hold from `start` on: the new bytes, and at most seven
-/// before them. No update ends among the older bytes, so it is enough to search `text`, backward,
-/// down to the last end-update.
-pub(crate) fn find_release(text: &[u8], start: usize) -> Release {
-    let mut first_begin = start + text.len();
+/// Finds what a hold releases. `bytes` are those of the hold from `start` on: the new ones, and at
+/// most seven before them. No update ends among the older ones, so it is enough to search `bytes`,
+/// backward, down to the last end-update.
+pub(crate) fn find_release(bytes: &[u8], start: usize) -> Release {
+    let mut first_begin = start + bytes.len();
     let mut begin_count = 0;
     // A sequence has eight bytes, and only the first is ESC: none begins among the last seven
     // bytes, or the seven before an ESC.
-    let mut unread = skip_blocks(text, text.len().saturating_sub(7));
-    while let Some(position) = memrchr(ESCAPE, &text[..unread]) {
-        unread = skip_blocks(text, position.saturating_sub(7));
-        let sequence = &text[position..];
+    let mut unread = skip_blocks(bytes, bytes.len().saturating_sub(7));
+    while let Some(position) = memrchr(ESCAPE, &bytes[..unread]) {
+        unread = skip_blocks(bytes, position.saturating_sub(7));
+        let sequence = &bytes[position..];
         if begins_update(sequence) {
             first_begin = start + position;
             begin_count += 1;
@@ -49,10 +49,10 @@ pub(crate) fn find_release(text: &[u8], start: usize) -> Release {
 
 /// Goes back from a position over blocks in which neither sequence begins. Returns the position
 /// before them.
-fn skip_blocks(text: &[u8], before: usize) -> usize {
+fn skip_blocks(bytes: &[u8], before: usize) -> usize {
     let mut unread = before;
     while unread >= 32 {
-        match first_chunk::<34>(&text[unread - 32..]) {
+        match first_chunk::<34>(&bytes[unread - 32..]) {
             Some(block) if has_no_private_sequence(block) => unread -= 32,
             _ => break,
         }
@@ -71,12 +71,12 @@ fn has_no_private_sequence(block: &[u8; 34]) -> bool {
     none_found
 }
 
-/// Returns whether the text starts with a begin-update.
-fn begins_update(text: &[u8]) -> bool {
-    text.starts_with(b"\x1b[?2026h")
+/// Returns whether the bytes start with a begin-update.
+fn begins_update(bytes: &[u8]) -> bool {
+    bytes.starts_with(b"\x1b[?2026h")
 }
 
-/// Returns whether the text starts with an end-update.
-fn ends_update(text: &[u8]) -> bool {
-    text.starts_with(b"\x1b[?2026l")
+/// Returns whether the bytes start with an end-update.
+fn ends_update(bytes: &[u8]) -> bool {
+    bytes.starts_with(b"\x1b[?2026l")
 }

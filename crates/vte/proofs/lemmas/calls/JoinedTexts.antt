@@ -40,7 +40,8 @@ texts-same : (malformed : Malformed) (piece : List ℕ) (left : List (List ℕ))
     → filter_map (text_in malformed) (piece ∷ left) ≡ filter_map (text_in malformed) left
 texts-same malformed piece left no_text = rw (← no_text) refl
 
-text-short : (malformed : Malformed) (piece part : List ℕ) → Some part ≡ text_in malformed piece → length part ≤ length piece
+text-short : (malformed : Malformed) (piece part : List ℕ) → Some part ≡ text_in malformed piece
+    → length part ≤ length piece
 text-short LeftOut piece part has_text = grind arith
 text-short Empty piece part has_text = grind arith
 

@@ -16,7 +16,7 @@ pub use Rattle.event_log.specs.CollectedText.{capacity, collected_text_of, Colle
 unfoldable pub use Rattle.event_log.specs.CollectedText.{with_text}
 pub use Rattle.event_log.specs.declared.lines.Lines.{Lines}
 pub use Rattle.event_log.specs.Lines.{blank, line_feed}
-unfoldable pub use Rattle.event_log.specs.Lines.{flag_field, hex_byte, hex_character, hex_digit, hex_field, hex_length, line_of, pieces_fields, sequence_fields, six_hex_digits}
+unfoldable pub use Rattle.event_log.specs.Lines.{flag_field, hex_byte, hex_character, hex_digit, hex_digits, hex_field, hex_length, line_of, pieces_fields, sequence_fields}
 unfoldable pub use Rattle.event_log.specs.Plain.{plain_text_of}
 pub use Rattle.event_log.specs.private.Line.{BeginsLine, EndsLine, ExtendsLine}
 pub use Rattle.event_log.specs.private.Progress.{AddsUpTo, HasKept, HasReadStream, HasWritten}

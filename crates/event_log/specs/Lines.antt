@@ -1,7 +1,7 @@
 -- The line of each event.
 use Rattle.std.specs.Fmt.{decimal}
 use Rattle.std.specs.List.{flat_map}
-use Rattle.std.specs.Prelude.{Bool, codes, drop, if◌then◌else◌, length, List, max, nat_lt, ℕ, [], ◌%◌, ◌++◌, ◌+◌, ◌-◌, ◌/◌, ◌∷◌}
+use Rattle.std.specs.Prelude.{Bool, codes, if◌then◌else◌, length, List, max, nat_lt, suc, zero, ℕ, [], ◌%◌, ◌++◌, ◌+◌, ◌/◌, ◌∷◌}
 use Rattle.vte_core.specs.Event.{CsiDispatch, EscDispatch, Event, Execute, Hook, OscDispatch, Print, Put, Unhook}
 use Rattle.vte_core.specs.Parameters.{shown}
 
@@ -23,14 +23,14 @@ hex_length n =
     else if nat_lt n 0x100000 then 5
     else 6
 
--- All six hex digits of a number below 2 ^ 24.
-unfoldable pub six_hex_digits : ℕ → List ℕ
-six_hex_digits n =
-    hex_byte (n / 0x10000 % 0x100) ++ hex_byte (n / 0x100 % 0x100) ++ hex_byte (n % 0x100)
+-- The last hex digits of a number, so many of them.
+unfoldable pub hex_digits : ℕ → ℕ → List ℕ
+hex_digits zero n = []
+hex_digits (suc count) n = hex_digits count (n / 16) ++ hex_digit (n % 16) ∷ []
 
 -- The number of a character in hex, padded to at least this many digits.
 unfoldable pub hex_character : ℕ → ℕ → List ℕ
-hex_character least c = drop (6 - max least (hex_length c)) (six_hex_digits c)
+hex_character least c = hex_digits (max least (hex_length c)) c
 
 abbrev pub true_or_false : Bool → List ℕ
 true_or_false b = if b then codes "true" else codes "false"

@@ -2,7 +2,7 @@
 -- a number and the fields of pieces are such parts.
 use Rattle.std.proofs.lemmas.List.Folds.{flat_map-map}
 use Rattle.std.proofs.lemmas.Slice.Eq.{bytes_eq-Decides}
-use Rattle.event_log.proofs.Common.{ap, append_assoc, arith, blank, Bool, bytes_eq, codes, Decides-below_and, decimal, decimal_digit, decimal_step, drop, ExtendsLine, false, flat_map, get_or, has_room_after, hex_byte, hex_character, hex_digit, hex_field, hex_length, IsTrue, length, length-append, length-map, line_feed, line_of, Lines, List, map, max, nat_tests, pieces_fields, Print, refl, six_hex_digits, suc, sym, true, zero, ℕ, [], ◌%◌, ◌&&◌, ◌*◌, ◌++◌, ◌+◌, ◌-◌, ◌/◌, ◌<◌, ◌^◌, ◌∙◌, ◌∷◌, ◌≡◌, ◌≤◌}
+use Rattle.event_log.proofs.Common.{ap, append_assoc, arith, blank, Bool, bytes_eq, codes, Decides-below_and, decimal, decimal_digit, decimal_step, drop, ExtendsLine, false, flat_map, get_or, has_room_after, hex_byte, hex_character, hex_digit, hex_digits, hex_field, hex_length, IsTrue, length, length-append, length-map, line_feed, line_of, Lines, List, map, max, nat_tests, pieces_fields, Print, refl, suc, sym, take, true, zero, ℕ, [], ◌%◌, ◌&&◌, ◌*◌, ◌++◌, ◌+◌, ◌-◌, ◌/◌, ◌<◌, ◌^◌, ◌∙◌, ◌∷◌, ◌≡◌, ◌≤◌}
 use Rattle.event_log.specs.declared.lines.hex.TheConstants.{HEX_PAIRS}
 
 -- Two texts have room one after the other exactly if they have room together.
@@ -87,25 +87,59 @@ entry-of_byte =
 
 -- ---- the line of a character
 
--- The line of a character has the last four, five or six of six hex digits, by the size of its number.
+-- A number below 2 ^ 16 has the digits of two bytes, and six digits are those of three bytes.
+four_digits-of_bytes : (n : ℕ) → n < 0x10000 → hex_digits 4 n ≡ hex_byte (n / 0x100) ++ hex_byte (n % 0x100)
+unfolding hex_digits hex_byte
+four_digits-of_bytes n below =
+    let first : n / 16 / 16 / 16 % 16 ≡ n / 0x100 / 16 = omega arith in
+    let second : n / 16 / 16 % 16 ≡ n / 0x100 % 16 = omega arith in
+    let third : n / 16 % 16 ≡ n % 0x100 / 16 = omega arith in
+    let fourth : n % 16 ≡ n % 0x100 % 16 = omega arith in
+    rw (first, second, third, fourth) refl
+
+pub six_digits-of_bytes : (n : ℕ)
+    → hex_digits 6 n ≡ hex_byte (n / 0x10000 % 0x100) ++ (hex_byte (n / 0x100 % 0x100) ++ hex_byte (n % 0x100))
+unfolding hex_digits hex_byte
+six_digits-of_bytes n =
+    let first : n / 16 / 16 / 16 / 16 / 16 % 16 ≡ n / 0x10000 % 0x100 / 16 = omega arith in
+    let second : n / 16 / 16 / 16 / 16 % 16 ≡ n / 0x10000 % 0x100 % 16 = omega arith in
+    let third : n / 16 / 16 / 16 % 16 ≡ n / 0x100 % 0x100 / 16 = omega arith in
+    let fourth : n / 16 / 16 % 16 ≡ n / 0x100 % 0x100 % 16 = omega arith in
+    let fifth : n / 16 % 16 ≡ n % 0x100 / 16 = omega arith in
+    let sixth : n % 16 ≡ n % 0x100 % 16 = omega arith in
+    rw (first, second, third, fourth, fifth, sixth) refl
+
+-- The line of a character has four, five or six hex digits, by the size of its number.
 
 pub line_of-four_digits : (n : ℕ) → n < 0x10000
     → line_of (Print n) ≡ codes "print " ++ (hex_byte (n / 0x100) ++ hex_byte (n % 0x100)) ++ line_feed
-unfolding line_of hex_character hex_length six_hex_digits hex_byte
+unfolding line_of hex_character hex_length
 line_of-four_digits n below =
-    let start : 6 - max 4 (hex_length n) ≡ 2 = grind (arith, nat_tests) in
-    let high : n / 0x100 % 0x100 ≡ n / 0x100 = omega arith in
-    rw (start, high) refl
+    let count : max 4 (hex_length n) ≡ 4 = grind (arith, nat_tests) in
+    rw (count, four_digits-of_bytes n below) refl
 
 pub line_of-five_digits : (n : ℕ) → 0x10000 ≤ n → n < 0x100000
-    → line_of (Print n) ≡ codes "print " ++ drop 1 (six_hex_digits n) ++ line_feed
+    → line_of (Print n) ≡ codes "print " ++ hex_digits 5 n ++ line_feed
 unfolding line_of hex_character hex_length
 line_of-five_digits n above below =
-    let start : 6 - max 4 (hex_length n) ≡ 1 = grind (arith, nat_tests) in
-    rw start refl
+    let count : max 4 (hex_length n) ≡ 5 = grind (arith, nat_tests) in
+    rw count refl
 
-pub line_of-six_digits : (n : ℕ) → 0x100000 ≤ n → line_of (Print n) ≡ codes "print " ++ six_hex_digits n ++ line_feed
+pub line_of-six_digits : (n : ℕ) → 0x100000 ≤ n → line_of (Print n) ≡ codes "print " ++ hex_digits 6 n ++ line_feed
 unfolding line_of hex_character hex_length
 line_of-six_digits n above =
-    let start : 6 - max 4 (hex_length n) ≡ 0 = grind (arith, nat_tests) in
-    rw start refl
+    let count : max 4 (hex_length n) ≡ 6 = grind (arith, nat_tests) in
+    rw count refl
+
+-- The last digits of six, as many as that.
+pub last_digits : (count n : ℕ) → count ≤ 6
+    → take (6 - (6 - count)) (drop (6 - count) (hex_digits 6 n)) ≡ hex_digits count n
+unfolding hex_digits
+last_digits zero n few = refl
+last_digits (suc zero) n few = refl
+last_digits (suc (suc zero)) n few = refl
+last_digits (suc (suc (suc zero))) n few = refl
+last_digits (suc (suc (suc (suc zero)))) n few = refl
+last_digits (suc (suc (suc (suc (suc zero))))) n few = refl
+last_digits (suc (suc (suc (suc (suc (suc zero)))))) n few = refl
+last_digits (suc (suc (suc (suc (suc (suc (suc count))))))) n few = absurd (omega arith)

@@ -1,10 +1,9 @@
 -- How long the text of an event is, part by part, and how many events bytes add: at most two each. So the text of bytes
 -- is at most eight times as long as they are, and fits where it is collected.
-use Rattle.std.proofs.Common.{length-drop}
 use Rattle.std.proofs.lemmas.List.Sums.{sum_by-cons}
 use Rattle.std.proofs.Math.Utf8.{encodes}
 use Rattle.std.specs.Char.{encode_utf8}
-use Rattle.event_log.proofs.Common.{added, AddsUpTo, after, All, All-head, All-tail, AllFitU16, ap, append_assoc, AreBrief, AreGroups, arith, Bool, breaks_at, capacity, cases_Bool, chars, codes, CollectedText, concat, count_of, CsiDispatch, decimal, default_limit, drop, empty_text, encode_ascii, encodes-chars, EscDispatch, Event, Execute, false, FitsU16, flag_field, flat_map, GoesOnFromPositions, group_text, HasKept, HasRead, hex_byte, hex_character, hex_digit, hex_field, hex_length, Hook, if◌then◌else◌, inl, inr, is_layout, is_to_be_written, IsBounded, IsNonEmpty, IsUtf8, join_with_byte, len_utf8_bounds, length, length-append, length-decimal-le, length-encode, line_feed, line_of, List, map, max, OscDispatch, Parser, pieces_fields, plain_text_of, Print, refl, replacement, reported_before, ReportsUnits, resumed_stream, run_event, semicolon, sequence_fields, shown, six_hex_digits, StopsExactly, suc, sym, true, with_event, with_text, zero, ℕ, [], ◌*◌, ◌++◌, ◌+◌, ◌-◌, ◌<◌, ◌∙◌, ◌∷◌, ◌≡◌, ◌≤◌}
+use Rattle.event_log.proofs.Common.{added, AddsUpTo, after, All, All-head, All-tail, AllFitU16, ap, append_assoc, AreBrief, AreGroups, arith, Bool, breaks_at, capacity, cases_Bool, chars, codes, CollectedText, concat, count_of, CsiDispatch, decimal, default_limit, drop, empty_text, encode_ascii, encodes-chars, EscDispatch, Event, Execute, false, FitsU16, flag_field, flat_map, GoesOnFromPositions, group_text, HasKept, HasRead, hex_byte, hex_character, hex_digit, hex_digits, hex_field, hex_length, Hook, if◌then◌else◌, inl, inr, is_layout, is_to_be_written, IsBounded, IsNonEmpty, IsUtf8, join_with_byte, len_utf8_bounds, length, length-append, length-decimal-le, length-encode, line_feed, line_of, List, map, max, nat_tests, OscDispatch, Parser, pieces_fields, plain_text_of, Print, refl, replacement, reported_before, ReportsUnits, resumed_stream, run_event, semicolon, sequence_fields, shown, StopsExactly, suc, sym, true, with_event, with_text, zero, ℕ, [], ◌*◌, ◌++◌, ◌+◌, ◌-◌, ◌/◌, ◌<◌, ◌∙◌, ◌∷◌, ◌≡◌, ◌≤◌}
 use Rattle.event_log.proofs.lemmas.CollectedTexts.{collected_bytes, kept-by_call, max_of_character_line, max_of_line, reported-taken, room-for_unit, text-taken_as_events, texts-taken, UnitsFit}
 use Rattle.vte_core.proofs.lemmas.bytes.Runs.{layout-is_ascii}
 use Rattle.vte_core.proofs.lemmas.streams.After.{added-nothing}
@@ -12,9 +11,16 @@ use Rattle.vte_core.proofs.lemmas.streams.EarlyStops.{added-append}
 
 -- ---- fields
 
-length-hex_character : (least c : ℕ) → length (hex_character least c) ≤ 6
-unfolding hex_character six_hex_digits hex_byte
-length-hex_character least c = omega (arith, length-drop (6 - max least (hex_length c)) (six_hex_digits c))
+length-hex_digits : (count n : ℕ) → length (hex_digits count n) ≡ count
+unfolding hex_digits
+length-hex_digits zero n = refl
+length-hex_digits (suc count) n = simp length-append (omega (arith, length-hex_digits count (n / 16)))
+
+length-hex_character : (least c : ℕ) → least ≤ 6 → length (hex_character least c) ≤ 6
+unfolding hex_character hex_length
+length-hex_character least c few =
+    let at_most : hex_length c ≤ 6 = grind (arith, nat_tests) in
+    omega (arith, length-hex_digits (max least (hex_length c)) c)
 
 length-hex_bytes : (bytes : List ℕ) → length (flat_map hex_byte bytes) ≡ 2 * length bytes
 unfolding hex_byte
@@ -71,7 +77,7 @@ length-shown groups groups_are = omega (arith, joined groups groups_are.filled g
 
 length-line_of_character : (c : ℕ) → length (line_of (Print c)) ≤ max_of_character_line
 unfolding line_of
-length-line_of_character c = simp length-append (omega (arith, length-hex_character 4 c))
+length-line_of_character c = simp length-append (omega (arith, length-hex_character 4 c (omega arith)))
 
 -- The groups have 224 bytes and 3 around them, the intermediates 2 and their digits, the flag 6, and the final byte 7.
 length-sequence_fields : (groups : List (List ℕ)) (intermediates : List ℕ) (ignore : Bool) (final : ℕ)
@@ -85,7 +91,7 @@ length-sequence_fields groups intermediates ignore final groups_are =
       length-shown groups groups_are,
       length-hex_field intermediates,
       length-flag_field ignore,
-      length-hex_character 2 final,
+      length-hex_character 2 final (omega arith),
     ))
 
 length-sequence_line : (name : List ℕ) (groups : List (List ℕ)) (intermediates : List ℕ) (ignore : Bool) (final : ℕ)
@@ -122,7 +128,7 @@ unfolding line_of hex_byte
 line_units_fit [] brief = omega arith
 line_units_fit (event ∷ []) brief = simp length-append (omega (arith, length-line event brief))
 line_units_fit (event ∷ Print c ∷ []) brief =
-    simp length-append (omega (arith, length-line event brief.0, length-hex_character 4 c))
+    simp length-append (omega (arith, length-line event brief.0, length-hex_character 4 c (omega arith)))
 line_units_fit (event ∷ Execute byte ∷ []) brief = simp length-append (omega (arith, length-line event brief.0))
 line_units_fit (event ∷ last ∷ []) brief = absurd brief.1
 line_units_fit (event ∷ last ∷ third ∷ events) brief = absurd brief
@@ -178,7 +184,7 @@ text_grows_slowly brief stream bytes =
 
 -- The line of a replacement character is short.
 replacement-not_to_be_written : is_to_be_written (with_event line_of empty_text (Print replacement)) ≡ false
-unfolding line_of hex_character hex_length six_hex_digits hex_byte hex_digit with_text
+unfolding line_of hex_character hex_length hex_digits hex_digit with_text
 replacement-not_to_be_written = refl
 
 -- A call reads a byte: neither an empty recorder nor the line of a replacement character stops it at once.

@@ -115,7 +115,6 @@ impl Lines {
     }
 
     /// Pushes the number of a character in hex, padded to at least `least` digits.
-    #[tactic(auto, unfolding(crate::specs::Lines::hex_character))]
     pub(crate) fn push_character(&mut self, least: usize, c: char)
         requires { least ≤ 6 }
         ensures { ExtendsLine self.old (hex_character least c) self.new }

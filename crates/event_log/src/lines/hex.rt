@@ -1,7 +1,7 @@
 //! Lines of characters and single bytes, and hex digits.
 ghost use Rattle.std.specs.Prelude.{◌≡◌, ◌≤◌};
 ghost use Rattle.event_log.specs.CollectedText.{collected_text_of, with_text};
-ghost use Rattle.event_log.specs.Lines.{hex_byte, hex_length as hex_length_of, line_of, six_hex_digits as six_hex_digits_of};
+ghost use Rattle.event_log.specs.Lines.{hex_byte, hex_digits, hex_length as hex_length_of, line_of};
 ghost use Rattle.vte_core.specs.Event.{Execute, Print, Put};
 
 use super::Lines;
@@ -114,9 +114,8 @@ pub(super) fn hex_length(number: u32) -> usize
 }
 
 /// Returns the last six hex digits of a number.
-#[tactic(auto, unfolding(crate::specs::Lines::six_hex_digits, crate::specs::Lines::hex_byte))]
 pub(super) fn six_hex_digits(number: u32) -> [u8; 6]
-    ensures { result ≡ six_hex_digits_of number }
+    ensures { result ≡ hex_digits 6 number }
 {
     let [first, second] = hex_pair((number / 0x10000 % 0x100) as u8);
     let [third, fourth] = hex_pair((number / 0x100 % 0x100) as u8);

@@ -177,10 +177,10 @@ impl<'a> EventWriter<'a> {
         self.finish_event(record, end);
     }
 
-    /// Writes a run that is in the input. The parser returned it for the bytes from an offset on.
-    /// Without a run it goes on after a pause, in which the parser returns none.
+    /// Writes what the parser took of the bytes from an offset on: a run, which is in the input, or
+    /// nothing. A pause, in which it takes nothing, ends here.
     #[inline(always)]
-    pub(crate) fn write_run(&mut self, from: usize, run: Run<'_>, lost_data: bool)
+    pub(crate) fn write_taken(&mut self, from: usize, run: Run<'_>, lost_data: bool)
         requires { from + run.start + length (run_bytes run) < 2 ^ 32 }
         ensures written { buffers_of self.new ≡ with_run (buffers_of self.old) from run.entry }
         ensures utf8 { AreCharacters run.entry.taken }

@@ -134,6 +134,6 @@ fn read_more(
     laws::early_stops();
     laws::opens_silently();
     let run = parser.advance_to_run(writer, &bytes[from..]);
-    writer.write_run(from, run, parser.command_lost_data());
+    writer.write_taken(from, run, parser.command_lost_data());
     run.end
 }

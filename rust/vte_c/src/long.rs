@@ -64,7 +64,7 @@ fn read_more(
         }
     }
     let run = parser.advance_to_run(writer, unread)?;
-    writer.write_run(from, run, parser.command_lost_data());
+    writer.write_taken(from, run, parser.command_lost_data());
     Ok(run.end)
 }
 

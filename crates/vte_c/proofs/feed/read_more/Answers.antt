@@ -24,7 +24,7 @@ returns c =
       silent = c.opens_silently.ensures default_limit;
     } in
     -- The record of the run is written after what the parser reported.
-    let written = c.write_run.ensures.written in
+    let written = c.write_taken.ensures.written in
     record {
       within = omega (arith, returned.is_run.within, c.requires.within);
       reads_on = λ already_read reads. record {
@@ -32,12 +32,12 @@ returns c =
         reads = rw unread at (call.ensures.reads already_read reads);
         reads_on =
             reads_on-to_run (buffers_of c.args.writer.now) (buffers_of call.new.performer)
-            (buffers_of c.write_run.new.self) already_read bytes c.args.from run laws
-            c.requires.has_room begins returned reads c.write_run.ensures.utf8 written;
+            (buffers_of c.write_taken.new.self) already_read bytes c.args.from run laws
+            c.requires.has_room begins returned reads c.write_taken.ensures.utf8 written;
       };
       reads_some =
           λ already_read reads are_empty no_stops. call-reads_some (buffers_of c.args.writer.now)
           (buffers_of call.new.performer)
-          (buffers_of c.write_run.new.self) already_read bytes c.args.from run laws
+          (buffers_of c.write_taken.new.self) already_read bytes c.args.from run laws
           c.requires.has_room begins returned reads are_empty c.requires.within written no_stops;
     }

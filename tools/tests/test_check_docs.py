@@ -159,8 +159,9 @@ def test_commands_that_lack_something_are_missing(needs, crates, lacking, monkey
 
 
 @pytest.mark.parametrize("status, output, wanted", [
-    (0, "false\n", True), (1, "false\n", False), (1, "true\n", True)])
-def test_a_commit_is_looked_up_unless_the_clone_is_shallow(status, output, wanted):
+    (0, "false\n", True), (1, "false\n", False), (1, "true\n", True), (128, "", True)])
+def test_a_commit_is_looked_up_in_a_full_clone(status, output, wanted):
+    """Without git's folder, git has no output and its status is 128."""
     repository = Repository(Path.cwd())
     repository.run_git = lambda *_: SimpleNamespace(returncode=status, stdout=output)
     assert repository.is_in_history("abc1234") == wanted

@@ -24,39 +24,66 @@ def find_differences(source, written, path="c/mod.rs", adapter=""):
 
 # the text of a crate, what is written of it, and the items that aren't in one of them: -A isn't
 # written, and +A isn't in the source so. More that doesn't differ is in test_erasing
-@pytest.mark.parametrize("source, written, wanted", [
-    ("/// F.\npub fn f() { laws::x(); g(alloc, c::X); }", "/// F. More.\npub fn f() { g(X); }", ""),
-    ("fn f() -> bool;", "fn f() -> bool { true }", "+fn f, -fn f"),
-    ("fn f() { g(); }", "", "-fn f"), ("trait T { fn f(); }", "trait T {}", "-fn f"),
-    ("", "fn f() { g(); }", "+fn f"), ("fn f() { g(1); }", "fn f() { g(2); }", "+fn f, -fn f"),
-    ("fn f() { g(); }", "fn f() {}", "+fn f, -fn f"),
-    ("impl S { fn f() { g(); } } impl T { fn f() { h(); } }",
-     "impl S { fn f() { h(); } } impl T { fn f() { g(); } }", "+fn f, -fn f"),
-    ("pub static N: u8 = 1;", "pub static N: u8 = 2;", "+static N, -static N"),
-    ("impl S { const N: u8 = 1; }", "impl S {}", "-const N"),
-    ("fn f<const N: u8>() -> *const u8 { N }", "fn f<const N: u8>() -> *const u8 { N }", ""),
-    ("fn f() { g(text_between(a, b.c)); take_run(a); }",
-     "fn f() { g(unsafe { text_between(a, b.c) }); unsafe { take_run(a) }; }", ""),
-    ("fn f() { text_between(a); }", "fn f() { unsafe { text_between(b) }; }", "+fn f, -fn f"),
-    ("fn f() { g(a); }", "fn f() { unsafe { g(a) }; }", "+fn f, -fn f"),
-    *(("fn f() { g(a); }", f"fn f() {{ unsafe {{ {made} }} }}", "+fn f, -fn f")
-      for made in ("g(a);", "text_between(a); g(a);", "h(text_between(a))")),
-    ("fn f() { input.up_to(a); }", "fn f() { up_to(input, b); }", "+fn f, -fn f"),
-    *((f"fn f() {{ g({one}); }}", f"fn f() {{ g({other}); }}", "+fn f, -fn f") for one, other in (
-        ("input.bytes_read", "input_read"), ("an_input.bytes", "an_input"),
-        ("&mut reader_of_a", "reader_of_a"))),
-    # contracts and ghosts
-    ("fn f() // requires { }\n ghost a: { ℕ }\n requires b { { \"}\" } ≡ '}' } "
-     "ensures* { c } { g(); }", "fn f() { g(); }", ""),
-    ("#[tactic(auto, u(a))]\nfn f()\n    ensures { a }\n{ b }", "fn f() { c }", "+fn f, -fn f"),
-    ("impl A for B { ghost use c.{D}; ghost e = { λ f. g }; fn h() { 1 } }",
-     "impl A for B { fn h() { 2 } }", "+fn h, -fn h"),
-    # marks
-    ("fn f() {\n// cargo instead: a();\nb(); }", "fn f() { b(); }", "+fn f, -fn f"),
-    ("// cargo lacks: why\nfn f() {}\nfn g() {}", "fn f() {}", "+fn f, -fn g"),
-    ("fn f() { match a { 0..16 => 1 } }", "fn f() { match a { 0..=16 => 1 } }", "+fn f, -fn f"),
-    ("fn f() { let A(b) = c else { break; }; }",
-     "fn f() { let b = match c { A(b) => b, _ => return, }; }", "+fn f, -fn f")])
+DIFFERENCES = {
+    "the allocator, laws and documentation": (
+        "/// F.\npub fn f() { laws::x(); g(alloc, c::X); }",
+        "/// F. More.\npub fn f() { g(X); }", ""),
+    "a method that does more than say no": (
+        "fn f() -> bool;", "fn f() -> bool { true }", "+fn f, -fn f"),
+    "a function that isn't written": ("fn f() { g(); }", "", "-fn f"),
+    "a method that isn't written": ("trait T { fn f(); }", "trait T {}", "-fn f"),
+    "a function without a source": ("", "fn f() { g(); }", "+fn f"),
+    "a number": ("fn f() { g(1); }", "fn f() { g(2); }", "+fn f, -fn f"),
+    "an empty body": ("fn f() { g(); }", "fn f() {}", "+fn f, -fn f"),
+    "bodies in another order": (
+        "impl S { fn f() { g(); } } impl T { fn f() { h(); } }",
+        "impl S { fn f() { h(); } } impl T { fn f() { g(); } }", "+fn f, -fn f"),
+    "the value of a static": (
+        "pub static N: u8 = 1;", "pub static N: u8 = 2;", "+static N, -static N"),
+    "a constant that isn't written": ("impl S { const N: u8 = 1; }", "impl S {}", "-const N"),
+    "no constants, but parameters and pointers": (
+        "fn f<const N: u8>() -> *const u8 { N }", "fn f<const N: u8>() -> *const u8 { N }", ""),
+    "unsafe around calls that have contracts": (
+        "fn f() { g(text_between(a, b.c)); take_run(a); }",
+        "fn f() { g(unsafe { text_between(a, b.c) }); unsafe { take_run(a) }; }", ""),
+    "unsafe around another call of such a function": (
+        "fn f() { text_between(a); }", "fn f() { unsafe { text_between(b) }; }", "+fn f, -fn f"),
+    "unsafe around another function": (
+        "fn f() { g(a); }", "fn f() { unsafe { g(a) }; }", "+fn f, -fn f"),
+    "unsafe around a statement": (
+        "fn f() { g(a); }", "fn f() { unsafe { g(a); } }", "+fn f, -fn f"),
+    "unsafe around two calls": (
+        "fn f() { g(a); }", "fn f() { unsafe { text_between(a); g(a); } }", "+fn f, -fn f"),
+    "unsafe around a call in a call": (
+        "fn f() { g(a); }", "fn f() { unsafe { h(text_between(a)) } }", "+fn f, -fn f"),
+    "another end of the input": (
+        "fn f() { input.up_to(a); }", "fn f() { up_to(input, b); }", "+fn f, -fn f"),
+    "a name that begins as that of the bytes": (
+        "fn f() { g(input.bytes_read); }", "fn f() { g(input_read); }", "+fn f, -fn f"),
+    "a name that ends as that of the input": (
+        "fn f() { g(an_input.bytes); }", "fn f() { g(an_input); }", "+fn f, -fn f"),
+    "a name that begins as that of the reader": (
+        "fn f() { g(&mut reader_of_a); }", "fn f() { g(reader_of_a); }", "+fn f, -fn f"),
+    "contracts with braces in them": (
+        "fn f() // requires { }\n ghost a: { ℕ }\n requires b { { \"}\" } ≡ '}' } "
+        "ensures* { c } { g(); }", "fn f() { g(); }", ""),
+    "a body after a tactic and a contract": (
+        "#[tactic(auto, u(a))]\nfn f()\n    ensures { a }\n{ b }", "fn f() { c }", "+fn f, -fn f"),
+    "a body after ghosts": (
+        "impl A for B { ghost use c.{D}; ghost e = { λ f. g }; fn h() { 1 } }",
+        "impl A for B { fn h() { 2 } }", "+fn h, -fn h"),
+    "a mark's line": (
+        "fn f() {\n// cargo instead: a();\nb(); }", "fn f() { b(); }", "+fn f, -fn f"),
+    "what a mark says is lacking": (
+        "// cargo lacks: why\nfn f() {}\nfn g() {}", "fn f() {}", "+fn f, -fn g"),
+    "the end of a range": (
+        "fn f() { match a { 0..16 => 1 } }", "fn f() { match a { 0..=16 => 1 } }", "+fn f, -fn f"),
+    "the end of a let-else": (
+        "fn f() { let A(b) = c else { break; }; }",
+        "fn f() { let b = match c { A(b) => b, _ => return, }; }", "+fn f, -fn f")}
+
+
+@pytest.mark.parametrize("source, written, wanted", DIFFERENCES.values(), ids=DIFFERENCES)
 def test_what_differs_is_reported(source, written, wanted):
     shown = re.compile("c/mod.rs (.*?): it isn't (?:written|in the source as it is written: (.*))")
     found = [shown.fullmatch(line) for line in find_differences(source, written)]

@@ -14,18 +14,25 @@ DATA_STRINGS = b"a\x1bPqxyz\n\x7fb\x80\x7fcde\x1b\\\x1bPq\x18\x1bPqf\x9cg"
 EACH_KIND = b"a\r\x1bP1q+\x1b\\\x1b]t\x07\x1b[1mb\x1b(B\x1bPq-\x18\x1bPqxyz"
 
 
+REFUSED = NO_ROOM, 0, 0
 # bytes, sets of kinds, room for events and data; what is read, and what is written of both
-@pytest.mark.parametrize("sent, kinds, stops, rooms, wanted", [
-    (b"", ALL_KINDS, 0, (4, 2112), (0, 0, 0)),
-    *((sent, ALL_KINDS, 0, rooms, (NO_ROOM, 0, 0)) for sent in (b"", STREAM)
-      for rooms in [(0, 2112), (1, 2112), (2, 2112), (3, 2112), (4, 2111), (0, 0)]),
-    # a group of one number takes three bytes, and a piece four and its own
-    (STREAM, ALL_KINDS, 0, ROOMS, (6, 3, 3)), (b"\x1b]2;t\x07", ALL_KINDS, 0, ROOMS, (6, 1, 10)),
-    *((STREAM, 2 ** 32 - 1, 1 << kind, ROOMS, (6, 3, 3)) for kind in range(8, 32)),
-    (STREAM, 2 ** 32 - 256, 2 ** 32 - 256, ROOMS, (6, 0, 0)),
-    (STREAM, ALL_KINDS, 1 << TEXT, ROOMS, (1, 1, 0)),
-    (STREAM, ALL_KINDS, 1 << CSI, ROOMS, (5, 2, 3)),
-    (DATA_STRINGS, ALL_KINDS, 1 << DATA, ROOMS, (8, 3, 3))])
+CALLS = {
+    "no bytes": (b"", ALL_KINDS, 0, (4, 2112), (0, 0, 0)),
+    **{f"room for {rooms[0]} events and {rooms[1]} bytes, {name}":
+       (sent, ALL_KINDS, 0, rooms, REFUSED)
+       for name, sent in {"no bytes": b"", "some bytes": STREAM}.items()
+       for rooms in [(0, 2112), (1, 2112), (2, 2112), (3, 2112), (4, 2111), (0, 0)]},
+    "a group of one number takes three bytes": (STREAM, ALL_KINDS, 0, ROOMS, (6, 3, 3)),
+    "a piece takes four bytes and its own": (b"\x1b]2;t\x07", ALL_KINDS, 0, ROOMS, (6, 1, 10)),
+    **{f"a stop at kind {kind}, of which there is none":
+       (STREAM, 2 ** 32 - 1, 1 << kind, ROOMS, (6, 3, 3)) for kind in range(8, 32)},
+    "all kinds that aren't there": (STREAM, 2 ** 32 - 256, 2 ** 32 - 256, ROOMS, (6, 0, 0)),
+    "a stop at text": (STREAM, ALL_KINDS, 1 << TEXT, ROOMS, (1, 1, 0)),
+    "a stop at a control sequence": (STREAM, ALL_KINDS, 1 << CSI, ROOMS, (5, 2, 3)),
+    "a stop at data": (DATA_STRINGS, ALL_KINDS, 1 << DATA, ROOMS, (8, 3, 3))}
+
+
+@pytest.mark.parametrize("sent, kinds, stops, rooms, wanted", CALLS.values(), ids=CALLS)
 def test_a_call_ends_at_a_stop_and_needs_room(library, sent, kinds, stops, rooms, wanted):
     # a parser without a limit has its own room for data
     for parser in make_parsers(library)[:1 if rooms[1] < 2112 else 2]:
@@ -38,13 +45,17 @@ def test_a_call_ends_at_a_stop_and_needs_room(library, sent, kinds, stops, rooms
             parser.feed(b"\x18")
 
 
-@pytest.mark.parametrize("sent, room, wanted", [
-    (b"", 16, (0, b"")), (STREAM, 16, (6, b"ab")),
-    *((sent, room, (NO_ROOM, b"")) for sent in (b"", STREAM) for room in range(16))])
-def test_text_needs_16_bytes_of_room(library, sent, room, wanted):
+@pytest.mark.parametrize("sent, read, text", [(b"", 0, b""), (STREAM, 6, b"ab")])
+def test_16_bytes_are_enough_for_text(library, sent, read, text):
+    assert Parser(library).strip(sent, 16) == (read, text)
+
+
+@pytest.mark.parametrize("sent", [b"", STREAM])
+@pytest.mark.parametrize("room", range(16))
+def test_fewer_bytes_are_too_few_for_text(library, sent, room):
     parser = Parser(library)
-    assert parser.strip(sent, room) == wanted
-    assert wanted[0] < NO_ROOM or not any(parser.pointer)
+    assert parser.strip(sent, room) == (NO_ROOM, b"")
+    assert not any(parser.pointer)
 
 
 @pytest.mark.parametrize("kind", range(8))

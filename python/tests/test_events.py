@@ -25,20 +25,29 @@ def make(request):
     return lambda: vte.Parser(limit=request.param)
 
 
-@pytest.mark.parametrize("stream, wanted", [
-    (b"x" * 100_000, [Text("x" * 100_000)]), (b"\xff" * 100_000, [Text("\ufffd" * 100_000)]),
-    (b"\x1b[m" * 20_000 + b"\xc3\xbc", [Csi(((0,),), b"", False, "m")] * 20_000 + [Text("ü")]),
-    (TITLE * 500 + b"a\r", [Osc((b"0", b"t" * 1000), True)] * 500 + [Text("a"), Execute(13)]),
-    (b"\xff" * 6000 + b"\r" * 6000, [Text("\ufffd" * 6000)] + [Execute(13)] * 6000),
-    (b"\xe2\x82\xac\n" * 9000, [Text("\u20ac"), Execute(10)] * 9000),
-    # texts of each length, of which two differ in the first byte
-    (b"".join(b"%d%s\r" % (it % 2, b"a" * (it // 2)) for it in range(80)),
-     [made for it in range(80) for made in (Text(f"{it % 2}" + "a" * (it // 2)), Execute(13))]),
-    # different sequences, more than a parser knows
-    (b"".join(b"\x1b[%d;%dH" % (it, it // 7) for it in range(5000)) * 2,
-     [Csi(((it,), (it // 7,)), b"", False, "H") for it in range(5000)] * 2),
-    (b"\xc3\xa9" * 600_000 + b"\x1b[1m" * 300_000 + b"end",
-     [Text("é" * 600_000), *[Csi(((1,),), b"", False, "m")] * 300_000, Text("end")])])
+# streams of many events, and these
+MANY = {
+    "a long text": (b"x" * 100_000, [Text("x" * 100_000)]),
+    "malformed bytes": (b"\xff" * 100_000, [Text("\ufffd" * 100_000)]),
+    "the same sequence": (
+        b"\x1b[m" * 20_000 + b"\xc3\xbc", [Csi(((0,),), b"", False, "m")] * 20_000 + [Text("ü")]),
+    "the same command": (
+        TITLE * 500 + b"a\r", [Osc((b"0", b"t" * 1000), True)] * 500 + [Text("a"), Execute(13)]),
+    "malformed bytes, then controls": (
+        b"\xff" * 6000 + b"\r" * 6000, [Text("\ufffd" * 6000)] + [Execute(13)] * 6000),
+    "short lines": (b"\xe2\x82\xac\n" * 9000, [Text("\u20ac"), Execute(10)] * 9000),
+    "texts of each length, of which two differ in the first byte": (
+        b"".join(b"%d%s\r" % (it % 2, b"a" * (it // 2)) for it in range(80)),
+        [made for it in range(80) for made in (Text(f"{it % 2}" + "a" * (it // 2)), Execute(13))]),
+    "different sequences, more than a parser knows": (
+        b"".join(b"\x1b[%d;%dH" % (it, it // 7) for it in range(5000)) * 2,
+        [Csi(((it,), (it // 7,)), b"", False, "H") for it in range(5000)] * 2),
+    "a text, and then sequences": (
+        b"\xc3\xa9" * 600_000 + b"\x1b[1m" * 300_000 + b"end",
+        [Text("é" * 600_000), *[Csi(((1,),), b"", False, "m")] * 300_000, Text("end")])}
+
+
+@pytest.mark.parametrize("stream, wanted", MANY.values(), ids=MANY)
 def test_many_events(make, stream, wanted):
     # what differs in long lists takes minutes to show
     assert (make().feed(stream) == wanted) is True
@@ -47,11 +56,19 @@ def test_many_events(make, stream, wanted):
 @pytest.mark.parametrize("end, bell, after", [
     (b"\x07", True, []), (b"\x1b", False, []), (b"\x18", False, [Execute(0x18)])])
 @pytest.mark.parametrize("kept, more, truncated", [
-    (MOST, b"", False), (MOST, b"a", True), (MOST, b";;", False), (MOST, b";;b", True),
-    (MOST[1:] + b";b", b"", False), (MOST[1:] + b";b", b"c", True), (b";" + MOST, b"", False),
+    pytest.param(MOST, b"", False, id="all data"),
+    pytest.param(MOST, b"a", True, id="a byte more"),
+    pytest.param(MOST, b";;", False, id="empty pieces more"),
+    pytest.param(MOST, b";;b", True, id="a byte more in another piece"),
+    pytest.param(MOST[1:] + b";b", b"", False, id="all data in two pieces"),
+    pytest.param(MOST[1:] + b";b", b"c", True, id="a byte more in two pieces"),
+    pytest.param(b";" + MOST, b"", False, id="all data after an empty piece"),
     # pieces after the sixteenth are dropped
-    (SIXTEEN, b"", False), (SIXTEEN, b";", False), (SIXTEEN, b";;;", False), (SIXTEEN, b";x", True),
-    (SIXTEEN, b";;x", True)])
+    pytest.param(SIXTEEN, b"", False, id="all pieces"),
+    pytest.param(SIXTEEN, b";", False, id="an empty piece more"),
+    pytest.param(SIXTEEN, b";;;", False, id="three empty pieces more"),
+    pytest.param(SIXTEEN, b";x", True, id="a piece more"),
+    pytest.param(SIXTEEN, b";;x", True, id="an empty piece and another more")])
 def test_commands_that_lost_data_say_so(kept, more, truncated, end, bell, after):
     stream = b"\x1b]" + kept + more + end
     wanted = [Osc(tuple(kept.split(b";")), bell, truncated), *after]
@@ -121,11 +138,21 @@ def mapped(data):
     return made
 
 
-@pytest.mark.parametrize("data, wanted", [
-    *((kind(STREAM), EVENTS) for kind in (bytes, Bytes, bytearray, memoryview, mapped)),
-    (array.array("B", STREAM), EVENTS), (memoryview(STREAM * 2)[:len(STREAM)], EVENTS),
-    (memoryview(b"a-b-c")[::2], [Text("abc")]), (array.array("H", b"abcd"), [Text("abcd")]),
-    (b"", []), (bytearray(), [])])
+BUFFERS = {
+    "bytes": (STREAM, EVENTS),
+    "a kind of bytes": (Bytes(STREAM), EVENTS),
+    "bytearray": (bytearray(STREAM), EVENTS),
+    "memoryview": (memoryview(STREAM), EVENTS),
+    "mmap": (mapped(STREAM), EVENTS),
+    "an array": (array.array("B", STREAM), EVENTS),
+    "a part of a memoryview": (memoryview(STREAM * 2)[:len(STREAM)], EVENTS),
+    "each second byte of a memoryview": (memoryview(b"a-b-c")[::2], [Text("abc")]),
+    "an array of numbers of two bytes": (array.array("H", b"abcd"), [Text("abcd")]),
+    "no bytes": (b"", []),
+    "an empty bytearray": (bytearray(), [])}
+
+
+@pytest.mark.parametrize("data, wanted", BUFFERS.values(), ids=BUFFERS)
 def test_any_object_with_a_buffer(data, wanted):
     for parser in make_parsers():
         made = parser.feed(data)

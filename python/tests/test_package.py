@@ -45,34 +45,79 @@ def test_public_names():
 parser = vte.Parser()
 
 
+FEEDS = [getattr(make(), read) for make, read in READERS if read == "feed"]
+STRIPS = [getattr(make(), read) for make, read in READERS if read == "strip"] + [vte.strip]
+
+
+@pytest.mark.parametrize("wrong", [1, None, ["a"], [97]])
+@pytest.mark.parametrize("function", FEEDS + STRIPS)
+def test_what_is_read_has_bytes(function, wrong):
+    with pytest.raises(TypeError, match=f"bytes-like object is .*not '{type(wrong).__name__}'"):
+        function(wrong)
+
+
+@pytest.mark.parametrize("function", FEEDS)
+def test_events_are_of_no_text(function):
+    with pytest.raises(TypeError, match="bytes-like object is .*not 'str'"):
+        function("a")
+
+
+@pytest.mark.parametrize("limit", [0, 1, 5, 1023, 1025, -1024, False, "1024"])
+def test_a_limit_is_none_or_1024(limit):
+    with pytest.raises(ValueError, match=f"limit must be None or 1024, not {limit!r}"):
+        vte.Parser(limit)
+
+
+@pytest.mark.parametrize("wrong", [None, b"path", io.StringIO("a"), sys.__stdout__])
+def test_what_is_opened_is_a_binary_file(wrong):
+    message = f"open takes a path, a file descriptor or a binary file, not {type(wrong).__name__}"
+    with pytest.raises(TypeError, match=message):
+        vte.open(wrong)
+
+
+@pytest.mark.parametrize("wrong", [
+    None, ["a"], object(), io.StringIO("a"), sys.__stdout__, memoryview(b"abcd")[::2]])
+def test_what_has_parts_is_a_path_or_bytes(wrong):
+    message = f"parts takes .* or a bytes-like object, not {type(wrong).__name__}"
+    with pytest.raises(TypeError, match=message):
+        vte.parts(wrong, 9)
+
+
+@pytest.mark.parametrize("kinds", [{int}, [Text, None], int, 5, "Osc", [[]], [Text("a")]], ids=str)
+@pytest.mark.parametrize("function, words", [
+    pytest.param(parser.feed, [b""], id="feed"),
+    pytest.param(parser.feed_until, [b""], id="stops of feed_until"),
+    pytest.param(parser.feed_until, [b"", Osc], id="kinds of feed_until"),
+    pytest.param(vte.open, [io.BytesIO(), 9], id="open")])
+def test_kinds_are_types_of_events(function, words, kinds):
+    with pytest.raises(TypeError, match="kinds must be types of events|is not iterable"):
+        function(*words, kinds)
+
+
+@pytest.mark.parametrize("size", [0, -1, 1.5, None, "9"])
+@pytest.mark.parametrize("function, source", [(vte.open, io.BytesIO()), (vte.parts, b"")])
+def test_a_size_is_at_least_1(function, source, size):
+    with pytest.raises(ValueError, match=f"size must be at least 1, not {size!r}"):
+        function(source, size)
+
+
+@pytest.mark.parametrize("wrong", [b"a", "a", bytearray(b"a")])
+def test_lines_are_an_iterable(wrong):
+    with pytest.raises(TypeError, match=f"iterable over lines, not {type(wrong).__name__}"):
+        vte.strip_lines(wrong)
+
+
+@pytest.mark.parametrize("name", ["limits", "limit", "sync_timeouts"])
+@pytest.mark.parametrize("make", [make for make, _ in READERS])
+def test_no_attribute_can_be_set(make, name):
+    with pytest.raises(AttributeError, match=name):
+        setattr(make(), name, 1)
+
+
 @pytest.mark.parametrize("error, message, function, words", [
-    *((TypeError, f"bytes-like object is .*not '{type(wrong).__name__}'", function, [wrong])
-      for wrong in ("a", 1, None, ["a"], [97])
-      for function in [*(getattr(make(), read) for make, read in READERS), vte.strip]
-      if wrong != "a" or function.__name__ == "feed"),
-    *((ValueError, f"limit must be None or 1024, not {limit!r}", vte.Parser, [limit])
-      for limit in (0, 1, 5, 1023, 1025, -1024, False, "1024")),
     (ValueError, "stops can't have vte.Text or vte.Data", parser.feed_until, [b"", [Text]]),
-    *((TypeError, "open takes a path, a file descriptor or a binary file, not "
-       + type(wrong).__name__, vte.open, [wrong])
-      for wrong in (None, b"path", io.StringIO("a"), sys.__stdout__)),
-    *((TypeError, f"parts takes .* or a bytes-like object, not {type(wrong).__name__}", vte.parts,
-       [wrong, 9])
-      for wrong in (None, ["a"], object(), io.StringIO("a"), sys.__stdout__,
-                    memoryview(b"abcd")[::2])),
-    *((TypeError, "kinds must be types of events|is not iterable", function, [*words, wrong])
-      for wrong in ({int}, [Text, None], int, 5, "Osc", [[]], [Text("a")])
-      for function, *words in [(parser.feed, b""), (parser.feed_until, b""),
-                               (parser.feed_until, b"", Osc), (vte.open, io.BytesIO(), 9)]),
-    *((ValueError, f"size must be at least 1, not {size!r}", function, [source, size])
-      for size in (0, -1, 1.5, None, "9")
-      for function, source in [(vte.open, io.BytesIO()), (vte.parts, b"")]),
-    *((TypeError, f"iterable over lines, not {type(wrong).__name__}", vte.strip_lines, [wrong])
-      for wrong in (b"a", "a", bytearray(b"a"))),
     (UnicodeEncodeError, "surrogates not allowed", vte.strip, ["\ud800", "surrogateescape"]),
-    (ValueError, "errors must be 'replace' or 'surrogateescape', not", vte.strip, [b"", "ignore"]),
-    *((AttributeError, name, setattr, [made(), name, 1])
-      for name in ("limits", "limit", "sync_timeouts") for made, _ in READERS)])
+    (ValueError, "errors must be 'replace' or 'surrogateescape', not", vte.strip, [b"", "ignore"])])
 def test_wrong_arguments(error, message, function, words):
     with pytest.raises(error, match=message):
         function(*words)

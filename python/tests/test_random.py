@@ -1,4 +1,6 @@
-"""Random streams in random chunks: all ways to read them agree, also with `vtlog`, by $VTLOG."""
+"""Random streams in random chunks: all ways to read them agree, also with `vtlog`, by $VTLOG. With
+$SAME_STREAMS they are the same each time."""
+import os
 import re
 
 import pytest
@@ -22,7 +24,7 @@ chunks = strategies.lists(
 streams = strategies.lists(chunks, max_size=5)
 some_kinds = (strategies.none() | strategies.just({Osc})
               | strategies.sets(strategies.sampled_from([*ENDS, Text, Data])))
-often = settings(deadline=None, max_examples=150)
+often = settings(deadline=None, max_examples=150, derandomize="SAME_STREAMS" in os.environ)
 
 
 @often

@@ -126,6 +126,6 @@ class Repository:
         return subprocess.run(["git", *words], cwd=self.top, capture_output=True, text=True)
 
     def find_in_history(self, commit):
-        """Whether HEAD stands on a commit. In a shallow clone nothing can be looked up."""
+        """Whether HEAD stands on a commit, as every one does if this is no full clone."""
         return (self.run_git("merge-base", "--is-ancestor", commit, "HEAD").returncode == 0
-                or self.run_git("rev-parse", "--is-shallow-repository").stdout == "true\n")
+                or self.run_git("rev-parse", "--is-shallow-repository").stdout != "false\n")

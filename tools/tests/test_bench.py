@@ -38,17 +38,25 @@ def count(monkeypatch):
     return check_counts
 
 
-# a table's cell for a count of 4, its compiler, its fault, and how many counts there are
-@pytest.mark.parametrize("table, status, fault, counts", [
-    ({"cell": "-"}, 0, [], 2), *(({"cell": it}, 0, [], 3) for it in ("4.000", "3.961", "4.039")),
-    *(({"cell": cell}, status, [f"parser `ascii` in calls of 4,096 B, release: 4.000, {fault}"], 3)
-      for cell, status, fault in (
-          ("3.960", 1, "above 4.000"), ("3.900", 1, "above 3.939"), ("4.100", 0, "below 4.100"),
-          ("?", 1, "and the table has none"))),
-    ({"cell": "3.000", "rustc": "old"}, 0, OLD, 0), ({"rustc": "old", "allowed": ""}, 1, OLD, 0)])
-def test_a_count_above_its_limit_is_a_fault(count, table, status, fault, counts):
+ROW = "parser `ascii` in calls of 4,096 B, release: 4.000"
+# a table's cell for a count of 4, or its compiler; the status, the faults, how many are counted
+TABLES = {
+    "not counted": ({"cell": "-"}, 0, [], 2),
+    "the same": ({"cell": "4.000"}, 0, [], 3),
+    "1 percent below": ({"cell": "3.961"}, 0, [], 3),
+    "1 percent above": ({"cell": "4.039"}, 0, [], 3),
+    "a limit that rounds to the count": ({"cell": "3.960"}, 1, [f"{ROW}, above 4.000"], 3),
+    "too low": ({"cell": "3.900"}, 1, [f"{ROW}, above 3.939"], 3),
+    "too high": ({"cell": "4.100"}, 0, [f"{ROW}, below 4.100"], 3),
+    "none": ({"cell": "?"}, 1, [f"{ROW}, and the table has none"], 3),
+    "of another compiler": ({"cell": "3.000", "rustc": "old"}, 0, OLD, 0),
+    "of another compiler in the gate": ({"rustc": "old", "allowed": ""}, 1, OLD, 0)}
+
+
+@pytest.mark.parametrize("table, status, faults, counts", TABLES.values(), ids=TABLES)
+def test_a_count_above_its_limit_is_a_fault(count, table, status, faults, counts):
     last = f"{counts} counts, {status * (counts > 0)} above their limits"
-    assert count("--check", **table)[:2] == (status, [*fault, last])
+    assert count("--check", **table)[:2] == (status, [*faults, last])
 
 
 def test_limits_are_written(count):

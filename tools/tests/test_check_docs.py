@@ -29,39 +29,71 @@ def find_failures(text, run=True, name="page.md"):
     return [it for _, it in tool.parts["check_page"](page, run)]
 
 
-# a page, and what is wrong with it
-@pytest.mark.parametrize("page, failure", [
-    ("[a](gone.md)", "broken link: gone.md"), ("See docs/GONE.md.", "no such page: docs/GONE.md"),
-    ("[a](page.md) [b](#some-heading) [c](https://example.org/x)\n## Some *heading*", None),
-    ("[a](page.md#no-heading)", "no such heading: page.md#no-heading"),
-    ("[a](#no-heading)", "no such heading: #no-heading"),
-    ("[a](#an-osc-and-more) [b](#c1)\n# An OSC, and more\n### `C1`", None),
-    ("[a](#An-OSC)\n## An OSC", "no such heading: #An-OSC"),
-    ("`src/known.rt`, `./a/src/known`, `src/*.rt`, `out/gone.rt`", None),
-    ("`a/target/gone`, `src/NAME.rt`, `/gone/file`", None),
-    ("`src/gone.rt`", "no such file or folder: src/gone.rt"),
-    ("`known.rt`, `*.rt`, `one.two`", None), ("`one.rt`", "no such file or folder: one.rt"),
-    ("`one`, `one::two()`, `three!`, `ansi2txt`, `1b5d`", None),
-    ("`four`", "no source file contains four"), ("```diff\n+++ a.rt\n-f();\n+g();\n  h\n```", None),
-    ("`one::four`", "no source file contains four of one::four"),
-    ("`one.three`", "no source file contains all parts of one.three"),
-    ("```rust\nf();\n    g(1); // why\n// known.rt\n// ..\n```", None),
-    *((f"```{kind}\nh();\n```", "no source file contains this line: h();")
-      for kind in ("rust", "c", "python", "antt")),
-    *((f"```diff\n{it}\n```", "this diff names no source file") for it in ("-f();", "+++ b.rt")),
-    *((f"```diff\n+++ a.rt\n{it}\n```", f"a.rt doesn't contain this line: {it[1:]}")
-      for it in ("-g();", " h")),
-    ("```rust sketch\nh();\n```\n```sh\nh\n```", None), ("Since abc1234.", None),
-    ("Since abc1235.", "the history has no commit abc1235"),
-    ("```sh run kit\nfalse\ntrue\n```", "these commands failed with status 1"),
-    ("```sh run\nexit 7\n```", "these commands failed with status 7"),
-    ("```sh run\nexec 2>&-\necho $NO_SUCH_NAME\ntrue\n```", "these commands failed with status"),
-    ("```sh run\ntrue\n```\n```sh\nfalse\n```", None), ("```sh run\ntest -e page.md\n```", None)])
-def test_what_is_wrong_with_a_page_is_reported(page, failure, monkeypatch):
+# pages with nothing wrong
+RIGHT = {
+    "links to a page, a heading and elsewhere":
+        "[a](page.md) [b](#some-heading) [c](https://example.org/x)\n## Some *heading*",
+    "headings of signs, blanks and code":
+        "[a](#an-osc-and-more) [b](#c1)\n# An OSC, and more\n### `C1`",
+    "paths, and what is built": "`src/known.rt`, `./a/src/known`, `src/*.rt`, `out/gone.rt`",
+    "paths that aren't of the repository": "`a/target/gone`, `src/NAME.rt`, `/gone/file`",
+    "files": "`known.rt`, `*.rt`, `one.two`",
+    "names, bytes and another project's": "`one`, `one::two()`, `three!`, `ansi2txt`, `1b5d`",
+    "a diff": "```diff\n+++ a.rt\n-f();\n+g();\n  h\n```",
+    "a quote": "```rust\nf();\n    g(1); // why\n// known.rt\n// ..\n```",
+    "blocks that are no quotes": "```rust sketch\nh();\n```\n```sh\nh\n```",
+    "a commit": "Since abc1234.",
+    "commands, and some that aren't run": "```sh run\ntrue\n```\n```sh\nfalse\n```",
+    "commands run in the top": "```sh run\ntest -e page.md\n```"}
+# pages, and what is wrong with them
+WRONG = {
+    "a link to no page": ("[a](gone.md)", "broken link: gone.md"),
+    "a name of no page": ("See docs/GONE.md.", "no such page: docs/GONE.md"),
+    "no heading of a page": ("[a](page.md#no-heading)", "no such heading: page.md#no-heading"),
+    "no heading here": ("[a](#no-heading)", "no such heading: #no-heading"),
+    "a heading in capitals": ("[a](#An-OSC)\n## An OSC", "no such heading: #An-OSC"),
+    "no path": ("`src/gone.rt`", "no such file or folder: src/gone.rt"),
+    "no file": ("`one.rt`", "no such file or folder: one.rt"),
+    "no name": ("`four`", "no source file contains four"),
+    "a part that is no name": ("`one::four`", "no source file contains four of one::four"),
+    "parts of two files": ("`one.three`", "no source file contains all parts of one.three"),
+    "no quote of Rust": ("```rust\nh();\n```", "no source file contains this line: h();"),
+    "no quote of C": ("```c\nh();\n```", "no source file contains this line: h();"),
+    "no quote of Python": ("```python\nh();\n```", "no source file contains this line: h();"),
+    "no quote of specs": ("```antt\nh();\n```", "no source file contains this line: h();"),
+    "a diff without a file": ("```diff\n-f();\n```", "this diff names no source file"),
+    "a diff of no file": ("```diff\n+++ b.rt\n```", "this diff names no source file"),
+    "a diff that takes no line": (
+        "```diff\n+++ a.rt\n-g();\n```", "a.rt doesn't contain this line: g();"),
+    "a diff beside no line": ("```diff\n+++ a.rt\n h\n```", "a.rt doesn't contain this line: h"),
+    "no commit": ("Since abc1235.", "the history has no commit abc1235"),
+    "the first command fails": (
+        "```sh run kit\nfalse\ntrue\n```", "these commands failed with status 1"),
+    "the status of a command": (
+        "```sh run\nexit 7\n```", "these commands failed with status 7"),
+    "a variable that isn't set": (
+        "```sh run\nexec 2>&-\necho $NO_SUCH_NAME\ntrue\n```",
+        "these commands failed with status")}
+
+
+@pytest.fixture
+def kit(monkeypatch):
+    """All programs are there, so commands that need the kit are run."""
     monkeypatch.setattr(shutil, "which", lambda _: "/bin/rt")
-    found = find_failures(page)
-    assert [it[: len(failure or "")] for it in found] == [failure] * bool(failure)
-    assert find_failures(page, run=False) == [it for it in found if "commands failed" not in it]
+
+
+@pytest.mark.parametrize("page", RIGHT.values(), ids=RIGHT)
+def test_a_page_with_nothing_wrong_has_no_failure(kit, page):
+    assert find_failures(page) == []
+
+
+@pytest.mark.parametrize("page, failure", WRONG.values(), ids=WRONG)
+def test_what_is_wrong_with_a_page_is_reported(kit, page, failure):
+    [found] = find_failures(page)
+    assert found.startswith(failure)
+    # only with --run
+    is_command = "commands failed" in failure
+    assert find_failures(page, run=False) == [found] * (not is_command)
 
 
 def test_comments_of_sources_are_checked():
@@ -93,6 +125,31 @@ def test_each_module_is_named():
     assert find_failures("# `Two`", name="REVIEWING.md") == ["no source file contains Two"]
 
 
+# a section about the crates a and b, and the names that are no parts of them
+PARTS = {
+    "modules": ("| `one`, `one/two`, `three` | `gone` |\n\nBy `gone` (`four`), `gone`.", ""),
+    "a module of a row": ("| module | content |\n| `one`, `gone` | .. |", "gone"),
+    "a path": ("| `two/one` | .. |", "two/one"),
+    "not beside the one before": ("| `one/two`, `four`, `three` | .. |", "three"),
+    "of another crate": ("| `five` | .. |", "five"),
+    "in parentheses": ("The performer `Events` (`gone`) writes, and `Four` (`four`).", "gone"),
+    "functions in parentheses": ("*Hold* (`hold` of `one`, as `keep` says) (`Capital`)", "keep"),
+    "a function is no module": ("| `hold` | .. |", "hold"),
+    "an entry of a crate": ("- `a`: `one` (with\n  `one/gone`)\n- other: `gone`", "one/gone")}
+
+
+@pytest.mark.parametrize("text, wanted", PARTS.values(), ids=PARTS)
+def test_parts_of_crates_are_there(text, wanted):
+    files = {"crates/a/src/one.rt": "fn hold() {}", "crates/a/src/one/two.rt": "",
+             "crates/a/src/one/three.rt": "", "crates/b/src/four.rt": "",
+             "crates/c/src/five.rt": "", "crates/a/specs/gone.antt": "",
+             "rust/a/src/gone.rs": "fn keep() {}"}
+    tool = make_tool(sources={Path(path): source for path, source in files.items()})
+    page = f"# Parts\n(`gone`)\n## Crates\n- `a`: `gone`\n## `a` and `b`\n{text}\n## Rust\n(`gone`)"
+    wanted = [f"no such part of a, b: {name}" for name in wanted.split()]
+    assert list(tool.parts["check_parts"](page)) == wanted
+
+
 def test_each_call_is_named_and_has_an_example():
     tool = make_tool()
     write(tool.parts["EXAMPLES"], "Bell")
@@ -104,12 +161,22 @@ def test_each_call_is_named_and_has_an_example():
 
 
 # a text, and the names that nothing declares or whose definition the section doesn't name
-@pytest.mark.parametrize("text, wanted", [
-    ("`C::f` (`one`, clause\n`two`) and `gone`", ""), ("(`B`, `c`, `s` of `d`) (`x/y.z`)", ""),
-    ("(`one`, `gone`) `f`", "gone"), ("`f` (`three`, as\n`four`)", "three four"),
-    ("(`five::B`)", "five"), ("(`six`)", "six"), ("(`seven`)", "seven"), ("(`one`) `B`", "one"),
-    ("`B`\n## `f`\n(`c`)", "c"), ("`B`\n## `A`\n(`c`)\n# C\n`specs/A`, (`c`)", ""),
-    ("(`e`) `d`", "e"), ("(`e`) `B`, `C` and `specs`", "e")])
+CLAUSES = {
+    "of a function": ("`C::f` (`one`, clause\n`two`) and `gone`", ""),
+    "of a module, a record and a path": ("(`B`, `c`, `s` of `d`) (`x/y.z`)", ""),
+    "not declared": ("(`one`, `gone`) `f`", "gone"),
+    "in a comment, and in a clause": ("`f` (`three`, as\n`four`)", "three four"),
+    "one part of a path": ("(`five::B`)", "five"),
+    "of a test": ("(`six`)", "six"),
+    "of a proof": ("(`seven`)", "seven"),
+    "of another definition": ("(`one`) `B`", "one"),
+    "of another section": ("`B`\n## `f`\n(`c`)", "c"),
+    "of a module of the section": ("`B`\n## `A`\n(`c`)\n# C\n`specs/A`, (`c`)", ""),
+    "of what follows an abbreviation": ("(`e`) `d`", "e"),
+    "of what holds it": ("(`e`) `B`, `C` and `specs`", "e")}
+
+
+@pytest.mark.parametrize("text, wanted", CLAUSES.values(), ids=CLAUSES)
 def test_clauses_are_declared(text, wanted):
     files = {"crates/C/src/s.rt": "pub const fn f()\n    requires one {\n    ensures* two { four }",
              "crates/C/specs/A.antt": "pub record B : Type 0 where\n  -- pub three\n  pub c : ℕ\n"
@@ -124,14 +191,21 @@ def test_clauses_are_declared(text, wanted):
 
 
 # a page, and what is wrong with it. `Two` of b imports both `One`
-@pytest.mark.parametrize("page, wanted", [
-    ("- `One` of `crates/a/specs`: ..\n- `One`,\n  `Two` of `crates/b/specs`, not `no`", ""),
-    ("Those of `crates/a/specs`:\n\n- `One`: ..\n\n`crates/b/specs`\n\n- `One`\n- `Two`", ""),
-    ("- `Two` of `crates/b/specs`\n- `One`\n- `One` of `crates/a/specs`",
-     "Two imports One of a, Two imports One of b"),
-    ("- `Two`, `One` of `crates/b/specs`: ..", "Two imports One of a, Two imports One of b"),
-    ("- `One`, `Two` of `crates/a/specs`", "no such module of a: Two"),
-    ("- `One`: ..", "no such module of : One"), ("`Three` is none, as\n- `Three.x` and `one`", "")])
+LISTS = {
+    "in order": (
+        "- `One` of `crates/a/specs`: ..\n- `One`,\n  `Two` of `crates/b/specs`, not `no`", ""),
+    "in order, below crates": (
+        "Those of `crates/a/specs`:\n\n- `One`: ..\n\n`crates/b/specs`\n\n- `One`\n- `Two`", ""),
+    "first": ("- `Two` of `crates/b/specs`\n- `One`\n- `One` of `crates/a/specs`",
+              "Two imports One of a, Two imports One of b"),
+    "first in an entry": ("- `Two`, `One` of `crates/b/specs`: ..",
+                          "Two imports One of a, Two imports One of b"),
+    "of another crate": ("- `One`, `Two` of `crates/a/specs`", "no such module of a: Two"),
+    "of no crate": ("- `One`: ..", "no such module of : One"),
+    "not an entry": ("`Three` is none, as\n- `Three.x` and `one`", "")}
+
+
+@pytest.mark.parametrize("page, wanted", LISTS.values(), ids=LISTS)
 def test_modules_are_listed_after_those_that_they_import(page, wanted):
     files = {"crates/a/specs/One.antt": "use Rattle.std.specs.List.{map}",
              "crates/b/specs/One.antt": "use Rattle.b.specs.private.One",
@@ -159,8 +233,9 @@ def test_commands_that_lack_something_are_missing(needs, crates, lacking, monkey
 
 
 @pytest.mark.parametrize("status, output, wanted", [
-    (0, "false\n", True), (1, "false\n", False), (1, "true\n", True)])
-def test_a_commit_is_looked_up_unless_the_clone_is_shallow(status, output, wanted):
+    (0, "false\n", True), (1, "false\n", False), (1, "true\n", True), (128, "", True)])
+def test_a_commit_is_looked_up_in_a_full_clone(status, output, wanted):
+    """Without git's folder, git has no output and its status is 128."""
     repository = Repository(Path.cwd())
     repository.run_git = lambda *_: SimpleNamespace(returncode=status, stdout=output)
     assert repository.is_in_history("abc1234") == wanted

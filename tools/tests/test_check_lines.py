@@ -36,17 +36,28 @@ def test_how_long_a_line_may_be(path, begin, most):
     assert find_faults(path, f"{line}\n{line}y\n") == wanted
 
 
-@pytest.mark.parametrize("path, begin, line, end, most, wanted", [
-    ("x.antt", "", "a\n", "", 400, "a file of 401 lines"),
-    *((path, "", "a\n", "", 500, "") for path in (
-        "crates/vte_handler/src/by_call.rt", "rust/x/src/proved/f.rs", "vectors/x.json")),
-    *((*case, "f: a function of 47 lines") for case in (
-        ("x.py", "class A:\n    def f(self):\n", "        a\n", "a\n", 45),
-        ("x.rs", "    fn g();\n    fn f(a: [u8; 2])\n    {\n", "        a;\n", "    }\n", 43),
-        *((file, "int g(void);\nstruct s {\n    int a;\n};\nint *f(int a,\n       int b) {\n"
-           "    if (a) {\n    }\n", "    a;\n", "}\n", 41) for file in ("x.c", "x.h", "x.cpp")),
-        ("x.rt", "fn g();\nfn f(\n)\n    ensures {\n        b\n    }\n{\n", "    a;\n", "}\n", 44),
-        ("x.rt", "fn f(\n    b: B,\n) -> [u8; 2] {\n", "    a;\n", "}\n", 44)))])
+FUNCTION, ANY = "f: a function of 47 lines", ""
+C = ("int g(void);\nstruct s {\n    int a;\n};\n"
+     "int *f(int a,\n       int b) {\n    if (a) {\n    }\n", "    a;\n", "}\n", 41, FUNCTION)
+# a file, its beginning, a line, its end, how many such lines it may have, and the fault of more
+LENGTHS = {
+    "file": ("x.antt", "", "a\n", "", 400, "a file of 401 lines"),
+    "long file": ("crates/vte_handler/src/by_call.rt", "", "a\n", "", 500, ANY),
+    "erased file": ("rust/x/src/proved/f.rs", "", "a\n", "", 500, ANY),
+    "data": ("vectors/x.json", "", "a\n", "", 500, ANY),
+    "Python": ("x.py", "class A:\n    def f(self):\n", "        a\n", "a\n", 45, FUNCTION),
+    "Rust": ("x.rs", "    fn g();\n    fn f(a: [u8; 2])\n    {\n", "        a;\n", "    }\n", 43,
+             FUNCTION),
+    "C": ("x.c", *C),
+    "header of C": ("x.h", *C),
+    "C++": ("x.cpp", *C),
+    "Rattle, with a contract": (
+        "x.rt", "fn g();\nfn f(\n)\n    ensures {\n        b\n    }\n{\n", "    a;\n", "}\n", 44,
+        FUNCTION),
+    "Rattle": ("x.rt", "fn f(\n    b: B,\n) -> [u8; 2] {\n", "    a;\n", "}\n", 44, FUNCTION)}
+
+
+@pytest.mark.parametrize("path, begin, line, end, most, wanted", LENGTHS.values(), ids=LENGTHS)
 def test_how_long_files_and_functions_may_be(path, begin, line, end, most, wanted):
     assert find_faults(path, begin + most * line + end) == []
     longer = begin + (most + 1) * line + end

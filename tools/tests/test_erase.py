@@ -24,39 +24,66 @@ def find_differences(source, written, path="c/mod.rs", adapter=""):
 
 # the text of a crate, what is written of it, and the items that aren't in one of them: -A isn't
 # written, and +A isn't in the source so. More that doesn't differ is in test_erasing
-@pytest.mark.parametrize("source, written, wanted", [
-    ("/// F.\npub fn f() { laws::x(); g(alloc, c::X); }", "/// F. More.\npub fn f() { g(X); }", ""),
-    ("fn f() -> bool;", "fn f() -> bool { true }", "+fn f, -fn f"),
-    ("fn f() { g(); }", "", "-fn f"), ("trait T { fn f(); }", "trait T {}", "-fn f"),
-    ("", "fn f() { g(); }", "+fn f"), ("fn f() { g(1); }", "fn f() { g(2); }", "+fn f, -fn f"),
-    ("fn f() { g(); }", "fn f() {}", "+fn f, -fn f"),
-    ("impl S { fn f() { g(); } } impl T { fn f() { h(); } }",
-     "impl S { fn f() { h(); } } impl T { fn f() { g(); } }", "+fn f, -fn f"),
-    ("pub static N: u8 = 1;", "pub static N: u8 = 2;", "+static N, -static N"),
-    ("impl S { const N: u8 = 1; }", "impl S {}", "-const N"),
-    ("fn f<const N: u8>() -> *const u8 { N }", "fn f<const N: u8>() -> *const u8 { N }", ""),
-    ("fn f() { g(text_between(a, b.c)); take_run(a); }",
-     "fn f() { g(unsafe { text_between(a, b.c) }); unsafe { take_run(a) }; }", ""),
-    ("fn f() { text_between(a); }", "fn f() { unsafe { text_between(b) }; }", "+fn f, -fn f"),
-    ("fn f() { g(a); }", "fn f() { unsafe { g(a) }; }", "+fn f, -fn f"),
-    *(("fn f() { g(a); }", f"fn f() {{ unsafe {{ {made} }} }}", "+fn f, -fn f")
-      for made in ("g(a);", "text_between(a); g(a);", "h(text_between(a))")),
-    ("fn f() { input.up_to(a); }", "fn f() { up_to(input, b); }", "+fn f, -fn f"),
-    *((f"fn f() {{ g({one}); }}", f"fn f() {{ g({other}); }}", "+fn f, -fn f") for one, other in (
-        ("input.bytes_read", "input_read"), ("an_input.bytes", "an_input"),
-        ("&mut reader_of_a", "reader_of_a"))),
-    # contracts and ghosts
-    ("fn f() // requires { }\n ghost a: { ℕ }\n requires b { { \"}\" } ≡ '}' } "
-     "ensures* { c } { g(); }", "fn f() { g(); }", ""),
-    ("#[tactic(auto, u(a))]\nfn f()\n    ensures { a }\n{ b }", "fn f() { c }", "+fn f, -fn f"),
-    ("impl A for B { ghost use c.{D}; ghost e = { λ f. g }; fn h() { 1 } }",
-     "impl A for B { fn h() { 2 } }", "+fn h, -fn h"),
-    # marks
-    ("fn f() {\n// cargo instead: a();\nb(); }", "fn f() { b(); }", "+fn f, -fn f"),
-    ("// cargo lacks: why\nfn f() {}\nfn g() {}", "fn f() {}", "+fn f, -fn g"),
-    ("fn f() { match a { 0..16 => 1 } }", "fn f() { match a { 0..=16 => 1 } }", "+fn f, -fn f"),
-    ("fn f() { let A(b) = c else { break; }; }",
-     "fn f() { let b = match c { A(b) => b, _ => return, }; }", "+fn f, -fn f")])
+DIFFERENCES = {
+    "the allocator, laws and documentation": (
+        "/// F.\npub fn f() { laws::x(); g(alloc, c::X); }",
+        "/// F. More.\npub fn f() { g(X); }", ""),
+    "a method that does more than say no": (
+        "fn f() -> bool;", "fn f() -> bool { true }", "+fn f, -fn f"),
+    "a function that isn't written": ("fn f() { g(); }", "", "-fn f"),
+    "a method that isn't written": ("trait T { fn f(); }", "trait T {}", "-fn f"),
+    "a function without a source": ("", "fn f() { g(); }", "+fn f"),
+    "a number": ("fn f() { g(1); }", "fn f() { g(2); }", "+fn f, -fn f"),
+    "an empty body": ("fn f() { g(); }", "fn f() {}", "+fn f, -fn f"),
+    "bodies in another order": (
+        "impl S { fn f() { g(); } } impl T { fn f() { h(); } }",
+        "impl S { fn f() { h(); } } impl T { fn f() { g(); } }", "+fn f, -fn f"),
+    "the value of a static": (
+        "pub static N: u8 = 1;", "pub static N: u8 = 2;", "+static N, -static N"),
+    "a constant that isn't written": ("impl S { const N: u8 = 1; }", "impl S {}", "-const N"),
+    "no constants, but parameters and pointers": (
+        "fn f<const N: u8>() -> *const u8 { N }", "fn f<const N: u8>() -> *const u8 { N }", ""),
+    "unsafe around calls that have contracts": (
+        "fn f() { g(text_between(a, b.c)); take_run(a); }",
+        "fn f() { g(unsafe { text_between(a, b.c) }); unsafe { take_run(a) }; }", ""),
+    "unsafe around another call of such a function": (
+        "fn f() { text_between(a); }", "fn f() { unsafe { text_between(b) }; }", "+fn f, -fn f"),
+    "unsafe around another function": (
+        "fn f() { g(a); }", "fn f() { unsafe { g(a) }; }", "+fn f, -fn f"),
+    "unsafe around a statement": (
+        "fn f() { g(a); }", "fn f() { unsafe { g(a); } }", "+fn f, -fn f"),
+    "unsafe around two calls": (
+        "fn f() { g(a); }", "fn f() { unsafe { text_between(a); g(a); } }", "+fn f, -fn f"),
+    "unsafe around a call in a call": (
+        "fn f() { g(a); }", "fn f() { unsafe { h(text_between(a)) } }", "+fn f, -fn f"),
+    "another end of the input": (
+        "fn f() { input.up_to(a); }", "fn f() { up_to(input, b); }", "+fn f, -fn f"),
+    "a name that begins as that of the bytes": (
+        "fn f() { g(input.bytes_read); }", "fn f() { g(input_read); }", "+fn f, -fn f"),
+    "a name that ends as that of the input": (
+        "fn f() { g(an_input.bytes); }", "fn f() { g(an_input); }", "+fn f, -fn f"),
+    "a name that begins as that of the reader": (
+        "fn f() { g(&mut reader_of_a); }", "fn f() { g(reader_of_a); }", "+fn f, -fn f"),
+    "contracts with braces in them": (
+        "fn f() // requires { }\n ghost a: { ℕ }\n requires b { { \"}\" } ≡ '}' } "
+        "ensures* { c } { g(); }", "fn f() { g(); }", ""),
+    "a body after a tactic and a contract": (
+        "#[tactic(auto, u(a))]\nfn f()\n    ensures { a }\n{ b }", "fn f() { c }", "+fn f, -fn f"),
+    "a body after ghosts": (
+        "impl A for B { ghost use c.{D}; ghost e = { λ f. g }; fn h() { 1 } }",
+        "impl A for B { fn h() { 2 } }", "+fn h, -fn h"),
+    "a mark's line": (
+        "fn f() {\n// cargo instead: a();\nb(); }", "fn f() { b(); }", "+fn f, -fn f"),
+    "what a mark says is lacking": (
+        "// cargo lacks: why\nfn f() {}\nfn g() {}", "fn f() {}", "+fn f, -fn g"),
+    "the end of a range": (
+        "fn f() { match a { 0..16 => 1 } }", "fn f() { match a { 0..=16 => 1 } }", "+fn f, -fn f"),
+    "the end of a let-else": (
+        "fn f() { let A(b) = c else { break; }; }",
+        "fn f() { let b = match c { A(b) => b, _ => return, }; }", "+fn f, -fn f")}
+
+
+@pytest.mark.parametrize("source, written, wanted", DIFFERENCES.values(), ids=DIFFERENCES)
 def test_what_differs_is_reported(source, written, wanted):
     shown = re.compile("c/mod.rs (.*?): it isn't (?:written|in the source as it is written: (.*))")
     found = [shown.fullmatch(line) for line in find_differences(source, written)]
@@ -64,12 +91,33 @@ def test_what_differs_is_reported(source, written, wanted):
     assert all(word in written for it in found for word in (it[2] or "").split())
 
 
-EXAMPLES = [it[2].split(" -> ") for it in Tool("check_erased").parts["PATTERNS"]]
+def example_of(template):
+    """Returns an example of a text of a rule, whose brackets all have a partner."""
+    text = template.replace("$comma", ",").replace("$leave", "return").replace("$", "")
+    for opening, closing in "()", "[]", "{}":
+        surplus = text.count(closing) - text.count(opening)
+        text = opening * surplus + text + closing * -surplus
+    return text
 
 
-@pytest.mark.parametrize("texts", EXAMPLES)
-def test_what_may_differ_is_not_reported(texts):
-    assert find_differences(*(f"fn f() {{ {text} }}" for text in texts)) == []
+STEPS = Tool("check_erased").parts["STEPS"]
+# what a rule has, with places as words, and what this is too
+EXAMPLES = [*([*map(example_of, rule)] for step in STEPS for rule in step),
+            ["0..16 =>", "0..=15 =>"], ["0..0x10 =>", "0..=0xf =>"]]
+# more than words in places
+VALUES = [
+    ("let A(b) = f() else { return; };", "let b = match f() { A(b) => b, _ => return, };"),
+    ("let A(b) = f() else { break c; };", "let b = match f() { A(b) => b, _ => break c, };"),
+    ("let A(b) = f() else { g(); c };", "let b = match f() { A(b) => b, _ => { g(); c } };"),
+    ("input.bytes[a - 1..].first_chunk::<N>()", "first_chunk::<N>(&input[a - 1..])"),
+    ("{ let result = f(a, b); result }", "{ f(a, b) }"),
+    ("match a { A => { laws::f(); 1 } _ => c, }", "match a { A => 1, _ => c }"),
+    ("f(a, [b,],)", "f(a, [b])"), ("A { a, looks: Looks::new(), }", "A { a }")]
+
+
+@pytest.mark.parametrize("source, written", EXAMPLES + VALUES)
+def test_what_may_differ_is_not_reported(source, written):
+    assert find_differences(f"fn f() {{ {source} }}", f"fn f() {{ {written} }}") == []
 
 
 @pytest.mark.parametrize("source, written", EXAMPLES)
@@ -81,7 +129,15 @@ def test_any_other_token_differs(source, written):
         changed = source[:token.start()] + other + source[token.end():]
         if not find_differences(f"fn f() {{ {changed} }}", f"fn f() {{ {written} }}"):
             ignored.append(token[0])
-    assert ignored == (["f"] if "laws" in source else [])
+    assert ignored == (["name"] if "laws" in source else [])
+
+
+def test_the_order_in_a_step_does_not_matter():
+    """The sources of this repository have no difference, either, with each step in reverse."""
+    tool = Tool("check_erased")
+    rules = [tool.parts["compile_rule"](*rule) for step in STEPS for rule in reversed(step)]
+    tool.parts.update(RULES=rules, TOP=TOOLS.parent)
+    assert tool.run()[0] == 0
 
 
 def test_documentation_is_repeated():

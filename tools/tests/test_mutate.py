@@ -39,31 +39,62 @@ def copy(tmp_path_factory):
     return tmp_path_factory.mktemp("copy")
 
 
-# what stands in an edit in the place of something, and what is wrong with it
-@pytest.mark.parametrize("path, old, new, fault", [
-    (PATH, "", "", None),
-    *((path, *case) for path in (PATH, MUST_FAIL) for case in (
-        ("old: one", "old: f(", "crates/c/src/lib.rt hasn't exactly one 'f('"),
-        ("lib.rt", "gone.rt", "crates/c/src/gone.rt hasn't exactly one 'one'"),
-        ("new: two", "new: 3\nold: 3\nnew: 4", None),
-        ("new: two", "new: 3\nold: one\nnew: 4", "crates/c/src/lib.rt hasn't exactly one 'one'"),
-        ("# A rule.\n", "", "it names no rule"))),
-    (MUST_FAIL, "# refused at abc1234 by goal\n", "", None),
-    *((PATH, "# refused at abc1234 by goal\n", verdict, "it wasn't refused: run tools/mutate")
-      for verdict in ("", "# not refused at abc1234\n")),
-    *((PATH, "by goal", f"by {verdict}", None)
-      for verdict in ("returns-then-x of a::B+C::d", "x of a::b::B::d", "x of a::BRead::h",
-                      "x of a::e", "x of d", "a goal of src/a/b.rt")),
-    *((PATH, "by goal", f"by x of {gone}", f"its verdict names {gone}, which isn't there")
-      for gone in ("a::gone", "a::g", "a::B::h", "src/a/gone.rt", "src/a/b.rt:1")),
-    *((PATH, " by goal", verdict, "its verdict names no goal")
-      for verdict in (" by a goal", ": `goal`: why")),
-    ("crates/c/must-fail/m.edit", "", "", "it is also in must-fail/")])
-def test_what_is_wrong_with_a_mutant_is_reported(copy, path, old, new, fault):
+def find_faults(path, old, new):
+    """Returns what --check says of an edit in which something else stands in the place of `old`."""
     write(path, MUTANT.replace(old, new))
-    faults = [f"{PATH if 'also' in fault else path}: {fault}"] if fault else []
-    output = "\n".join([*faults, f"1 mutants, {len(faults)} faults\n"])
-    assert Tool("mutate").run("--check") == (len(faults), output)
+    history = SimpleNamespace(is_in_history=lambda commit: commit == "abc1234")
+    status, output = Tool("mutate", REPOSITORY=history).run("--check")
+    *faults, last = output.splitlines()
+    assert (status, last) == (bool(faults), f"1 mutants, {len(faults)} faults")
+    return faults
+
+
+# what stands in an edit in the place of something, and what is wrong with it
+EDITS = {
+    "as it is": ("", "", None),
+    "its text is there twice": (
+        "old: one", "old: f(", "crates/c/src/lib.rt hasn't exactly one 'f('"),
+    "its file is gone": ("lib.rt", "gone.rt", "crates/c/src/gone.rt hasn't exactly one 'one'"),
+    "it edits what it wrote": ("new: two", "new: 3\nold: 3\nnew: 4", None),
+    "it edits what it replaced": (
+        "new: two", "new: 3\nold: one\nnew: 4", "crates/c/src/lib.rt hasn't exactly one 'one'"),
+    "without a rule": ("# A rule.\n", "", "it names no rule")}
+
+
+@pytest.mark.parametrize("path", [PATH, MUST_FAIL], ids=["mutant", "must-fail"])
+@pytest.mark.parametrize("old, new, fault", EDITS.values(), ids=EDITS)
+def test_an_edit_applies_and_names_a_rule(copy, path, old, new, fault):
+    assert find_faults(path, old, new) == ([f"{path}: {fault}"] if fault else [])
+
+
+@pytest.mark.parametrize("verdict, fault", [
+    ("", "it wasn't refused: run tools/mutate"),
+    ("# not refused at abc1234\n", "it wasn't refused: run tools/mutate"),
+    ("# refused at abc1234 by a goal\n", "its verdict names no goal"),
+    ("# refused at abc1234: `goal`: why\n", "its verdict names no goal"),
+    ("# refused at abc1235 by goal\n",
+     "its verdict names commit abc1235, which isn't in the history")])
+def test_a_verdict_is_a_refusal_in_the_history(copy, verdict, fault):
+    assert find_faults(PATH, "# refused at abc1234 by goal\n", verdict) == [f"{PATH}: {fault}"]
+
+
+@pytest.mark.parametrize("goal", [
+    "returns-then-x of a::B+C::d", "x of a::b::B::d", "x of a::BRead::h", "x of a::e", "x of d",
+    "a goal of src/a/b.rt"])
+def test_a_verdict_names_what_is_there(copy, goal):
+    assert find_faults(PATH, "by goal", f"by {goal}") == []
+
+
+@pytest.mark.parametrize("gone", ["a::gone", "a::g", "a::B::h", "src/a/gone.rt", "src/a/b.rt:1"])
+def test_a_verdict_names_what_is_gone(copy, gone):
+    assert find_faults(PATH, "by goal", f"by x of {gone}") == [
+        f"{PATH}: its verdict names {gone}, which isn't there"]
+
+
+def test_an_edit_of_must_fail_has_no_verdict_and_is_no_mutant(copy):
+    assert find_faults(MUST_FAIL, "# refused at abc1234 by goal\n", "") == []
+    assert find_faults("crates/c/must-fail/m.edit", "", "") == [
+        f"{PATH}: it is also in must-fail/"]
 
 
 def mutate(output, *words):
@@ -72,27 +103,43 @@ def mutate(output, *words):
     return Tool("mutate", subprocess=ran).run(*map(str, words))[0]
 
 
-# what `rt must-fail` says in the end, and the last line of the mutant then
-@pytest.mark.parametrize("output, status, line", [
-    ("NOT TRIED", 1, "# refused at abc1200 by old"),
-    *((other, 1, "# not refused at abc1234") for other in (
-        "not refused", "refused, as it must be: why")),
-    *((f"refused, as it must be: {why}", 0, f"# refused at abc1234 by {goal}") for goal, why in {
-        "x-y": "`x-y`: why (`x`)",
-        "x of src/a/b.rt": "note: src/a/b.rt:2:1: what `q` requires isn't proved (`x`); `y`",
-        "x of a::b::g": "note: src/a/b.rt:3:1: what `q` requires isn't proved (`x`)",
-        "x of a::B::d": "note: src/a/b.rt:8:1: what `q` requires isn't proved (`x`)",
-        "x of a::BRead::h": "note: src/a/b.rt:14:1: what `q` requires isn't proved (`x`)",
-        "x of a::b": "./proofs/a/b/Answers.antt:1:2: error: `x`: `y`",
-        "x of a": "answers in ./proofs/a/Answers.antt; `search` did not prove `x`, `y`",
-        "a goal of a": "answers in ./proofs/a/Answers.antt"}.items())])
-def test_what_the_prover_says_becomes_the_verdict(copy, output, status, line):
-    """Of two mutants one is chosen, by its name."""
+def try_one_of_two(copy, said):
+    """Returns the status of a trial of one mutant, by its name, and the last line of it then."""
     text = MUTANT.replace("abc1234 by goal", "abc1200 by old")
     mutant, other = write(PATH, text), write("tools/mutants/c/n.edit", text)
-    assert mutate(f"rt: must-fail c/m.edit: {output}\n", copy, "c/m", "c/m") == status
+    status = mutate(f"rt: must-fail c/m.edit: {said}\n", copy, "c/m", "c/m")
     assert [file.name for file in copy.rglob("*.edit")] == ["m.edit"]
-    assert (mutant.read_text().splitlines()[-1], other.read_text()) == (line, text)
+    assert other.read_text() == text
+    return status, mutant.read_text().splitlines()[-1]
+
+
+# what the prover says of a refusal, and the goal of the verdict
+REFUSALS = {
+    "a goal alone": ("`x-y`: why (`x`)", "x-y"),
+    "outside functions": (
+        "note: src/a/b.rt:2:1: what `q` requires isn't proved (`x`); `y`", "x of src/a/b.rt"),
+    "in a function": (
+        "note: src/a/b.rt:3:1: what `q` requires isn't proved (`x`)", "x of a::b::g"),
+    "in a method": ("note: src/a/b.rt:8:1: what `q` requires isn't proved (`x`)", "x of a::B::d"),
+    "in a method of a trait": (
+        "note: src/a/b.rt:14:1: what `q` requires isn't proved (`x`)", "x of a::BRead::h"),
+    "in answers": ("./proofs/a/b/Answers.antt:1:2: error: `x`: `y`", "x of a::b"),
+    "by a search": (
+        "answers in ./proofs/a/Answers.antt; `search` did not prove `x`, `y`", "x of a"),
+    "without a goal": ("answers in ./proofs/a/Answers.antt", "a goal of a")}
+
+
+@pytest.mark.parametrize("why, goal", REFUSALS.values(), ids=REFUSALS)
+def test_a_refusal_becomes_the_verdict(copy, why, goal):
+    assert try_one_of_two(copy, f"refused, as it must be: {why}") == (
+        0, f"# refused at abc1234 by {goal}")
+
+
+@pytest.mark.parametrize("said, line", [
+    ("NOT TRIED", "# refused at abc1200 by old"), ("not refused", "# not refused at abc1234"),
+    ("refused, as it must be: why", "# not refused at abc1234")])
+def test_a_mutant_without_a_goal_is_not_refused(copy, said, line):
+    assert try_one_of_two(copy, said) == (1, line)
 
 
 def test_all_mutants_are_tried(copy):
@@ -104,7 +151,8 @@ def test_all_mutants_are_tried(copy):
 @pytest.mark.parametrize("words, output", [
     (["folder", "c/gone"], "there is no mutant c/gone"),
     (["--check", "c/m"], "--check takes no words"),
-    *((words, "a folder outside the repository is needed, for a copy") for words in ([], ["in"]))])
+    ([], "a folder outside the repository is needed, for a copy"),
+    (["in"], "a folder outside the repository is needed, for a copy")])
 def test_words_that_mutate_refuses(copy, capsys, words, output):
     assert mutate("", *words) == 2
     assert capsys.readouterr().err.endswith(f"error: {output}\n")

@@ -11,6 +11,10 @@ from tests.support import TOOLS, Tool, run_here, write, write_program
 CHECK = "tools/lib/releasing/check"
 MANIFESTS = ("rust/vtlog/Cargo.toml", "rust/vte_c/Cargo.toml", "python/pyproject.toml",
              "python/Cargo.toml")
+CHANGELOGS = "CHANGELOG.md", "rust/vte/CHANGELOG.md"
+# a version in other files: that of the release, or of the C interface
+NAMES_VERSION = {"crates/vtlog/src/main.rt": "1.2.3", "docs/vtlog.1": "1.2.3", "docs/C.md": "7",
+                 "vectors/events.json": "1.2.3", "vectors/calls.json": "1.2.3"}
 # what else of a release of version 1.2.3 names it, or the version of the C interface
 RELEASE = {
     "rust/vte/Cargo.toml": 'version = "0.15.0+naqshuve.1.2.3"',
@@ -23,20 +27,27 @@ RELEASE = {
                     "`VTE_VERSION`, 7 |\n## 1.2.3, unreleased\n## 1.2.2, 2026-01-01"}
 
 
-# what stands in a file instead, and what is reported
-@pytest.mark.parametrize("path, old, new, reported", [
-    ("CHANGELOG.md", "unreleased", "2026-01-02", None),
-    *((file, "1.2.3", "1.2.4", f"{file} has 1.2.4") for file in MANIFESTS),
-    *((file, old, new, f"{file} begins with {shown}")
-      for file in ("CHANGELOG.md", "rust/vte/CHANGELOG.md")
-      for old, new, shown in (("## 1.2.3", "## 1.2.4", "1.2.4, unreleased"),
-                              ("unreleased", "soon", "1.2.3, soon"))),
-    *((file, old, "1.2.4", f'{file} has no "{RELEASE[file]}"') for file, old in (
-        ("crates/vtlog/src/main.rt", "1.2.3"), ("docs/vtlog.1", "1.2.3"), ("docs/C.md", "7"),
-        ("vectors/events.json", "1.2.3"), ("vectors/calls.json", "1.2.3"))),
-    ("CHANGELOG.md", "| 1.2.3", "| 1.2.4", 'CHANGELOG.md has no "| 1.2.3 | the crate"'),
-    ("CHANGELOG.md", "+naqshuve", "", 'CHANGELOG.md has no "| 0.15.0+naqshuve.1.2.3 | the same"'),
-    ("CHANGELOG.md", ", 7", ", 6", 'CHANGELOG.md has no "`VTE_VERSION`, 7 |"')])
+# a file, what stands in it instead of something, and what is reported
+WRONG = {
+    "none": ("CHANGELOG.md", "unreleased", "2026-01-02", None),
+    **{file: (file, "1.2.3", "1.2.4", f"{file} has 1.2.4") for file in MANIFESTS},
+    **{f"in the title of {file}":
+       (file, "## 1.2.3", "## 1.2.4", f"{file} begins with 1.2.4, unreleased")
+       for file in CHANGELOGS},
+    **{f"the date in {file}": (file, "unreleased", "soon", f"{file} begins with 1.2.3, soon")
+       for file in CHANGELOGS},
+    **{f"named in {file}": (file, old, "1.2.4", f'{file} has no "{RELEASE[file]}"')
+       for file, old in NAMES_VERSION.items()},
+    "of the crate": (
+        "CHANGELOG.md", "| 1.2.3", "| 1.2.4", 'CHANGELOG.md has no "| 1.2.3 | the crate"'),
+    "of the crate for cargo": (
+        "CHANGELOG.md", "+naqshuve", "",
+        'CHANGELOG.md has no "| 0.15.0+naqshuve.1.2.3 | the same"'),
+    "of the C interface": (
+        "CHANGELOG.md", ", 7", ", 6", 'CHANGELOG.md has no "`VTE_VERSION`, 7 |"')}
+
+
+@pytest.mark.parametrize("path, old, new, reported", WRONG.values(), ids=WRONG)
 def test_a_wrong_version_is_reported(path, old, new, reported):
     for name, text in RELEASE.items():
         write(name, (text.replace(old, new) if name == path else text) + "\n")
@@ -47,15 +58,21 @@ def test_a_wrong_version_is_reported(path, old, new, reported):
 
 
 # what makes a release, what uses it on a fresh machine, and what is reported
-@pytest.mark.parametrize("make, use, reported", [
-    ("", "", []), ("exit 1", "", ["release: it was not made"]),
-    ("case $1 in *second) rm a; exit 1; esac", "", [
+RELEASES = {
+    "right": ("", "", []),
+    "not made": ("exit 1", "", ["release: it was not made"]),
+    "not made twice": ("case $1 in *second) rm a; exit 1; esac", "", [
         "release: it was not made again", "release: the second differs from the first"]),
-    ("umask >mask", "", ["release: the second differs from the first"]),
-    ("echo b >a", "", ["release: a sum is wrong"]),
-    ("", "exit 1", ["use: a fresh machine could not use the release"]),
-    ("", '[ "$1 $2 $4 $5 $6" = "--with pkg-config ./try_release 1.2.3 7" ] && cd $3 && '
-         '[ "$(echo $(git ls-files))" = "SHA256SUMS a program.c program.rs try_release" ]', [])])
+    "made by the machine's mask": (
+        "umask >mask", "", ["release: the second differs from the first"]),
+    "changed": ("echo b >a", "", ["release: a sum is wrong"]),
+    "not used": ("", "exit 1", ["use: a fresh machine could not use the release"]),
+    "used with its files": (
+        "", '[ "$1 $2 $4 $5 $6" = "--with pkg-config ./try_release 1.2.3 7" ] && cd $3 && '
+        '[ "$(echo $(git ls-files))" = "SHA256SUMS a program.c program.rs try_release" ]', [])}
+
+
+@pytest.mark.parametrize("make, use, reported", RELEASES.values(), ids=RELEASES)
 def test_a_release_is_made_twice_and_used(folder, monkeypatch, make, use, reported):
     write_program("tools/release", "mkdir $1 && cd $1 && echo a >a && "
                   f"sha256sum a >SHA256SUMS; {make}")

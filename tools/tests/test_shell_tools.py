@@ -32,29 +32,45 @@ PROGRAMS = {
 MISSING, HOMES = "missing: gcc-multilib.*32 bits were not tested", r"export CARGO_HOME=\S+"
 
 
+GATE, ALLOWED = {"GATE": "1"}, {"NAQSHUVE_ALLOW_MISSING": "1"}
 # a tool, its words and variables, its status, and what it asked for and said
-@pytest.mark.parametrize("tool, words, variables, status, output", [
-    ("check_builds", "memory", {}, 0, "test --manifest-path .*--tests .* valgrind .*--error-exit"),
-    ("check_builds", "widths", {}, 1, MISSING),
-    ("check_builds", "widths", {"NAQSHUVE_ALLOW_MISSING": "1"}, 0, MISSING),
-    *(("check_builds", words, {}, status, "Checks builds ")
-      for words, status in (("--help", 0), ("gone", 2), ("", 2))),
-    ("run_pytest", "-n 4 a.py -k b", {"NO_XDIST": "0"}, 0, ".*tests.missing -n 4 a.py -k b$"),
-    ("run_pytest", "-n 4 a.py -k b", {"NO_XDIST": "1"}, 0, ".*tests.missing a.py -k b$"),
-    ("install_packages", "a b", {"GATE": "1", "THERE": "a b"}, 0, "$"),
-    ("install_packages", "a b", {"THERE": "a"}, 1, "$"),
-    ("install_packages", "a b", {"GATE": "1", "THERE": "a"}, 0, "update install b installing b$"),
-    ("next_release", "", {}, 2, "Puts crates "), ("next_release", "-h", {}, 0, "Puts crates "),
+RUNS = {
+    "memory": ("check_builds", "memory", {}, 0,
+               "test --manifest-path .*--tests .* valgrind .*--error-exit"),
+    "widths without gcc-multilib": ("check_builds", "widths", {}, 1, MISSING),
+    "widths without gcc-multilib, allowed": ("check_builds", "widths", ALLOWED, 0, MISSING),
+    "help of builds": ("check_builds", "--help", {}, 0, "Checks builds "),
+    "no such build": ("check_builds", "gone", {}, 2, "Checks builds "),
+    "no build": ("check_builds", "", {}, 2, "Checks builds "),
+    "pytest side by side": ("run_pytest", "-n 4 a.py -k b", {"NO_XDIST": "0"}, 0,
+                            ".*tests.missing -n 4 a.py -k b$"),
+    "pytest one by one": ("run_pytest", "-n 4 a.py -k b", {"NO_XDIST": "1"}, 0,
+                          ".*tests.missing a.py -k b$"),
+    "all packages are there": ("install_packages", "a b", {**GATE, "THERE": "a b"}, 0, "$"),
+    "packages outside the gate": ("install_packages", "a b", {"THERE": "a"}, 1, "$"),
+    "packages in the gate": ("install_packages", "a b", {**GATE, "THERE": "a"}, 0,
+                             "update install b installing b$"),
+    "no folder": ("next_release", "", {}, 2, "Puts crates "),
+    "help of the next release": ("next_release", "-h", {}, 0, "Puts crates "),
     # what was asked for before isn't fetched again
-    ("next_release", "folder", {}, 0, rf"{HOMES}/folder/cargo PYTHONPATH=\S+ "),
-    ("next_release", "folder a", {}, 0, HOMES), ("next_release", "folder a b", {}, 1, "update$"),
-    ("next_release", "folder a b", {"HAS_CRATES": "yes"}, 0, "export PYTHONPATH="),
-    ("next_release", "other", {}, 1, "update$"),
-    ("lib/releasing/fresh_machine", "--with a b", {}, 2, "Runs a command on a fresh "),
-    *(("release", words, {}, status, "Makes a release ")
-      for words, status in (("", 2), ("--help", 0), ("--chek", 2), ("a b", 2))),
+    "all is there": ("next_release", "folder", {}, 0, rf"{HOMES}/folder/cargo PYTHONPATH=\S+ "),
+    "a package is there": ("next_release", "folder a", {}, 0, HOMES),
+    "a package is fetched": ("next_release", "folder a b", {}, 1, "update$"),
+    "cargo has crates": ("next_release", "folder a b", {"HAS_CRATES": "yes"}, 0,
+                         "export PYTHONPATH="),
+    "an empty folder": ("next_release", "other", {}, 1, "update$"),
+    "words of a fresh machine": ("lib/releasing/fresh_machine", "--with a b", {}, 2,
+                                 "Runs a command on a fresh "),
+    "no folder for a release": ("release", "", {}, 2, "Makes a release "),
+    "help of a release": ("release", "--help", {}, 0, "Makes a release "),
+    "no such word": ("release", "--chek", {}, 2, "Makes a release "),
+    "two folders": ("release", "a b", {}, 2, "Makes a release "),
     # it asks for the files if the folder isn't there
-    ("release", "there", {}, 1, "log$"), ("release", "new", {}, 2, "log archive$")])
+    "a folder that is there": ("release", "there", {}, 1, "log$"),
+    "a new folder": ("release", "new", {}, 2, "log archive$")}
+
+
+@pytest.mark.parametrize("tool, words, variables, status, output", RUNS.values(), ids=RUNS)
 def test_a_tool_obeys_its_words(folder, monkeypatch, tool, words, variables, status, output):
     needed = re.findall(r"(python3|librust)-\{(.*?)\}(-dev)?", (TOOLS / "next_release").read_text())
     had = [f"{begin}-{it}{end}" for begin, names, end in needed for it in names.split(",")]

@@ -2,9 +2,25 @@
 //! early stop.
 
 use test_lines::EventLines;
-use vte_core::Parser;
-#[cfg(test)]
-use vte_core::Saved;
+use vte_core::{Parser, Saved};
+
+/// Calls a function with a new parser whose buffer has this size, if it is one of those that are
+/// listed here. Returns whether it is.
+macro_rules! with_parser {
+    ($size:ident, $parser:ident => $call:expr) => {
+        with_parser!($size, $parser => $call; 0, 1, 2, 5, 30, 32, 1024)
+    };
+    ($size:ident, $parser:ident => $call:expr; $($listed:literal),*) => {
+        match $size {
+            $($listed => {
+                let $parser = &mut Parser::<$listed>::new_with_size();
+                $call;
+                true
+            })*
+            _ => false,
+        }
+    };
+}
 
 /// How text is reported.
 #[derive(Clone, Copy)]
@@ -37,19 +53,9 @@ fn feed<const N: usize>(
 }
 
 /// Feeds the chunks to a new parser whose buffer has `size` bytes. Returns false for a size that
-/// isn't listed here.
+/// `with_parser` doesn't list.
 pub(crate) fn feed_new(size: usize, lines: &mut EventLines, text: Text, chunks: &[&[u8]]) -> bool {
-    match size {
-        0 => feed(&mut Parser::<0>::new_with_size(), lines, text, chunks),
-        1 => feed(&mut Parser::<1>::new_with_size(), lines, text, chunks),
-        2 => feed(&mut Parser::<2>::new_with_size(), lines, text, chunks),
-        5 => feed(&mut Parser::<5>::new_with_size(), lines, text, chunks),
-        30 => feed(&mut Parser::<30>::new_with_size(), lines, text, chunks),
-        32 => feed(&mut Parser::<32>::new_with_size(), lines, text, chunks),
-        1024 => feed(&mut Parser::<1024>::new_with_size(), lines, text, chunks),
-        _ => return false,
-    }
-    true
+    with_parser!(size, parser => feed(parser, lines, text, chunks))
 }
 
 /// Reads until the performer asks for a stop, and then the unread bytes in one call.
@@ -58,24 +64,13 @@ fn stop<const N: usize>(parser: &mut Parser<N>, lines: &mut EventLines, bytes: &
     parser.advance(lines, &bytes[read..]);
 }
 
-/// Does this with a new parser whose buffer has `size` bytes. Returns false for a size that isn't
-/// listed here.
+/// Does this with a new parser whose buffer has `size` bytes. Returns false for a size that
+/// `with_parser` doesn't list.
 pub(crate) fn feed_with_stop(size: usize, lines: &mut EventLines, bytes: &[u8]) -> bool {
-    match size {
-        0 => stop(&mut Parser::<0>::new_with_size(), lines, bytes),
-        1 => stop(&mut Parser::<1>::new_with_size(), lines, bytes),
-        2 => stop(&mut Parser::<2>::new_with_size(), lines, bytes),
-        5 => stop(&mut Parser::<5>::new_with_size(), lines, bytes),
-        30 => stop(&mut Parser::<30>::new_with_size(), lines, bytes),
-        32 => stop(&mut Parser::<32>::new_with_size(), lines, bytes),
-        1024 => stop(&mut Parser::<1024>::new_with_size(), lines, bytes),
-        _ => return false,
-    }
-    true
+    with_parser!(size, parser => stop(parser, lines, bytes))
 }
 
 /// Feeds the chunks to a parser that is saved after each and restored before the next.
-#[cfg(test)]
 pub(crate) fn feed_saved(lines: &mut EventLines, chunks: &[&[u8]]) {
     let mut saved = Saved::new();
     for chunk in chunks {

@@ -95,7 +95,7 @@ fn find_unexpected<'a>(args: &[&'a str]) -> Option<&'a str> {
 /// Returns whether a word could be the only argument.
 fn is_known(word: &str) -> bool {
     let args = [word];
-    find_page(&args).is_some() || choose(&args).is_some()
+    find_page(&args).is_some() || choose_mode(&args).is_some()
 }
 
 /// Does what the arguments ask for. Returns the exit status and the message for standard error,
@@ -115,11 +115,11 @@ fn run_with_arguments<R: Source, W: Sink>(
     }) result.0 result.1.now }
 {
     if let Some(page) = find_page(args) {
-        return end(&print(page, writer));
+        return describe_outcome(&print(page, writer));
     }
-    match choose(args) {
-        Some(Mode::Lines) => end(&run(reader, writer)),
-        Some(Mode::Text) => end(&run_text(reader, writer)),
+    match choose_mode(args) {
+        Some(Mode::Lines) => describe_outcome(&run(reader, writer)),
+        Some(Mode::Text) => describe_outcome(&run_text(reader, writer)),
         None => (2, "vtlog: unexpected argument"),
     }
 }
@@ -136,7 +136,7 @@ fn find_page(args: &[&str]) -> Option<&'static str>
 }
 
 /// Returns what the arguments choose, or None if any was unexpected.
-fn choose(args: &[&str]) -> Option<Mode>
+fn choose_mode(args: &[&str]) -> Option<Mode>
     ensures { result ≡ chosen_mode (map (λ arg. arg.now) args.now) }
 {
     match args {
@@ -160,7 +160,7 @@ fn print<W: Sink>(text: &str, writer: &mut W) -> Result<(), Fault>
 }
 
 /// Returns the exit status and the message for standard error, which is empty if there is none.
-fn end(outcome: &Result<(), Fault>) -> (u8, &'static str)
+fn describe_outcome(outcome: &Result<(), Fault>) -> (u8, &'static str)
     ensures status { result.0 ≡ status_of outcome.now }
     ensures message { result.1.now ≡ message_of outcome.now }
 {
@@ -184,7 +184,7 @@ mod tests {
             (&[""][..], None),
             (&["text", "text"][..], None),
         ] {
-            assert_eq!(rt; choose(args), wanted);
+            assert_eq!(rt; choose_mode(args), wanted);
         }
     }
 
@@ -195,7 +195,7 @@ mod tests {
             (Err(Fault::Read), (1, "vtlog: read failed")),
             (Err(Fault::Write), (1, "vtlog: write failed")),
         ] {
-            assert_eq!(rt; end(&outcome), wanted);
+            assert_eq!(rt; describe_outcome(&outcome), wanted);
         }
     }
 }

@@ -29,6 +29,9 @@ use vte::{BoundedParser, LongParser, Refused};
 
 const MAX_HELD: usize = 0x20_0000 - 2;
 
+/// How much longer than its command a text that is joined may be: a `;` for each of 16 pieces.
+const SEPARATORS: usize = 16;
+
 /// For how many bytes memory is allocated at once.
 const SLICE_SIZE: usize = 0x1_0000;
 
@@ -66,27 +69,28 @@ fn vectors_and_texts_return_that_memory_was_refused() {
 
 #[test]
 fn a_processor_takes_its_hold_and_memory_for_commands() {
+    let has_std = cfg!(feature = "std");
     let (processor, taken) = counted(|| Processor::with_timeout(Pending::default()));
-    // With a limit, some is for a text that is joined.
-    let joined = if cfg!(feature = "std") { 0 } else { 1040 };
+    // With a limit, some is for a text that is joined from a command of 1,024 bytes.
+    let joined = if has_std { 0 } else { 1024 + SEPARATORS };
     assert_eq!(taken, 0x20_0000 + joined);
     let (mut processor, mut shown) = (processor.ok().unwrap(), Shown::default());
     let text = vec![b'a'; MAX_HELD];
     // two updates that fill the hold
+    let begin = b"\x1b[1;38:5:9mb\x1b[?2026h";
     let taken = [(); 2].map(|()| {
         let update = || {
-            processor.advance(&mut shown, b"\x1b[1;38:5:9mb\x1b[?2026h");
+            processor.advance(&mut shown, begin);
             processor.advance(&mut shown, &text);
             assert_eq!(processor.sync_bytes_count(), MAX_HELD);
             processor.stop_sync(&mut shown);
         };
         counted(update).1
     });
-    // With `std`, for a command as long as what it may parse, and for a text that is joined from
-    // it. Some was taken for the first call.
-    let has_std = usize::from(cfg!(feature = "std"));
-    let (least, most) = (has_std * 2 * MAX_HELD, has_std * (2 * MAX_HELD + 199));
-    assert!((least..=most).contains(&taken[0]), "{taken:?}");
+    // With `std`, each of the first two calls takes memory for a command as long as what it may
+    // parse, and for a text that is joined from it.
+    let wanted = 2 * (begin.len() + MAX_HELD + SEPARATORS);
+    assert_eq!(taken[0], if has_std { wanted } else { 0 });
     assert_eq!((shown.bytes, taken[1]), (2 * (MAX_HELD + 1), 0));
 }
 
@@ -101,7 +105,7 @@ fn with_a_limit_no_memory_is_taken_after_the_beginning() {
     assert_eq!((shown.bytes, taken), (1000, 0));
 
     let (processor, taken) = counted(|| BoundedProcessor::<100, _>::with_timeout(Pending(false)));
-    assert_eq!(taken, 0x20_0000 + 116);
+    assert_eq!(taken, 0x20_0000 + 100 + SEPARATORS);
     let (mut processor, mut shown) = (processor.unwrap(), Shown::default());
     let ((), taken) = counted(|| {
         processor.advance(&mut shown, &title);

@@ -46,9 +46,10 @@ def break_rules(*rules):
     ("command-9c=ends", "byte-9c"), ("device-9c=drop", "byte-9c"),
     ("terminator=silent", "terminator"), ("escaped-commands=drop", "command-cut-short"),
     ("cancelled-commands=drop", "command-cut-short"), ("empty-commands=drop", "empty-command"),
-    *((breach, breach.partition("=")[0]) for breach in (
-        "delete=drop", "colon=separates", "colon=refuses", "limit=100", "pieces=4", "pieces=17",
-        "numbers=16", "numbers=33", "largest=9999", "largest=none"))])
+    ("delete=drop", "delete"), ("colon=separates", "colon"), ("colon=refuses", "colon"),
+    ("limit=100", "limit"), ("pieces=4", "pieces"), ("pieces=17", "pieces"),
+    ("numbers=16", "numbers"), ("numbers=33", "numbers"), ("largest=9999", "largest"),
+    ("largest=none", "largest")])
 def test_a_breach_of_a_house_rule_has_its_rule(breach, rules):
     result = judge_function(break_rules(breach))
     assert names_of(result) == set(rules.split())
@@ -56,25 +57,30 @@ def test_a_breach_of_a_house_rule_has_its_rule(breach, rules):
     assert (result.unexplained_count, result.find_status()) == (0, 1)
 
 
-# for streams in a row, what is replaced in the lines, and the streams that each class counts
-@pytest.mark.parametrize("faults, streams, found", [
-    # what isn't shrunk any more counts for the first class of its rule
-    ({"execute 0f": "execute 1f", "execute 0e\nexecute 10": "print 0010", "execute 0e\n": "",
-      "esc - false 41": "unhook"}, [b"\x1bA", b"\x0f", b"\x0e", *[b"\x0e\x10"] * 4],
-     {"escape-sequence/other": 1, "control/character": 2, "control/missing": 4}),
-    # a kind that shows only with another rule is looked for until it shows alone
-    ({"execute 0e\n": "", "esc - false 41": "execute 41", "execute 0f": "execute 1f"},
-     [b"\x0e", b"\x1bA", *[b"\x0e\x1bA"] * 9, b"\x0f"],
-     {"control/missing": 10, "escape-sequence/other": 1, "control/character": 1}),
-    # another event where two differences meet is no class
-    ({"execute 0[ef]\n": "", "(?=execute 1[01])": "unhook\n"}, [b"\x0e", b"\x10", b"\x0f\x11"],
-     {"control/missing": 2, "control/extra": 1}),
-    # a failure is a class of its own, also where the case of another of its rule stands within
-    ({"execute 0e\nexecute 10\n": "(crash: status 1)", "execute 0e\n": ""},
-     [b"\x0e", b"\x0e\x10"], {"control/missing": 1, "control/crash": 1}),
-    # what is found again and again is counted, but soon not shrunk any more
-    ({r"\Z": "unhook\n"}, [b"a"] * 100, {"text/extra": 100}),
-    ({"execute 0e": "(protocol: x)"}, [b"\x0e"] * 25, {"protocol": 25})])
+# what is replaced in the lines, for streams in a row, and the streams that each class counts
+COUNTED = {
+    "what isn't shrunk any more counts for the first class of its rule": (
+        {"execute 0f": "execute 1f", "execute 0e\nexecute 10": "print 0010", "execute 0e\n": "",
+         "esc - false 41": "unhook"},
+        [b"\x1bA", b"\x0f", b"\x0e", *[b"\x0e\x10"] * 4],
+        {"escape-sequence/other": 1, "control/character": 2, "control/missing": 4}),
+    "a kind that shows only with another rule is looked for until it shows alone": (
+        {"execute 0e\n": "", "esc - false 41": "execute 41", "execute 0f": "execute 1f"},
+        [b"\x0e", b"\x1bA", *[b"\x0e\x1bA"] * 9, b"\x0f"],
+        {"control/missing": 10, "escape-sequence/other": 1, "control/character": 1}),
+    "another event where two differences meet is no class": (
+        {"execute 0[ef]\n": "", "(?=execute 1[01])": "unhook\n"},
+        [b"\x0e", b"\x10", b"\x0f\x11"], {"control/missing": 2, "control/extra": 1}),
+    "a failure is a class of its own, also if the case of another of its rule is in its case": (
+        {"execute 0e\nexecute 10\n": "(crash: status 1)", "execute 0e\n": ""},
+        [b"\x0e", b"\x0e\x10"], {"control/missing": 1, "control/crash": 1}),
+    "what is found again and again is counted, but soon not shrunk any more": (
+        {r"\Z": "unhook\n"}, [b"a"] * 100, {"text/extra": 100}),
+    "a protocol that isn't kept again and again": (
+        {"execute 0e": "(protocol: x)"}, [b"\x0e"] * 25, {"protocol": 25})}
+
+
+@pytest.mark.parametrize("faults, streams, found", COUNTED.values(), ids=COUNTED)
 def test_each_stream_counts_for_one_class(faults, streams, found):
     asked = []
 
@@ -128,8 +134,11 @@ def test_what_binds_has_a_sentence():
 # a stream, what is replaced in its lines, and the class: one that is about the rule of a limit, of
 # what is empty or of an end, only if the difference goes without it
 @pytest.mark.parametrize("stream, pattern, other, name", [
-    *((b"\x1b]a" + rest, " 61", " 62", "command/data") for rest in (
-        b"\x07", b"\x18", b"\x1b[m", b";" * 20 + b"\x07", b"a" * 2000 + b"\x07")),
+    (b"\x1b]a\x07", " 61", " 62", "command/data"),
+    (b"\x1b]a\x18", " 61", " 62", "command/data"),
+    (b"\x1b]a\x1b[m", " 61", " 62", "command/data"),
+    pytest.param(b"\x1b]a" + b";" * 20 + b"\x07", " 61", " 62", "command/data", id="many pieces"),
+    pytest.param(b"\x1b]a" + b"a" * 2000 + b"\x07", " 61", " 62", "command/data", id="much data"),
     (b"\x1b]ab\x07", "1 6162", "2 61 62", "command/pieces"),
     (b"\x1b]a\x07", "true", "false", "command-bell/bell"),
     (b"\x1b]a\x18", "osc.*", "unhook", "command-cut-short/other"),
@@ -137,11 +146,12 @@ def test_what_binds_has_a_sentence():
     (b"\x1b]\x07", "osc.*", "unhook", "command-bell/other"),
     (b"\x1b]\x07", "1 -", "1 61", "empty-command/data"),
     (b"\x1b[m", "6d", "6e", "control-sequence/final"),
-    (b"\x1b[m", "0", "1", "empty-number/numbers"), (b"\xe4\xa0", "^$", "print fffd",
-                                                   "unfinished/replacement"),
-    (b"\x1b[1;m", "6d", "6e", "parameters/final"), (b"\x1bPq", "71", "72", "device-control/final"),
-    (b"\x1b]" + b";" * 20 + b"\x07", "16 ", "15 ", "pieces/pieces"),
-    (b"\x1b]" + b"a" * 2000 + b"\x07", "(61){999}", "61", "limit/data"),
+    (b"\x1b[m", "0", "1", "empty-number/numbers"),
+    (b"\xe4\xa0", "^$", "print fffd", "unfinished/replacement"),
+    (b"\x1b[1;m", "6d", "6e", "parameters/final"),
+    (b"\x1bPq", "71", "72", "device-control/final"),
+    pytest.param(b"\x1b]" + b";" * 20 + b"\x07", "16 ", "15 ", "pieces/pieces", id="pieces"),
+    pytest.param(b"\x1b]" + b"a" * 2000 + b"\x07", "(61){999}", "61", "limit/data", id="limit"),
     # what follows matters if an event isn't there; the first of several differences counts
     (b"a\x7f", "print 0061\nprint 007f", "print 007f", "delete/missing"),
     (b"\x0ea\x0f", "0e\nprint 0061\nexecute 0f", "0d\nprint 0061", "control/character"),
@@ -170,15 +180,20 @@ def test_a_freed_case_has_none_of_its_rules(case):
 
 
 # chunks, what they are freed of, by a rule of a house that keeps more than others, and what is left
-@pytest.mark.parametrize("chunks, rule, left", [
-    *(([b"a\x7f", b"b", b"\x7f", b"c"], rule, left) for rule, left in (
-        ("delete", [b"a", b"b", b"", b"c"]), ("text", [b"\x7f", b"", b"\x7f", b""]),
-        ("cut:between", [b"a\x7fb\x7fc"]), ("cut:text", [b"a\x7f", b"b", b"\x7f", b"c"]))),
-    ([b"\xc3", b"\xa9a"], "cut:text", [b"\xc3\xa9a"]),
-    ([b"\xc3", b"\xa9a"], "cut:unfinished", [b"\xc3", b"\xa9a"]),
-    ([b"\x1b]" + b";" * 16 + b"\x07"], "pieces=17", [b""]),
-    ([b"\x1b[" + b";" * 32 + b"m"], "numbers=33", [b""]),
-    ([b"\x1b]" + b"a" * 1025 + b"\x07"], "limit=1025", [b""])])
+DELETES, CHARACTER = [b"a\x7f", b"b", b"\x7f", b"c"], [b"\xc3", b"\xa9a"]
+FREED = {
+    "of a byte": (DELETES, "delete", [b"a", b"b", b"", b"c"]),
+    "of text": (DELETES, "text", [b"\x7f", b"", b"\x7f", b""]),
+    "of cuts between": (DELETES, "cut:between", [b"a\x7fb\x7fc"]),
+    "of no cut in text": (DELETES, "cut:text", DELETES),
+    "of a cut in text": (CHARACTER, "cut:text", [b"\xc3\xa9a"]),
+    "of no cut in what is unfinished": (CHARACTER, "cut:unfinished", CHARACTER),
+    "of too many pieces": ([b"\x1b]" + b";" * 16 + b"\x07"], "pieces=17", [b""]),
+    "of too many numbers": ([b"\x1b[" + b";" * 32 + b"m"], "numbers=33", [b""]),
+    "of too much data": ([b"\x1b]" + b"a" * 1025 + b"\x07"], "limit=1025", [b""])}
+
+
+@pytest.mark.parametrize("chunks, rule, left", FREED.values(), ids=FREED)
 def test_only_what_a_rule_is_about_is_freed(chunks, rule, left):
     own = house.house_of([rule] * ("=" in rule))
     assert classes.free_case(chunks, {rule.partition("=")[0]}, own) == left
@@ -271,27 +286,35 @@ def test_what_is_known_is_no_failure(known, status):
 
 
 @pytest.mark.parametrize("one, other, kind", [
-    (["csi [9] - false 6d"], ["csi [10] 3f true 6e"], "numbers"),
-    (["hook [1:2] - - 71"], ["hook [1;2] - - 70"], "numbers"), (["unhook"], [], "missing"),
-    ([], ["print 0061"], "leaked"), (["execute 07"], ["print 0007"], "leaked"),
-    ([], ["unhook"], "extra"), (["print 0061"], ["unhook"], "other"),
-    (["print fffd"], ["print fffd"] * 2, "replacement"), (["print fffd"], [], "replacement"),
-    (["print fffd"], ["print 00e9"], "character"), (["put 61"], ["put 62"], "character"),
-    (["print fffd", "print 0061"], [], "missing"),
-    *(([f"osc {one}"], [f"osc {other}"], kind) for one, other, kind in (
-        ("true 1 61", "false 1 61", "bell"), ("- 1 61", "- 2 61 -", "pieces"),
-        ("- 2 61 -", "- 2 - 61", "pieces"), ("- 1 61", "- 1 6162", "data"),
-        ("- 2 61 62", "- 2 61 63", "data"), ("true 1 61", "osc - 2 - 62", "bell"))),
-    (["csi [1] - false 6d"], ["csi [1] 3f true 6d"], "intermediates"),
-    (["csi [] - - 6d"], ["csi [] - true 6e"], "ignore"),
-    (["hook [1] - - 71"], ["hook [1] - - 70"], "final"),
-    *((["esc " + one], ["esc " + other], kind) for one, other, kind in (
-        ("- false 41", "- false 42", "final"), ("- false 41", "- true 41", "ignore"),
-        ("28 - 41", "- - 41", "intermediates"))),
+    ("csi [9] - false 6d", "csi [10] 3f true 6e", "numbers"),
+    ("hook [1:2] - - 71", "hook [1;2] - - 70", "numbers"),
+    ("csi [1] - false 6d", "csi [1] 3f true 6d", "intermediates"),
+    ("csi [] - - 6d", "csi [] - true 6e", "ignore"),
+    ("hook [1] - - 71", "hook [1] - - 70", "final"),
+    ("esc - false 41", "esc - false 42", "final"),
+    ("esc - false 41", "esc - true 41", "ignore"),
+    ("esc 28 - 41", "esc - - 41", "intermediates"),
+    ("osc true 1 61", "osc false 1 61", "bell"),
+    ("osc true 1 61", "osc osc - 2 - 62", "bell"),
+    ("osc - 1 61", "osc - 2 61 -", "pieces"),
+    ("osc - 2 61 -", "osc - 2 - 61", "pieces"),
+    ("osc - 1 61", "osc - 1 6162", "data"),
+    ("osc - 2 61 62", "osc - 2 61 63", "data"),
+    ("put 61", "put 62", "character"),
+    ("print fffd", "print 00e9", "character"),
+    ("print fffd", "print fffd\nprint fffd", "replacement"),
+    ("print fffd", "", "replacement"),
+    ("print fffd\nprint 0061", "", "missing"),
+    ("unhook", "", "missing"),
+    ("", "unhook", "extra"),
+    ("", "print 0061", "leaked"),
+    ("execute 07", "print 0007", "leaked"),
+    ("print 0061", "unhook", "other"),
+    ("unhook\nunhook", "unhook\n(crash: status 1)", "crash"),
     # in long answers the first lines count
-    (["put 61", "unhook"] * 999, ["put 62", "print 0061"] * 999, "character"),
-    (["unhook"] * 2, ["unhook", "(crash: status 1)"], "crash")])
+    pytest.param("put 61\nunhook\n" * 999, "put 62\nprint 0061\n" * 999, "character", id="long")])
 def test_two_answers_differ_first_in_this_kind(one, other, kind):
+    one, other = one.splitlines(), other.splitlines()
     same = kinds.find_first_difference(one, other)
     assert kinds.differences_of(one, other) == [(same, kind)] and kind in kinds.KINDS
 

@@ -84,13 +84,20 @@ def test_headings_of_rules_are_there():
         assert heading in Page(TOOLS.parent / page).list_headings(), heading
 
 
-@pytest.mark.parametrize("chunks, differs, smallest", [
-    ([b"xx\x1b[1mx" * 50, b"b" * 300], lambda case: case[0].count(b"x") > 1 and len(case) > 1,
-     [b"xx", b""]),
-    ([b"abc", b"def"], lambda case: b"e" in b"".join(case), [b"e"]),
-    # a cut that doesn't matter goes, and one that does stays
-    *(([b"x1", b";y", b"z"], lambda case, cuts=cuts: len(case) > cuts and b"1;" in b"".join(case),
-       smallest) for cuts, smallest in ((0, [b"1;"]), (1, [b"1;", b""])))])
+# chunks, whether a case is still a finding, and the smallest that is
+SHRUNK = {
+    "two bytes and a cut": (
+        [b"xx\x1b[1mx" * 50, b"b" * 300], lambda case: case[0].count(b"x") > 1 and len(case) > 1,
+        [b"xx", b""]),
+    "a byte": ([b"abc", b"def"], lambda case: b"e" in b"".join(case), [b"e"]),
+    "a cut that doesn't matter": (
+        [b"x1", b";y", b"z"], lambda case: b"1;" in b"".join(case), [b"1;"]),
+    "a cut that matters": (
+        [b"x1", b";y", b"z"], lambda case: len(case) > 1 and b"1;" in b"".join(case),
+        [b"1;", b""])}
+
+
+@pytest.mark.parametrize("chunks, differs, smallest", SHRUNK.values(), ids=SHRUNK)
 def test_smallest_cases_are_found(chunks, differs, smallest):
     assert shrinking.shrink([chunks], lambda streams: differs(*streams) and streams) == [smallest]
 
@@ -145,7 +152,8 @@ def test_the_reference_and_the_definition_must_agree(tmp_path):
 @pytest.mark.parametrize("option, named, reported", [
     ("./right", "failing", None), ("./failing", "right", "failed with status 3: why"),
     (None, "right", None), (None, "failing", "failed with status 3: why"),
-    *((None, name, "not a program: ./") for name in ("no", "folder", "text")),
+    (None, "no", "not a program: ./"), (None, "folder", "not a program: ./"),
+    (None, "text", "not a program: ./"),
     (None, "other", "other isn't vtlog: it prints other lines"),
     (None, "empty", "empty can't be run: Exec format error")])
 def test_which_program_is_the_reference(tmp_path, monkeypatch, option, named, reported):
@@ -315,8 +323,10 @@ def format_findings(kind, **fields):
 
 
 @pytest.mark.parametrize("fields, others", [
-    ({}, []), ({"different": 4}, ["each difference has a class"]),
-    *((it, ["all streams are judged"]) for it in ({"streams": 0}, {"ended_early": "a < b"}))])
+    pytest.param({}, [], id="findings alone"),
+    pytest.param({"different": 4}, ["each difference has a class"], id="without a class"),
+    pytest.param({"streams": 0}, ["all streams are judged"], id="no streams"),
+    pytest.param({"ended_early": "a < b"}, ["all streams are judged"], id="ended early")])
 def test_junit_is_read_by_its_library(fields, others):
     try:
         import junitparser

@@ -48,23 +48,35 @@ def test_a_finding_can_be_shown_again(judge, judge_toy, words, fault):
     assert f"NEW   {name}:" in judge(1, *again)
 
 
-@pytest.mark.parametrize("status, words, how, reported", [
-    *((0, "", how, "40 streams, 0 differ; 0 classes")
-      for how in ({}, {"once": True}, {"chunks": False})),
-    (1, "--count 0", {}, "0 streams"), (0, "--house delete=drop --house bell=drop", {}, ""),
-    (0, "--leave-out delete", {"fault": "delete=drop"}, "0 differ"),
-    (0, "--leave-out delete --case '61 7f'", {"fault": "delete=drop"}, "no difference: print 0061"),
-    *((status, "--case '1b 5b 39 31*4 61'", {"fault": fault, "chunks": False}, reported)
-      for status, fault, reported in ((0, None, "csi [65535]"), (1, "largest=9999", "csi [9999]"))),
-    (1, "--case 'c3 | a9'", {"fault": "divided"}, "NEW   cut:text/"),
-    (1, "--case '62 / 0e / 61'", {"fault": "stateful"}, "NEW   kept-state"),
-    (0, "--format json --case 61", {}, '"different": 0'),
-    (0, "--format junit", {}, '<testsuite name="judge, seed 1"'), (0, "--seed 7", {}, "; seed 7"),
-    (1, "--seed 7", {"fault": "largest=9"}, "of seed 7"),
-    (0, "--streams recorded", {}, f"{len([*read_recorded_cases('1')])} streams, 0 differ"),
-    (0, "--timeout 99.5", {}, "0 differ"), (1, "--timeout 0 --case 61", {}, "/hang:"),
-    (1, "--memory 0 --case 61", {}, "(memory: more than 0 MiB)"),
-    (0, "--case 61", {"fault": "stateful"}, "no difference")])
+RIGHT, NUMBER = "40 streams, 0 differ; 0 classes", "--case '1b 5b 39 31*4 61'"
+# the status, words of the judge, faults and ways of the toy, and what is reported
+OPTIONS = {
+    "none": (0, "", {}, RIGHT),
+    "of a program that reads one stream": (0, "", {"once": True}, RIGHT),
+    "of a program that reads no chunks": (0, "", {"chunks": False}, RIGHT),
+    "no streams": (1, "--count 0", {}, "0 streams"),
+    "house rules that matter nowhere": (0, "--house delete=drop --house bell=drop", {}, ""),
+    "a class that is left out": (0, "--leave-out delete", {"fault": "delete=drop"}, "0 differ"),
+    "a case of a class that is left out": (
+        0, "--leave-out delete --case '61 7f'", {"fault": "delete=drop"},
+        "no difference: print 0061"),
+    "a case": (0, NUMBER, {"fault": None, "chunks": False}, "csi [65535]"),
+    "a case with a fault": (1, NUMBER, {"fault": "largest=9999", "chunks": False}, "csi [9999]"),
+    "a case in chunks": (1, "--case 'c3 | a9'", {"fault": "divided"}, "NEW   cut:text/"),
+    "a case after another": (1, "--case '62 / 0e / 61'", {"fault": "stateful"}, "NEW   kept-state"),
+    "a case alone": (0, "--case 61", {"fault": "stateful"}, "no difference"),
+    "json": (0, "--format json --case 61", {}, '"different": 0'),
+    "junit": (0, "--format junit", {}, '<testsuite name="judge, seed 1"'),
+    "a seed": (0, "--seed 7", {}, "; seed 7"),
+    "a seed of a finding": (1, "--seed 7", {"fault": "largest=9"}, "of seed 7"),
+    "recorded streams": (
+        0, "--streams recorded", {}, f"{len([*read_recorded_cases('1')])} streams, 0 differ"),
+    "a long timeout": (0, "--timeout 99.5", {}, "0 differ"),
+    "no time": (1, "--timeout 0 --case 61", {}, "/hang:"),
+    "no memory": (1, "--memory 0 --case 61", {}, "(memory: more than 0 MiB)")}
+
+
+@pytest.mark.parametrize("status, words, how, reported", OPTIONS.values(), ids=OPTIONS)
 def test_options_decide_what_is_found(judge_toy, status, words, how, reported):
     assert reported in judge_toy(status, *shlex.split(words), **how)
 
@@ -75,24 +87,44 @@ def test_nothing_but_json_is_printed(judge_toy):
     assert [finding["class"] for finding in reported["findings"]] == ["largest/numbers"]
 
 
-# a command of the shell, whether it reads framed chunks, what it may take, and how its answer ends
-@pytest.mark.parametrize("line, takes_chunks, limits, mark", [
-    *((line, takes_chunks, limits, mark) for takes_chunks in (False, True)
-      for line, limits, mark in (
-          ("exit 3", {}, "(crash: status 3)"), ("kill -9 $$", {}, "(crash: signal 9)"),
-          ("sleep 9", {"timeout": 0.5}, candidate.HANG), ("yes", {}, "(output: more than 32 MiB)"),
-          ("sleep 60", {"memory": 0}, "(memory: more than 0 MiB)"),
-          (f"exec {sys.executable} -c 'a = b\"a\" * (99 << 20); import time; time.sleep(60)'",
-           {"memory": 50}, "(memory: more than 50 MiB)"))),
-    ("echo print 0061", True, {}, candidate.EXIT), ("printf end", True, {}, candidate.NO_LINE_FEED),
-    ("printf 'end\\r\\n'", True, {}, "(protocol: its lines end in CR LF)"),
-    *((line, True, {}, "(protocol: it prints more than it was asked for)")
-      for line in ("yes end", "echo end; echo execute 07"))])
-def test_a_program_that_fails_has_a_mark(line, takes_chunks, limits, mark):
+ALLOCATE = "a = b'a' * (99 << 20); import time; time.sleep(60)"
+# a command of the shell, what it may take, and how its answer ends
+FAILURES = {
+    "status": ("exit 3", {}, "(crash: status 3)"),
+    "signal": ("kill -9 $$", {}, "(crash: signal 9)"),
+    "too slow": ("sleep 9", {"timeout": 0.5}, candidate.HANG),
+    "too much output": ("yes", {}, "(output: more than 32 MiB)"),
+    "no memory": ("sleep 60", {"memory": 0}, "(memory: more than 0 MiB)"),
+    "too much memory": (f'exec {sys.executable} -c "{ALLOCATE}"', {"memory": 50},
+                        "(memory: more than 50 MiB)")}
+# the same of one that reads framed chunks
+FRAMED_FAILURES = {
+    "no end": ("echo print 0061", candidate.EXIT),
+    "no line feed": ("printf end", candidate.NO_LINE_FEED),
+    "line ends of Windows": ("printf 'end\\r\\n'", "(protocol: its lines end in CR LF)"),
+    "ends all the time": ("yes end", "(protocol: it prints more than it was asked for)"),
+    "more than an end": ("echo end; echo execute 07",
+                         "(protocol: it prints more than it was asked for)")}
+
+
+def mark_of(line, takes_chunks, **limits):
+    """Returns the end of what a command answers to a long stream, of which the front is kept."""
     side = candidate.Program(["sh", "-c", line], takes_chunks, **{"timeout": 600, **limits})
-    [answer] = side.answer_all([[b"a" * 100000]])  # of a long one the front is kept
+    [answer] = side.answer_all([[b"a" * 100000]])
     side.close()
-    assert answer[-1] == mark and len(answer) < 10000
+    assert len(answer) < 10000
+    return answer[-1]
+
+
+@pytest.mark.parametrize("takes_chunks", [False, True], ids=["whole", "framed"])
+@pytest.mark.parametrize("line, limits, mark", FAILURES.values(), ids=FAILURES)
+def test_a_program_that_fails_has_a_mark(line, takes_chunks, limits, mark):
+    assert mark_of(line, takes_chunks, **limits) == mark
+
+
+@pytest.mark.parametrize("line, mark", FRAMED_FAILURES.values(), ids=FRAMED_FAILURES)
+def test_a_program_that_frames_wrongly_has_a_mark(line, mark):
+    assert mark_of(line, takes_chunks=True) == mark
 
 
 # of one case, and of the first stream, which ends the judge if it has no answer

@@ -92,7 +92,7 @@ fn find_unexpected<'a>(args: &[&'a str]) -> Option<&'a str> {
 /// Returns whether a word could be the only argument.
 fn is_known(word: &str) -> bool {
     let args = [word];
-    find_page(&args).is_some() || choose(&args).is_some()
+    find_page(&args).is_some() || choose_mode(&args).is_some()
 }
 
 /// Does what the arguments ask for. Returns the exit status and the message for standard error,
@@ -103,11 +103,11 @@ fn run_with_arguments<R: Source, W: Sink>(
     writer: &mut W,
 ) -> (u8, &'static str) {
     if let Some(page) = find_page(args) {
-        return end(&print(page, writer));
+        return describe_outcome(&print(page, writer));
     }
-    match choose(args) {
-        Some(Mode::Lines) => end(&run(reader, writer)),
-        Some(Mode::Text) => end(&run_text(reader, writer)),
+    match choose_mode(args) {
+        Some(Mode::Lines) => describe_outcome(&run(reader, writer)),
+        Some(Mode::Text) => describe_outcome(&run_text(reader, writer)),
         None => (2, "vtlog: unexpected argument"),
     }
 }
@@ -122,7 +122,7 @@ fn find_page(args: &[&str]) -> Option<&'static str> {
 }
 
 /// Returns what the arguments choose, or None if any was unexpected.
-fn choose(args: &[&str]) -> Option<Mode> {
+fn choose_mode(args: &[&str]) -> Option<Mode> {
     match args {
         [] => Some(Mode::Lines),
         [arg] if *arg == "text" => Some(Mode::Text),
@@ -139,7 +139,7 @@ fn print<W: Sink>(text: &str, writer: &mut W) -> Result<(), Fault> {
 }
 
 /// Returns the exit status and the message for standard error, which is empty if there is none.
-fn end(outcome: &Result<(), Fault>) -> (u8, &'static str) {
+fn describe_outcome(outcome: &Result<(), Fault>) -> (u8, &'static str) {
     match outcome {
         Ok(()) => (0, ""),
         Err(Fault::Read) => (1, "vtlog: read failed"),

@@ -1,6 +1,6 @@
 //! What a parser tells of a stream, as lines.
 
-use crate::frames::Frame;
+use crate::program::frames::Frame;
 use std::alloc::Global;
 use std::io::{self, ErrorKind, Write};
 use test_lines::{EventLines, Stop};

@@ -1,8 +1,8 @@
 //! What a processor tells of a stream: the lines of its handler calls, and `held N` after each
 //! chunk and each stop.
 
-use crate::frames::Frame;
-use crate::timeouts::Expiring;
+use crate::program::frames::Frame;
+use crate::program::timeouts::Expiring;
 use std::alloc::Global;
 use std::io::{self, ErrorKind, Write};
 use test_lines::CallLines;

@@ -127,15 +127,15 @@ def test_each_module_is_named():
 
 # a section about the crates a and b, and the names that are no parts of them
 PARTS = {
-    "modules": ("| `one`, `one/two`, `three` | `gone` |\n\nBy `gone` (`four`), `gone`.", ""),
-    "a module of a row": ("| module | content |\n| `one`, `gone` | .. |", "gone"),
-    "a path": ("| `two/one` | .. |", "two/one"),
-    "not beside the one before": ("| `one/two`, `four`, `three` | .. |", "three"),
-    "of another crate": ("| `five` | .. |", "five"),
+    "modules": ("- `one`, `one/two`: `gone`\n\nBy `gone` (`four`), `gone`.", ""),
+    "a module of an entry": ("- `one`, `gone`: ..", "gone"),
+    "a path": ("- `two/one`: ..", "two/one"),
+    "the end of a path": ("- `one/two`, `three`: .. (`two`)", ""),
+    "of another crate": ("- `five`: ..", "five"),
     "in parentheses": ("The performer `Events` (`gone`) writes, and `Four` (`four`).", "gone"),
     "functions in parentheses": ("*Hold* (`hold` of `one`, as `keep` says) (`Capital`)", "keep"),
-    "a function is no module": ("| `hold` | .. |", "hold"),
-    "an entry of a crate": ("- `a`: `one` (with\n  `one/gone`)\n- other: `gone`", "one/gone")}
+    "a function is no module": ("- `hold`: ..", "hold"),
+    "an entry of a crate": ("- `a`: `one` (with\n  `one/two`), `gone`\n- other: `gone`", "gone")}
 
 
 @pytest.mark.parametrize("text, wanted", PARTS.values(), ids=PARTS)

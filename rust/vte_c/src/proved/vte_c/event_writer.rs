@@ -137,10 +137,10 @@ impl<'a> EventWriter<'a> {
         self.finish_event(record, end);
     }
 
-    /// Writes a run that is in the input. The parser returned it for the bytes from an offset on.
-    /// Without a run it goes on after a pause, in which the parser returns none.
+    /// Writes what the parser took of the bytes from an offset on: a run, which is in the input, or
+    /// nothing. A pause, in which it takes nothing, ends here.
     #[inline(always)]
-    pub(crate) fn write_run(&mut self, from: usize, run: Run<'_>, lost_data: bool) {
+    pub(crate) fn write_taken(&mut self, from: usize, run: Run<'_>, lost_data: bool) {
         let start = (from + run.start) as u32;
         match run.taken {
             Taken::Text(text) => {

@@ -87,6 +87,6 @@ fn read_more(
     writer: &mut EventWriter<'_>,
 ) -> usize {
     let run = parser.advance_to_run(writer, &bytes[from..]);
-    writer.write_run(from, run, parser.command_lost_data());
+    writer.write_taken(from, run, parser.command_lost_data());
     run.end
 }

@@ -23,7 +23,7 @@ hex_length n =
     else if nat_lt n 0x100000 then 5
     else 6
 
--- The last hex digits of a number, so many of them.
+-- The last `count` hex digits of a number.
 unfoldable pub hex_digits : ℕ → ℕ → List ℕ
 hex_digits zero n = []
 hex_digits (suc count) n = hex_digits count (n / 16) ++ hex_digit (n % 16) ∷ []

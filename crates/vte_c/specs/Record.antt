@@ -43,7 +43,7 @@ data_of _ = []
 abbrev pub max_piece_bytes : ℕ
 max_piece_bytes = 1024
 
--- A command with so many pieces, or data of this size, may have lost data.
+-- A command with this many pieces, or data of this size, may have lost data.
 abbrev pub is_at_limit : ℕ → ℕ → Bool
 is_at_limit pieces size = nat_le max_pieces pieces || nat_le max_piece_bytes size
 

@@ -5,20 +5,20 @@ use Rattle.vte_core.specs.declared.parser.open.Open.TheVariants.{Character, Cont
 use Rattle.vte_core.specs.Outcome.{CharacterToClose, CommandToClose, ControlSequenceToClose, DeviceDataToClose, DeviceHeadToClose, EscapeToClose, IgnoredStringToClose, NothingToClose, ToClose}
 use Rattle.vte_core.specs.Stream.{IsFinished, IsUnfinished, outcome}
 
-abbrev pub kind_to_close : ToClose → Open
-kind_to_close NothingToClose = Nothing
-kind_to_close (CharacterToClose bytes) = Character
-kind_to_close EscapeToClose = EscapeSequence
-kind_to_close ControlSequenceToClose = ControlSequence
-kind_to_close DeviceHeadToClose = DeviceControl
-kind_to_close DeviceDataToClose = DeviceControl
-kind_to_close (CommandToClose pieces lost) = SystemCommand
-kind_to_close IgnoredStringToClose = IgnoredString
+abbrev pub open_of : ToClose → Open
+open_of NothingToClose = Nothing
+open_of (CharacterToClose bytes) = Character
+open_of EscapeToClose = EscapeSequence
+open_of ControlSequenceToClose = ControlSequence
+open_of DeviceHeadToClose = DeviceControl
+open_of DeviceDataToClose = DeviceControl
+open_of (CommandToClose pieces lost) = SystemCommand
+open_of IgnoredStringToClose = IgnoredString
 
 -- What the last body of the stream leaves open, or its text if it has no ESC. What is kept of
 -- operating system commands has no effect on it.
 unfoldable pub open_at_end : List ℕ → Open
-open_at_end stream = kind_to_close (outcome None stream).to_close
+open_at_end stream = open_of (outcome None stream).to_close
 
 -- `open` of a parser that has read these streams.
 pub record SaysOpen (limit : Option ℕ) (HasRead : List ℕ → Type 0) (result : Open) : Type 0 where

@@ -1,4 +1,5 @@
-//! The parser with a limit, and what it is made of. The calls that read are in `reader/advance`.
+//! The parser with a limit, and what it is made of. The calls that read are in `reader/advance`,
+//! because only `reader` may have their bytes.
 ghost use Rattle.std.specs.Prelude.{false, List, Some, true, ℕ, [], ⊤, ◌≡◌};
 ghost use Rattle.vte_core.specs.Advance.{ReadsBytes, ReadsUntilTerminated};
 ghost use Rattle.vte_core.specs.EarlyStop.{NoCharacterStops};

@@ -82,10 +82,10 @@ pub trait Perform {
         ensures { result ≡ is_terminated (value_of self.now) };
 }
 
-/// Receives text in runs, from `advance_text` alone: there [`print`](Perform::print) and
-/// [`put`](Perform::put) aren't called.
+/// Receives text in runs, from methods whose names begin with `advance_text`: there
+/// [`print`](Perform::print) and [`put`](Perform::put) aren't called.
 ///
-/// All other calls, such as `advance` and `advance_to_run`, pass text by `print`, and never by
+/// All others, such as `advance` and `advance_to_run`, pass text by `print`, and never by
 /// `print_text`. A performer that leaves `print` empty loses their text, so implement both.
 ///
 /// How text and data are cut into runs may change from version to version.

@@ -27,8 +27,8 @@ use vte_types::{
 ///
 /// A command that CAN, SUB or ESC cancelled makes its call like one that ended. A handler can
 /// tell only SUB, which makes a call of its own, `substitute`, after that of the command. Of a
-/// command the first 16 pieces count, and with a limit so many bytes; the rest is dropped
-/// without a call, and `command_lost_data` of the processor says so.
+/// command the first 16 pieces count, and with a limit no more bytes than that; the rest is
+/// dropped without a call, and `command_lost_data` of the processor says so.
 ///
 /// The standards: ECMA-48, fifth edition; DEC's VT510 manual; xterm's control sequences; kitty's
 /// keyboard protocol.

@@ -130,11 +130,11 @@ unfolding without_loss
 single-without_loss offset (OscDispatch pieces bell) = rw (bell-without_loss bell) refl
 single-without_loss offset (Print c) = refl
 single-without_loss offset (Execute byte) = refl
-single-without_loss offset (Hook groups ints ignore final) = refl
+single-without_loss offset (Hook groups intermediates ignore final) = refl
 single-without_loss offset (Put byte) = refl
 single-without_loss offset Unhook = refl
-single-without_loss offset (CsiDispatch groups ints ignore final) = refl
-single-without_loss offset (EscDispatch ints ignore final) = refl
+single-without_loss offset (CsiDispatch groups intermediates ignore final) = refl
+single-without_loss offset (EscDispatch intermediates ignore final) = refl
 
 pub entries-run : {old new : Buffers} (input : List ℕ) (run : InputRunKind) (start size : ℕ) → must_return old ≡ false
     → IsRunAt input run start size

@@ -41,9 +41,10 @@ max_event_data = 1088
 
 pub data_of-at_most : (event : Event) → IsBounded default_limit event → length (data_of event) ≤ max_event_data
 data_of-at_most (Print c) bounded = omega (arith, length-encode c, (len_utf8_bounds c).1)
-data_of-at_most (Hook groups ints ignore final) bounded = omega (arith, group_bytes-at_most groups bounded.groups_are)
+data_of-at_most (Hook groups intermediates ignore final) bounded =
+    omega (arith, group_bytes-at_most groups bounded.groups_are)
 data_of-at_most (OscDispatch pieces bell) bounded = omega (arith, length-piece_bytes pieces, bounded.0, bounded.1)
-data_of-at_most (CsiDispatch groups ints ignore final) bounded =
+data_of-at_most (CsiDispatch groups intermediates ignore final) bounded =
     omega (arith, group_bytes-at_most groups bounded.groups_are)
 data_of-at_most _ bounded = omega arith
 

@@ -76,26 +76,26 @@ single-read : (input area back : List ℕ) (offset : ℕ) (event : Event) → Is
 unfolding events_of event_in
 single-read input area back offset (Print c) bounded is_there =
     rw (is_there, take-append_seam (encode_utf8 c) back, chars-encode c bounded.0) refl
-single-read input area back offset (Hook groups ints ignore final) bounded is_there =
+single-read input area back offset (Hook groups intermediates ignore final) bounded is_there =
     rw (
       is_there,
       groups-read_by_byte groups back bounded.groups_are,
-      intermediates-read _ ints bounded.few_intermediates,
+      intermediates-read _ intermediates bounded.few_intermediates,
       flag-read ignore,
     ) refl
 single-read input area back offset (Put byte) bounded is_there = rw is_there refl
 single-read input area back offset (OscDispatch pieces bell) bounded is_there =
     let at_most : count_byte (length pieces) ≡ length pieces = omega (arith, bounded.0) in
     rw (is_there, at_most, pieces-read pieces back (omega (arith, bounded.1)), bell-read bell) refl
-single-read input area back offset (CsiDispatch groups ints ignore final) bounded is_there =
+single-read input area back offset (CsiDispatch groups intermediates ignore final) bounded is_there =
     rw (
       is_there,
       groups-read_by_byte groups back bounded.groups_are,
-      intermediates-read _ ints bounded.few_intermediates,
+      intermediates-read _ intermediates bounded.few_intermediates,
       flag-read ignore,
     ) refl
-single-read input area back offset (EscDispatch ints ignore byte) bounded is_there =
-    rw (intermediates-read _ ints bounded.0, flag-read ignore) refl
+single-read input area back offset (EscDispatch intermediates ignore byte) bounded is_there =
+    rw (intermediates-read _ intermediates bounded.0, flag-read ignore) refl
 single-read input area back offset _ bounded is_there = refl
 
 -- ---- entries one after another
@@ -192,12 +192,12 @@ event-reported : (event : Event) → contains_kind all_kinds (event_kind event) 
 unfolding contains_kind
 event-reported (Print c) = refl
 event-reported (Execute byte) = refl
-event-reported (Hook groups ints ignore final) = refl
+event-reported (Hook groups intermediates ignore final) = refl
 event-reported (Put byte) = refl
 event-reported Unhook = refl
 event-reported (OscDispatch pieces bell) = refl
-event-reported (CsiDispatch groups ints ignore final) = refl
-event-reported (EscDispatch ints ignore final) = refl
+event-reported (CsiDispatch groups intermediates ignore final) = refl
+event-reported (EscDispatch intermediates ignore final) = refl
 
 pub events-reported : (events : List Event) → wanted_events all_kinds events ≡ events
 events-reported [] = refl

@@ -118,8 +118,8 @@ impl<B: Buffer> Machine<B> {
             return Ok(self.read_text::<P, G, MAY_STOP>(reader, performer, input, from));
         }
         Ok(match self.state {
-            // Never: this was tested above.
-            State::Text(_) => unreachable!(),
+            // Never: this was tested above. A panic could stay in the program.
+            State::Text(_) => from,
             State::Escape => self.read_after_escape::<P, G, MAY_STOP>(
                 reader, performer, input, from,
             ),

@@ -49,7 +49,7 @@ module _ {P B T A V W : Type 0} {view : EngineView P B T W} (meaning : Meaning V
   abbrev extended_engine : Engine P B T A
   extended_engine = record old { hold = hold; state = record old.state { timeout = timeout } }
 
-  -- There is memory to parse so many more bytes.
+  -- There is memory to parse this many more bytes.
   abbrev HasMemoryFor : List ℕ → ℕ → Type 0
   HasMemoryFor = view.parser.has_memory old.parser (view.text_capacity_of old.state.text)
 

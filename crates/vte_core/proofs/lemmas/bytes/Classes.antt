@@ -31,9 +31,9 @@ pub spans : (b : ℕ) {class : Class} → class_of b ≡ class → Spans class b
 spans b is_class = rw is_class at (class_of-spans b)
 
 -- A byte of a head is below each final byte.
-pub below_final : (b : ℕ) → is_head_byte (class_of b) ≡ true → b < 0x40
+pub head_byte_below_40 : (b : ℕ) → is_head_byte (class_of b) ≡ true → b < 0x40
 unfolding class_of
-below_final b is_head = grind (arith, nat_tests)
+head_byte_below_40 b is_head = grind (arith, nat_tests)
 
 -- ---- keys
 
@@ -57,9 +57,9 @@ unfolding sequence_kind
 other_key b no_bracket no_device_control no_command =
     simp (ne_eqb b 0x5b no_bracket, ne_eqb b 0x50 no_device_control, ne_eqb b 0x5d no_command)
 
-pub below_finals : (b : ℕ) → b < 0x40 → sequence_kind b ≡ EscapeSequence
+pub below_40_is_escape_sequence : (b : ℕ) → b < 0x40 → sequence_kind b ≡ EscapeSequence
 unfolding sequence_kind
-below_finals b below = search (rules, arith)
+below_40_is_escape_sequence b below = search (rules, arith)
 
 -- ---- texts of bytes of the same classes join
 

@@ -1,7 +1,7 @@
 -- `Steps` holds for every reachable place and every byte (`steps`): by cases of the place and of the byte's class, each
 -- by a lemma of `PlaceLeads`.
 use Rattle.vte_core.proofs.Common.{AreBrief, arith, AtEscape, bell, breaks, Cancel, cases_Bool, Class, class_of, closing_events_at, Delete, dispatches_escape, ends_sequence, eqb, escape, EscapeSequence, Event, Execute, false, false≢true, Final, head_of, High, InControlSequence, InDeviceControl, InDeviceData, InEscape, InIgnoredString, inl, inr, InSystemCommand, Intermediate, InText, is_head_byte, is_well_shaped, kept_items, Leads, List, nat_tests, None, open_at, open_data_count, Option, pieces_of, Place, PlainControl, refl, rules, sequence_event, sequence_kind, SequenceKind, sym, to_close_at, true, ℕ, [], ◌++◌, ◌+◌, ◌<◌, ◌∙◌, ◌∷◌, ◌≡◌, ◌≤◌}
-use Rattle.vte_core.proofs.lemmas.bytes.Classes.{below_finals, ends_not_cancel, is_dropped, is_dropped_in_head, Spans, spans}
+use Rattle.vte_core.proofs.lemmas.bytes.Classes.{below_40_is_escape_sequence, ends_not_cancel, is_dropped, is_dropped_in_head, Spans, spans}
 use Rattle.vte_core.proofs.lemmas.fields.Pieces.{few_pieces, pieces_push, some_pieces}
 use Rattle.vte_core.proofs.lemmas.fields.PlaceOfState.{IsReachable}
 use Rattle.vte_core.proofs.lemmas.places.BytesInStream.{bytes_lead-byte, bytes_lead-escape, cancel_is_no_escape, no_escape}
@@ -103,7 +103,7 @@ step-at_escape is_no_escape (control is_control) =
 step-at_escape is_no_escape (intermediate is_intermediate) =
     step-silent is_no_escape (tt, tt) (escape-intermediate is_intermediate)
 step-at_escape {b} is_no_escape (parameter low high _ ends) =
-    step-leaving_nothing is_no_escape (tt, tt) (escape-end refl ends (below_finals b high))
+    step-leaving_nothing is_no_escape (tt, tt) (escape-end refl ends (below_40_is_escape_sequence b high))
     (λ _ _. (omega arith, low, omega arith)) (λ _. tt)
 step-at_escape is_no_escape (final is_final) = step-at_escape_final is_no_escape is_final refl
 step-at_escape is_no_escape (dropped is_dropped_class) =

@@ -14,7 +14,7 @@ use Rattle.vte_core.proofs.lemmas.streams.After.{added-after, added-leads, after
 use Rattle.vte_core.proofs.lemmas.streams.StreamSteps.{counts_data}
 use Rattle.vte_core.specs.declared.parser.open.Open.TheVariants as kind
 use Rattle.vte_core.specs.declared.utf8.Unfinished.TheVariants.{Empty}
-use Rattle.vte_core.specs.Open.{kind_to_close, open_at_end}
+use Rattle.vte_core.specs.Open.{open_at_end, open_of}
 use Rattle.vte_core.specs.private.AtPlace.{open_in}
 use Rattle.vte_core.specs.Stream.{IsFinished, IsUnfinished}
 
@@ -62,7 +62,7 @@ probe-not_alone {place = InText (c ∷ u)} {b} probe is_reachable is_after other
     search (rules, arith, probe-in_character)
 probe-not_alone {place = AtEscape} probe is_reachable is_after other = λ alone.
     let same = sym alone ∙ probe-gives probe is_after (escape-end probe.class refl probe.key) refl in cc
-probe-not_alone {place = InEscape ints} probe is_reachable is_after other = λ alone.
+probe-not_alone {place = InEscape intermediates} probe is_reachable is_after other = λ alone.
     let same = sym alone ∙ probe-gives probe is_after (intermediate-end probe.class refl) refl in cc
 probe-not_alone {place = InControlSequence head} probe is_reachable is_after other = λ alone.
     let same = sym alone ∙ probe-gives probe is_after (control-head (rw probe.class refl)) tt in cc
@@ -78,7 +78,7 @@ probe-not_alone {place = InIgnoredString} probe is_reachable is_after other = λ
 -- ---- what is open in the state is open at the place, and at the end of the stream
 
 open_in-place : {B : Type 0} (limit : Option ℕ) (state : State) (parser : Machine B) (place : Place)
-    → IsPlaceOfState limit state parser place → open_in state ≡ kind_to_close (to_close_at limit place)
+    → IsPlaceOfState limit state parser place → open_in state ≡ open_of (to_close_at limit place)
 open_in-place limit state parser place fields = search (rules, arith)
 
 pub which_is_open : {B : Type 0} {limit : Option ℕ} {stream : List ℕ} {parser : Machine B}

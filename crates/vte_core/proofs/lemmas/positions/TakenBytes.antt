@@ -79,10 +79,11 @@ module _ {V B : Type 0} {step : V → Event → V} {old new : V} {limit : Option
   takes-at_escape takes _ fields = absurd fields
 
   pub takes-in_escape :
-      ((ints : List ℕ) → HoldsIntermediates parser.collected ints → TakesByte step old new limit (InEscape ints) b next)
+      ((intermediates : List ℕ) → HoldsIntermediates parser.collected intermediates
+      → TakesByte step old new limit (InEscape intermediates) b next)
       → (place : Place) → IsPlaceOfState limit EscapeIntermediate parser place
       → TakesByte step old new limit place b next
-  takes-in_escape takes (InEscape ints) fields = takes ints fields
+  takes-in_escape takes (InEscape intermediates) fields = takes intermediates fields
   takes-in_escape takes _ fields = absurd fields
 
   pub takes-in_data : TakesByte step old new limit InDeviceData b next → (place : Place)

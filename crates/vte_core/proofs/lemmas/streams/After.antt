@@ -9,7 +9,7 @@ use Rattle.vte_core.proofs.lemmas.fields.PlaceOfState.{events_from-nothing, IsRe
 use Rattle.vte_core.proofs.lemmas.places.BytesInStream.{bytes_lead-byte, events-after_nothing, outcome_from-escape, waits-byte}
 use Rattle.vte_core.proofs.lemmas.shapes.FirstSegment.{text_outcome-broken}
 use Rattle.vte_core.proofs.lemmas.shapes.Outcomes.{report-append}
-use Rattle.vte_core.specs.Open.{kind_to_close, open_at_end}
+use Rattle.vte_core.specs.Open.{open_at_end, open_of}
 
 -- ---- from a byte to bytes, and from a place to what a parser has read
 
@@ -125,9 +125,9 @@ unfolding open_character
 open_bytes-any limit stream = view-any open_bytes (λ _ _ _ _. refl) limit stream
 
 pub open_at_end-any : (limit : Option ℕ) (stream : List ℕ)
-    → kind_to_close (outcome limit stream).to_close ≡ open_at_end stream
+    → open_of (outcome limit stream).to_close ≡ open_at_end stream
 unfolding open_at_end
-open_at_end-any limit stream = view-any kind_to_close (λ _ _ _ _. refl) limit stream
+open_at_end-any limit stream = view-any open_of (λ _ _ _ _. refl) limit stream
 
 -- ---- what further bytes add, from the place after the stream
 

@@ -14,7 +14,7 @@ use Rattle.vte_core.specs.DeviceControl.{device_control_rest, device_data_rest}
 use Rattle.vte_core.specs.Escape.{escape_rest}
 use Rattle.vte_core.specs.IgnoredString.{ignored_string_outcome, ignored_string_rest}
 use Rattle.vte_core.specs.Laws.{OpensLate}
-use Rattle.vte_core.specs.Open.{kind_to_close, open_at_end}
+use Rattle.vte_core.specs.Open.{open_at_end, open_of}
 use Rattle.vte_core.specs.SequenceKind.{ControlSequence, DeviceControl, IgnoredString, SystemCommand}
 
 -- ---- some bytes are the last of others (`Ends`)
@@ -163,8 +163,8 @@ opens-escape stream more = search (rules, arith, cut-append, to_close-last)
 -- ---- without an ESC nothing is open, or a character
 
 kind-segments : (parts : List (List ℕ))
-    → (kind_to_close (segments_outcome parts).to_close ≡ kind.Nothing)
-    ⊎ (kind_to_close (segments_outcome parts).to_close ≡ kind.Character)
+    → (open_of (segments_outcome parts).to_close ≡ kind.Nothing)
+    ⊎ (open_of (segments_outcome parts).to_close ≡ kind.Character)
 kind-segments [] = inl refl
 kind-segments (part ∷ []) = search (rules, arith)
 kind-segments (part ∷ next ∷ parts) = kind-segments (next ∷ parts)

@@ -1,5 +1,6 @@
 // Written by tools/erase from crates/vte_core/src/parser.rt: edit that one.
-//! The parser with a limit, and what it is made of. The calls that read are in `reader/advance`.
+//! The parser with a limit, and what it is made of. The calls that read are in `reader/advance`,
+//! because only `reader` may have their bytes.
 
 mod character;
 mod control_sequence;

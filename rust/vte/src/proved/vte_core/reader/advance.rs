@@ -39,6 +39,7 @@ impl<const OSC_RAW_BUF_SIZE: usize> Parser<OSC_RAW_BUF_SIZE> {
     /// Reads bytes as [`advance_until_terminated`](Self::advance_until_terminated) does, and passes
     /// characters to print in [runs](crate::PerformText). No character of a run may terminate the
     /// performer, which isn't asked inside a run.
+    #[must_use = "the bytes after the stop are still to be read"]
     #[cfg(any(feature = "__own", feature = "ansi"))]
     pub(crate) fn advance_text_until_terminated<P: PerformText + ?Sized>(
         &mut self,

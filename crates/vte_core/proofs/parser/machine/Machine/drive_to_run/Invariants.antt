@@ -1,4 +1,4 @@
--- As for `drive`; and what is reported so far is reported by no run.
+-- As for `drive_loop`; and what is reported so far is reported by no run.
 use Rattle.vte_core.proofs.Common.{caller_looks, chunk_call, ChunkCall, HasReadWithLimit, IsAtPosition, IsSettled, length, List, lookahead, Machine, per_byte, ReportsOutsideRuns, SpendsWithin, true, ℕ, ◌-◌, ◌<◌}
 use Rattle.vte_core.proofs.parser.machine.Machine.drive_to_run.Given as goal
 

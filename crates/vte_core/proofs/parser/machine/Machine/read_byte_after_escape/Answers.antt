@@ -1,7 +1,7 @@
 -- The byte after ESC by its class: a key, an intermediate, another byte that dispatches, a control, or one that is
 -- dropped. In each case the state is that of the place to which the byte leads.
 use Rattle.vte_core.proofs.Common.{arith, class_of, refl, rules, sym, [], ◌∙◌}
-use Rattle.vte_core.proofs.lemmas.bytes.Classes.{below_final, below_finals, class-control, class-intermediate, final_ends_nothing, head_ends_nothing, other_dispatches}
+use Rattle.vte_core.proofs.lemmas.bytes.Classes.{below_40_is_escape_sequence, class-control, class-intermediate, final_ends_nothing, head_byte_below_40, head_ends_nothing, other_dispatches}
 use Rattle.vte_core.proofs.lemmas.fields.PlaceOfState.{is_at-by, is_at-text_begun}
 use Rattle.vte_core.proofs.lemmas.places.PlaceLeads.{byte-executed, escape-end, escape-intermediate}
 use Rattle.vte_core.proofs.lemmas.positions.EscapeStretches.{takes_bytes-dropped}
@@ -36,7 +36,7 @@ returns-then-is_head_byte-clause-takes g c =
     (λ holds. takes-byte
     (rw (holds.kept, holds.too_many_intermediates) at dispatched.reports.value)
     (is_at-text_begun dispatched.in_text)
-    (escape-end refl ends (below_finals b (below_final b head)))))
+    (escape-end refl ends (below_40_is_escape_sequence b (head_byte_below_40 b head)))))
 
 -- A control is executed; the place stays after ESC.
 pub returns-then-is_plain_control-clause-takes : goal.returns-then-is_plain_control-clause-takes

@@ -30,8 +30,8 @@ loop-position-preserved g c =
             (advances-given tt (advances-in invariant.in_state
             (omega arith) c.byte_at-byte.ensures.value invariant.may_go_on
             (rw is_intermediate refl)
-            (takes-in_escape parser (λ ints holds. takes-byte refl
-            (is_at-by invariant.in_state (branch.collect_intermediate.ensures.holds ints holds))
+            (takes-in_escape parser (λ intermediates holds. takes-byte refl
+            (is_at-by invariant.in_state (branch.collect_intermediate.ensures.holds intermediates holds))
             (intermediate-more is_intermediate)))
             (settled-same_state invariant.in_state tt)))
         -- A byte that is dropped.
@@ -45,7 +45,7 @@ loop-position-preserved g c =
             (advances-given tt (advances-in invariant.in_state
             (omega arith) c.byte_at-byte.ensures.value invariant.may_go_on ordinary
             (takes-in_escape parser
-            (λ ints holds.
+            (λ intermediates holds.
             takes-byte refl (is_at-by invariant.in_state holds)
             (byte-dropped refl refl dropped))) (settled-same_state invariant.in_state tt)))
       ]);
@@ -71,7 +71,7 @@ returns-then-dispatches_escape-clause-advances g c =
     (advances-in invariant.in_state (omega arith) c.byte_at-byte.ensures.value invariant.may_go_on
     (dispatch_ends_nothing (class_of b) ends)
     (takes-in_escape c.loop-position.self
-    (λ ints holds. takes-byte
+    (λ intermediates holds. takes-byte
     (rw (holds.kept, holds.too_many_intermediates) at dispatched.reports.value) (is_at-text_begun dispatched.in_text)
     (intermediate-end refl ends))) (settled-same_state dispatched.in_text tt)))
 
@@ -95,5 +95,5 @@ returns-then-is_plain_control-clause-advances g c =
     (advances-given tt (advances-in invariant.in_state (omega arith) c.byte_at-byte.ensures.value invariant.may_go_on
     (rw is_control refl)
     (takes-in_escape c.loop-position.self
-    (λ ints holds. takes-byte c.execute_control.ensures.value (is_at-by invariant.in_state holds)
+    (λ intermediates holds. takes-byte c.execute_control.ensures.value (is_at-by invariant.in_state holds)
     (byte-executed refl is_control))) (settled-same_state invariant.in_state tt)))

@@ -1,5 +1,5 @@
--- As for `drive_loop`, a stretch at a time. A run is found in a text or in data, and is returned unread: the bytes before
--- it have reported nothing of a run (`reports-more`).
+-- As for `drive_loop`, a stretch at a time. A run is found in a text or in data, and is returned unread: the bytes
+-- before it have reported nothing of a run (`reports-more`).
 use Rattle.vte_core.proofs.Common.{Advances, ap, arith, ChunkCall, Err, err_from_is_err_and, Machine, rules, sym, ℕ, ◌∙◌}
 use Rattle.vte_core.proofs.lemmas.positions.AddedEvents.{reports-more}
 use Rattle.vte_core.proofs.lemmas.positions.ToRun.{comes-nowhere, comes-to_run, has-data, has-text, outside-text_and_data, settled-text}

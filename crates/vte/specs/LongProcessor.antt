@@ -45,9 +45,9 @@ pub record Reserves {T W : Type 0} (processor next : ProcessorFacts T W) (more :
       → ¬ next.has_memory stream (length next.held + more)
 
 -- How many bytes a call read.
-abbrev pub bytes_read : Result (Unit {0}) Refused → List ℕ → ℕ
-bytes_read (Ok _) bytes = length bytes
-bytes_read (Err refused) bytes = refused.read
+abbrev pub count_read : Result (Unit {0}) Refused → List ℕ → ℕ
+count_read (Ok _) bytes = length bytes
+count_read (Err refused) bytes = refused.read
 
 -- `advance` and `advance_text` led from `processor` to `next`, and the handler's value from `old`
 -- to `new`.
@@ -56,7 +56,7 @@ module _ {T V W : Type 0} (meaning : Meaning V W) (processor next : ProcessorFac
   pub record AdvancesUntilRefused : Type 0 where
     -- The bytes read are those that the first turns of the call read.
     pub takes : (state : State V W) → IsAt processor old state
-        → HasAdvancedPart meaning state bytes (bytes_read result bytes) (IsAt next new)
+        → HasAdvancedPart meaning state bytes (count_read result bytes) (IsAt next new)
     -- A refused call left some bytes, and there is no memory for these.
     pub within : IfErr result (λ refused. refused.read < length bytes)
     pub lacks_memory : IfErr result

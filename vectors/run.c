@@ -20,11 +20,25 @@ typedef struct {
 static Text row, wanted, got, shown, stream;
 static char id[200];
 
+static void fail(const char *message) {
+    fprintf(stderr, "%s\n", message);
+    exit(2);
+}
+
+// Makes room for more characters, and a NUL.
+static void reserve(Text *to, size_t more) {
+    while (to->length + more + 1 > to->room) {
+        to->room = 2 * to->room + 99;
+        to->text = realloc(to->text, to->room);
+        if (to->text == NULL) fail("no memory");
+    }
+}
+
 static void add(Text *to, const char *text, size_t length) {
-    while (to->length + length + 1 > to->room)
-        to->text = realloc(to->text, to->room = 2 * to->room + 99);
+    reserve(to, length);
     memcpy(to->text + to->length, text, length);
-    to->text[to->length += length] = 0;
+    to->length += length;
+    to->text[to->length] = 0;
 }
 
 void event(const char *line) {
@@ -32,32 +46,52 @@ void event(const char *line) {
     add(&got, "\n", 1);
 }
 
-// Appends what a value stands for: a text, to which an end is added, a list of values, or a
-// repetition.
-static const char *write_out(Text *to, const char *at, const char *end) {
+// Each appends a value of events.json, with an end after each text, and returns what follows it.
+static const char *write_value(Text *to, const char *at, const char *end);
+
+// "..", whose only escape is \n
+static const char *write_text(Text *to, const char *at, const char *end) {
+    for (at++; *at != '"'; at++) {
+        add(to, *at == '\\' ? "\n" : at, 1);
+        if (*at == '\\') at++;
+    }
+    add(to, end, strlen(end));
+    return at + 1;
+}
+
+// [VALUE, ..]
+static const char *write_list(Text *to, const char *at, const char *end) {
+    for (at++; *at != ']';) at = write_value(to, at, end);
+    return at + 1;
+}
+
+// {"line": VALUE}, from VALUE on: the texts in it are one text
+static const char *write_line(Text *to, const char *at, const char *end) {
+    at = write_value(to, at, "");
+    add(to, end, strlen(end));
+    return at + 1;
+}
+
+// {"repeat": VALUE, "times": NUMBER}, from VALUE on
+static const char *write_repeated(Text *to, const char *at, const char *end) {
+    size_t start = to->length;
+    at = write_value(to, at, end);
+    size_t length = to->length - start;
+    char *after_number;
+    long times = strtol(strchr(at, ':') + 1, &after_number, 10);
+    reserve(to, length * (size_t)times); // so that `add` doesn't move the text
+    while (--times > 0) add(to, to->text + start, length);
+    return after_number + 1;
+}
+
+static const char *write_value(Text *to, const char *at, const char *end) {
+    static const char line[] = "{\"line\": ", repeat[] = "{\"repeat\": ";
     at += strspn(at, " ,");
-    if (*at == '[') {
-        for (at++; *at != ']';) at = write_out(to, at, end);
-        return at + 1;
-    }
-    if (*at == '"') {
-        for (at++; *at != '"'; at++) add(to, *at == '\\' ? "\n" : at, 1), at += *at == '\\';
-        add(to, end, strlen(end));
-        return at + 1;
-    }
-    if (at[2] == 'l') {
-        at = write_out(to, at + strlen("{\"line\": "), "") + 1;
-        add(to, end, strlen(end));
-        return at;
-    }
-    size_t before = to->length;
-    at = write_out(to, at + strlen("{\"repeat\": "), end);
-    size_t length = to->length - before;
-    char *once = memcpy(malloc(length + 1), to->text + before, length), *after;
-    for (long times = strtol(strchr(at, ':') + 1, &after, 10); times > 1; times--)
-        add(to, once, length);
-    free(once);
-    return after + 1;
+    if (*at == '"') return write_text(to, at, end);
+    if (*at == '[') return write_list(to, at, end);
+    if (strncmp(at, line, strlen(line)) == 0) return write_line(to, at + strlen(line), end);
+    if (strncmp(at, repeat, strlen(repeat)) != 0) fail("this isn't events.json");
+    return write_repeated(to, at + strlen(repeat), end);
 }
 
 static void give(size_t from, size_t to) {
@@ -76,7 +110,7 @@ static int answers(const char *chunk, int way) {
     for (stream.length = got.length = shown.length = 0, chunk++; *chunk != ']';) {
         size_t before = stream.length;
         hex.length = 0;
-        chunk = write_out(&hex, chunk, "");
+        chunk = write_value(&hex, chunk, "");
         for (size_t i = 0; i < hex.length; i += 2) {
             unsigned byte;
             sscanf(hex.text + i, "%2x", &byte);
@@ -124,7 +158,7 @@ int main(int count, char **words) {
         }
         if (left_out) continue;
         wanted.length = 0;
-        write_out(&wanted, strstr(limit, "\"events\": ") + strlen("\"events\": "), "\n");
+        write_value(&wanted, strstr(limit, "\"events\": ") + strlen("\"events\": "), "\n");
         tried++;
         for (int way = 0; way < 3; way++) {
             if (answers(strchr(limit, '['), way)) continue;

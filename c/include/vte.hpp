@@ -31,7 +31,7 @@
 
 namespace vte {
 
-// Memory was refused to a call, which read so many of its bytes. The rest can be passed again.
+// Memory was refused to a call, which read `read` of its bytes. The rest can be passed again.
 class Refused : public std::bad_alloc {
 public:
     size_t read;

@@ -62,7 +62,7 @@ def make_parsers(library):
 
 
 class Processor:
-    """A processor that notes the names of its calls, of a table with so many bytes, which has
+    """A processor that notes the names of its calls, of a table with `size` bytes, which has
     functions after these, too."""
 
     def __init__(self, library, size=SIZE_OF_TABLE):

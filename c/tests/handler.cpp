@@ -84,7 +84,7 @@ struct Texts : vte::Handler {
     }
 };
 
-// Passes a stream, of which memory is refused after so many allocations, and then the rest.
+// Passes a stream, of which memory is refused after `allocations`, and then the rest.
 static std::string passed(const std::string &stream, long allocations, bool &is_refused) {
     Texts texts;
     vte::Processor processor(texts);

@@ -10,7 +10,7 @@ NEEDED = {"rt": {"memcpy", "memmove", "memset"},
           "cargo": {"abort", "clock_gettime", "free", "malloc", "memchr", "memcpy", "memmove",
                     "memrchr", "memset", "realloc"}}
 # what is in the names of Rust's functions that panic, and of those for an index, which rustc checks
-# where it can't see the proof, and the handler that they call
+# if it can't see the proof, and the handler that they call
 OF_PANICS = re.compile(r"panic|begin_unwind|_fail\b|_failed|unwrap|expect")
 OF_INDICES = re.compile(r"panicking\d+panic_(bounds_check|fmt|nounwind_fmt)|slice_\w*index\w*_fail|"
                         r"len_mismatch_fail|rust_begin_unwind")

@@ -62,7 +62,7 @@ def assert_slow(words, chunks):
 
 
 def read_soon(stream, count):
-    """Reads so many bytes, or fewer if none come for minutes, as a busy machine is slow."""
+    """Reads `count` bytes, or fewer if none come for minutes, as a busy machine is slow."""
     read, more = b"", True
     while more and len(read) < count and select.select([stream], [], [], 300)[0]:
         more = os.read(stream.fileno(), count - len(read))

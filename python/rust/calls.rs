@@ -23,7 +23,7 @@ macro_rules! classes {
                 match call {
                     HandlerCall::Input(c) => self.take_text(c.encode_utf8(&mut [0; 4])),
                     $(HandlerCall::$call$(($($argument),+))? => {
-                        self.begin(Kind::$call)$($(.with($argument))+)?;
+                        self.begin(Kind::$call)$($(.add_field($argument))+)?;
                     })+
                 }
             }
@@ -60,7 +60,7 @@ impl TakeText for Tape {
 }
 
 fields! {
-    Kind: kind => Value::of(Tag::Object, kind, 0);
+    Kind: kind => Value::with_class(Tag::Object, kind, 0);
     // the letter of a clipboard
     u8: byte => char::from(byte);
     u16: number => Value::new(Tag::Number, number.into());
@@ -79,7 +79,7 @@ fields! {
 /// Says for enumerations of which classes their members are, which have numbers.
 macro_rules! members {
     ($($type:ident $kind:ident;)+) => {
-        fields! { $($type: member => Value::of(Tag::Member, Kind::$kind, member as i64);)+ }
+        fields! { $($type: member => Value::with_class(Tag::Member, Kind::$kind, member as i64);)+ }
     };
 }
 
@@ -112,7 +112,7 @@ macro_rules! attributes {
                     Attr::Background(color) => (Number::Background, Some(color)),
                     Attr::UnderlineColor(color) => (Number::UnderlineColor, color),
                 };
-                tape.with(number).with(color);
+                tape.add_field(number).add_field(color);
             }
         }
     };

@@ -1,7 +1,7 @@
 //! The events of a stream.
 
 use crate::calls::Kind;
-use crate::maker::classes;
+use crate::maker::look_up_classes;
 use crate::tape::{fields, Field, Tag, Tape, Tuple, Value};
 use pyo3::exceptions::PyTypeError;
 use pyo3::prelude::*;
@@ -13,14 +13,14 @@ pub type Kinds = u16;
 pub const ALL: Kinds = (1 << Kind::Data as u16) - 1;
 const COMMANDS: Kinds = 1 << Kind::Osc as u16;
 
-pub fn has(kinds: Kinds, kind: Kind) -> bool {
+pub fn has_kind(kinds: Kinds, kind: Kind) -> bool {
     kinds >> kind as u16 & 1 == 1
 }
 
 /// Those that an iterable over classes names, or a class alone.
 pub fn kinds_of(kinds: &Bound<'_, PyAny>) -> PyResult<Kinds> {
-    let events = &classes(kinds.py())?[..=Kind::Data as usize];
-    let index_of = |kind: &Bound<'_, PyAny>| events.iter().position(|class| class.is(kind));
+    let events = &look_up_classes(kinds.py())?[..=Kind::Data as usize];
+    let index_of = |kind: &Bound<'_, PyAny>| events.iter().position(|class| class.is_same(kind));
     if let Some(index) = index_of(kinds) {
         return Ok(1 << index);
     }
@@ -36,7 +36,7 @@ pub fn kinds_of(kinds: &Bound<'_, PyAny>) -> PyResult<Kinds> {
 }
 
 /// Records events of some types. It is terminated after those of the types that stop a call, and
-/// where something else is to be done: after a command, and, if only commands are wanted, after
+/// when something else is to be done: after a command, and, if only commands are wanted, after
 /// each event, because what follows may be skipped.
 #[derive(Default)]
 pub struct Recorder {
@@ -59,7 +59,7 @@ impl Recorder {
             self.go_on();
         }
         (self.kinds, self.stops) = (kinds, stops);
-        self.pauses = [stops | COMMANDS, ALL][usize::from(self.only_commands())];
+        self.pauses = [stops | COMMANDS, ALL][usize::from(self.wants_only_commands())];
     }
 
     pub fn go_on(&mut self) {
@@ -71,7 +71,7 @@ impl Recorder {
     }
 
     /// Whether nothing but commands is wanted, and nothing else stops a call.
-    pub fn only_commands(&self) -> bool {
+    pub fn wants_only_commands(&self) -> bool {
         self.kinds == COMMANDS && self.stops & !COMMANDS == 0
     }
 
@@ -87,13 +87,13 @@ impl Recorder {
     fn begin(&mut self, kind: Kind) -> Option<&mut Tape> {
         self.seen |= 1 << kind as u16;
         self.tape.end_run();
-        has(self.kinds, kind).then_some(&mut self.tape)
+        has_kind(self.kinds, kind).then_some(&mut self.tape)
     }
 
     #[inline]
     fn add(&mut self, kind: Kind, number: u8) {
         if let Some(tape) = self.begin(kind) {
-            tape.add(Value::of(Tag::Member, kind, number.into()));
+            tape.add(Value::with_class(Tag::Member, kind, number.into()));
         }
     }
 }
@@ -152,9 +152,9 @@ impl Perform for Recorder {
     fn osc_dispatch(&mut self, pieces: &[&[u8]], bell_terminated: bool) {
         if let Some(tape) = self.begin(Kind::Osc) {
             tape.begin(Kind::Osc)
-                .with(pieces)
-                .with(bell_terminated)
-                .with(false);
+                .add_field(pieces)
+                .add_field(bell_terminated)
+                .add_field(false);
             self.truncated = Some(tape.count() - 1);
         }
     }
@@ -166,14 +166,14 @@ impl Perform for Recorder {
 
 impl PerformText for Recorder {
     fn print_text(&mut self, text: &str) {
-        match has(self.kinds, Kind::Text) {
+        match has_kind(self.kinds, Kind::Text) {
             true => self.tape.add_run(Kind::Text, text.as_bytes()),
             false => self.tape.end_run(),
         }
     }
 
     fn put_slice(&mut self, data: &[u8]) {
-        match has(self.kinds, Kind::Data) {
+        match has_kind(self.kinds, Kind::Data) {
             true => self.tape.add_run(Kind::Data, data),
             false => data.iter().for_each(|byte| self.put(*byte)),
         }

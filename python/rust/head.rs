@@ -37,7 +37,7 @@ impl Head {
     const FINAL_BYTE: u32 = 25;
 
     #[inline]
-    pub fn packed(&self) -> i64 {
+    pub fn pack(&self) -> i64 {
         let [first, second] = self.intermediates;
         self.count as i64
             | (self.intermediate_count as i64) << Self::INTERMEDIATE_COUNT
@@ -52,7 +52,7 @@ impl Head {
         (self.count + NUMBERS_PER_VALUE - 1) / NUMBERS_PER_VALUE
     }
 
-    pub fn unpacked(field: i64) -> Self {
+    pub fn unpack(field: i64) -> Self {
         let byte_at = |bit: u32| (field >> bit) as u8;
         Head {
             count: (field & 63) as usize,

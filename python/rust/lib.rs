@@ -23,9 +23,9 @@ use pyo3::prelude::*;
 #[pymodule]
 fn _vte(module: &Bound<'_, PyModule>) -> PyResult<()> {
     // what is looked up now needs no memory later
-    maker::classes(module.py())?;
-    processor::monotonic(module.py())?;
-    refusal::class(module.py())?;
+    maker::look_up_classes(module.py())?;
+    processor::look_up_monotonic(module.py())?;
+    refusal::look_up_class(module.py())?;
     module.add_class::<parser::Parser>()?;
     module.add_class::<processor::Processor>()?;
     module.add_class::<strip::Stripper>()?;

@@ -3,21 +3,22 @@
 use crate::calls::{Kind, NAMES};
 use crate::head::Head;
 use crate::objects::{
-    bytes, integer, part, short_text, text, tuple, whole, Class, MaybeObject, ShortText,
+    make_ascii_text, make_bytes, make_integer, make_short_text, make_substring, make_text,
+    make_tuple, Class, MaybeObject, ShortText,
 };
-use crate::tape::{Tag, Value, NUMBERS_PER_VALUE, NUMBER_BITS, TAG_BITS};
+use crate::tape::{Tag, Value, NUMBERS_PER_VALUE, NUMBER_BITS, NUMBER_START};
 use pyo3::prelude::*;
 use pyo3::sync::{GILOnceCell, GILProtected};
 use std::cell::Cell;
 
 /// The classes of objects, by their kinds.
-pub fn classes(py: Python<'_>) -> PyResult<&'static [Class]> {
+pub fn look_up_classes(py: Python<'_>) -> PyResult<&'static [Class]> {
     static CLASSES: GILOnceCell<Vec<Class>> = GILOnceCell::new();
     let classes = CLASSES.get_or_try_init(py, || {
         let events = py.import_bound("vte._events")?;
         let calls = py.import_bound("vte.calls")?;
         let class = |name| events.getattr(name).or_else(|_| calls.getattr(name));
-        let classes = NAMES.iter().map(|name| Class::of(class(*name)?));
+        let classes = NAMES.iter().map(|name| Class::new(class(*name)?));
         classes.collect::<PyResult<_>>()
     });
     classes.map(Vec::as_slice)
@@ -69,14 +70,14 @@ impl<const N: usize> CacheTable<N> {
 
     /// The slot of a key.
     #[inline(always)]
-    fn of(&mut self, key: &[u64; N]) -> &mut CacheSlot<N> {
+    fn find_slot(&mut self, key: &[u64; N]) -> &mut CacheSlot<N> {
         let mix = |hash: u64, word: &u64| (hash.rotate_left(5) ^ word).wrapping_mul(FACTOR);
         let index = key.iter().fold(0, mix) >> (u64::BITS - Self::COUNT_BITS);
         self.slots.get_mut(index as usize).unwrap_or(&mut self.last)
     }
 }
 
-/// The content of a run that is cached has at most so many bytes: those of a word of a key.
+/// How many bytes of content a run has at most that is cached: those of a word of a key.
 const SHORT: i64 = u64::BITS as i64 / 8;
 /// What a key's hash is multiplied by at each word, so that all words decide the highest bits: the
 /// odd number next to 2^64 / π.
@@ -95,7 +96,7 @@ pub struct ObjectCache {
 static OBJECT_CACHE: GILProtected<Cell<Option<ObjectCache>>> = GILProtected::new(Cell::new(None));
 
 impl ObjectCache {
-    pub fn taken(py: Python<'_>) -> Self {
+    pub fn take(py: Python<'_>) -> Self {
         let mut cache = OBJECT_CACHE.get(py).take().unwrap_or(ObjectCache {
             small: CacheTable::NONE,
             large: CacheTable::NONE,
@@ -124,8 +125,8 @@ pub struct Maker<'a, 'py> {
 
 impl<'a, 'py> Maker<'a, 'py> {
     pub fn new(py: Python<'py>, values: &'a [Value], content: &'a [u8]) -> PyResult<Self> {
-        let classes = classes(py)?;
-        let (whole, length) = (whole(py, content), content.len());
+        let classes = look_up_classes(py)?;
+        let (whole, length) = (make_ascii_text(py, content), content.len());
         Ok(Maker {
             py,
             classes,
@@ -137,7 +138,7 @@ impl<'a, 'py> Maker<'a, 'py> {
     }
 
     /// How many values and bytes of content are left.
-    pub fn left(&self) -> (usize, usize) {
+    pub fn count_left(&self) -> (usize, usize) {
         (self.values.len(), self.content.len())
     }
 
@@ -146,10 +147,10 @@ impl<'a, 'py> Maker<'a, 'py> {
     pub fn make(&mut self, cache: &mut ObjectCache) -> Option<MaybeObject> {
         let (values, content) = (self.values, self.content);
         let first = *values.first()?;
-        let made = if first.is(Tag::Run) {
-            self.run(first, cache)
+        let made = if first.has_tag(Tag::Run) {
+            self.find_or_make_run(first, cache)
         } else {
-            self.object(cache)
+            self.find_or_make_object(cache)
         };
         if made.is_none() {
             (self.values, self.content) = (values, content);
@@ -159,28 +160,28 @@ impl<'a, 'py> Maker<'a, 'py> {
 
     /// A text or data.
     #[inline(always)]
-    fn run(&mut self, first: Value, cache: &mut ObjectCache) -> MaybeObject {
-        let (py, (kind, length)) = (self.py, first.parts());
+    fn find_or_make_run(&mut self, first: Value, cache: &mut ObjectCache) -> MaybeObject {
+        let (py, (kind, length)) = (self.py, first.class_and_field());
         self.values = &self.values[1..];
         if length > SHORT {
-            return self.new_run(kind, length as usize);
+            return self.make_run(kind, length as usize);
         }
         let bytes = self.content[..length as usize].iter();
         let content = bytes.fold(0, |all, byte| all << 8 | u64::from(*byte));
         let key = [first.0 as u64, content, 0];
-        let slot = cache.small.of(&key);
+        let slot = cache.small.find_slot(&key);
         if let Some(object) = slot.get(py, &key) {
-            self.content(length as usize);
+            self.take_content(length as usize);
             return Some(object);
         }
-        let object = self.new_run(kind, length as usize)?;
+        let object = self.make_run(kind, length as usize)?;
         slot.keep(py, key, &object);
         Some(object)
     }
 
     /// An object of the values up to the next first one.
     #[inline(always)]
-    fn object(&mut self, cache: &mut ObjectCache) -> MaybeObject {
+    fn find_or_make_object(&mut self, cache: &mut ObjectCache) -> MaybeObject {
         let others = self.values[1..]
             .iter()
             .take_while(|value| !value.is_first());
@@ -195,28 +196,28 @@ impl<'a, 'py> Maker<'a, 'py> {
                 for (index, word) in key[..count].iter_mut().enumerate() {
                     *word = value(index);
                 }
-                return self.cached(key, count, &mut cache.large);
+                return self.find_or_make(key, count, &mut cache.large);
             }
-            _ => return self.next(),
+            _ => return self.make_next(),
         };
-        self.cached(small, count, &mut cache.small)
+        self.find_or_make(small, count, &mut cache.small)
     }
 
-    /// The object of a key, which so many values make.
+    /// The object of a key, which is made of `count` values.
     #[inline(always)]
-    fn cached<const N: usize>(
+    fn find_or_make<const N: usize>(
         &mut self,
         key: [u64; N],
         count: usize,
         table: &mut CacheTable<N>,
     ) -> MaybeObject {
-        let slot = table.of(&key);
+        let slot = table.find_slot(&key);
         if let Some(object) = slot.get(self.py, &key) {
             self.values = &self.values[count..];
             return Some(object);
         }
         let before = self.content.len();
-        let object = self.next()?;
+        let object = self.make_next()?;
         // other content makes other objects of these values
         if self.content.len() == before {
             slot.keep(self.py, key, &object);
@@ -224,82 +225,84 @@ impl<'a, 'py> Maker<'a, 'py> {
         Some(object)
     }
 
-    fn next(&mut self) -> MaybeObject {
+    fn make_next(&mut self) -> MaybeObject {
         let py = self.py;
         let value = self.values[0];
         self.values = &self.values[1..];
-        let ((tag, number), (kind, field)) = (value.number(), value.parts());
+        let ((tag, number), (kind, field)) = (value.tag_and_number(), value.class_and_field());
         match tag {
             Tag::Nothing => Some(py.None()),
             Tag::Flag => Some((number != 0).into_py(py)),
-            Tag::Letter => self.letter(char::from(number as u8)),
-            Tag::Text => text(py, self.content(number as usize)),
-            Tag::Data => bytes(py, self.content(number as usize)),
-            Tag::Tuple => tuple(py, number as usize, |_| self.next()),
-            Tag::Sequence => self.sequence(kind, Head::unpacked(field)),
-            Tag::Object => self.classes[kind].make(py, |_| self.next()),
-            Tag::Member => self.classes[kind].make(py, |_| integer(py, field)),
-            Tag::Run => self.new_run(kind, field as usize),
+            Tag::Letter => self.make_letter(char::from(number as u8)),
+            Tag::Text => make_text(py, self.take_content(number as usize)),
+            Tag::Data => make_bytes(py, self.take_content(number as usize)),
+            Tag::Tuple => make_tuple(py, number as usize, |_| self.make_next()),
+            Tag::Sequence => self.make_sequence(kind, Head::unpack(field)),
+            Tag::Object => self.classes[kind].make(py, |_| self.make_next()),
+            Tag::Member => self.classes[kind].make(py, |_| make_integer(py, field)),
+            Tag::Run => self.make_run(kind, field as usize),
             // those of a sequence are read with it
-            Tag::Number | Tag::Numbers => integer(py, number),
+            Tag::Number | Tag::Numbers => make_integer(py, number),
         }
     }
 
-    fn letter(&self, letter: char) -> MaybeObject {
-        text(self.py, letter.encode_utf8(&mut [0; 4]).as_bytes())
+    fn make_letter(&self, letter: char) -> MaybeObject {
+        make_text(self.py, letter.encode_utf8(&mut [0; 4]).as_bytes())
     }
 
     #[inline(always)]
-    fn new_run(&mut self, kind: usize, length: usize) -> MaybeObject {
+    fn make_run(&mut self, kind: usize, length: usize) -> MaybeObject {
         let (py, class, all) = (self.py, &self.classes[kind], self.content);
-        let content = self.content(length);
+        let content = self.take_content(length);
         if kind == Kind::Data as usize {
-            return class.make(py, |_| bytes(py, content));
+            return class.make(py, |_| make_bytes(py, content));
         }
         if let Some(whole) = &self.whole {
             let start = self.length - all.len();
-            return class.make(py, |_| part(py, whole, start, start + length));
+            return class.make(py, |_| make_substring(py, whole, start, start + length));
         }
-        match ShortText::of(content) {
-            Some(short) => class.make(py, |_| short_text(py, &short)),
-            None => class.make(py, |_| text(py, content)),
+        match ShortText::from_bytes(content) {
+            Some(short) => class.make(py, |_| make_short_text(py, &short)),
+            None => class.make(py, |_| make_text(py, content)),
         }
     }
 
-    fn sequence(&mut self, kind: usize, head: Head) -> MaybeObject {
+    fn make_sequence(&mut self, kind: usize, head: Head) -> MaybeObject {
         let (numbers, rest) = self.values.split_at(head.value_count());
         self.values = rest;
         let (py, has_groups) = (self.py, kind != Kind::Esc as usize);
         self.classes[kind].make(py, |index| match (index, has_groups) {
-            (0, true) => groups(py, numbers, head.count),
-            (1, true) | (0, false) => bytes(py, &head.intermediates[..head.intermediate_count]),
+            (0, true) => make_groups(py, numbers, head.count),
+            (1, true) | (0, false) => {
+                make_bytes(py, &head.intermediates[..head.intermediate_count])
+            }
             (2, true) | (1, false) => Some(head.ignore.into_py(py)),
-            _ => self.letter(head.final_byte),
+            _ => self.make_letter(head.final_byte),
         })
     }
 
-    fn content(&mut self, length: usize) -> &'a [u8] {
+    fn take_content(&mut self, length: usize) -> &'a [u8] {
         let (own, rest) = self.content.split_at(length);
         self.content = rest;
         own
     }
 }
 
-/// The tuples of so many numbers.
-fn groups(py: Python<'_>, values: &[Value], count: usize) -> MaybeObject {
+/// The tuples of `count` numbers.
+fn make_groups(py: Python<'_>, values: &[Value], count: usize) -> MaybeObject {
     // each number, and whether `:` is before it
     let number = |index: usize| {
-        let first = TAG_BITS + NUMBER_BITS * (index % NUMBERS_PER_VALUE) as u32;
+        let first = NUMBER_START + NUMBER_BITS * (index % NUMBERS_PER_VALUE) as u32;
         let bits = values[index / NUMBERS_PER_VALUE].0 >> first;
         (bits >> 1 & 0xFFFF, bits & 1 == 1)
     };
     let ends = |index: &usize| *index == count || !number(*index).1;
     let (groups, mut next) = ((0..count).filter(ends).count(), 0);
-    tuple(py, groups, |_| {
+    make_tuple(py, groups, |_| {
         let start = next;
         next = (start + 1..=count).find(ends).unwrap_or(count);
-        tuple(py, next - start, |index| {
-            integer(py, number(start + index).0)
+        make_tuple(py, next - start, |index| {
+            make_integer(py, number(start + index).0)
         })
     })
 }

@@ -9,7 +9,7 @@ use pyo3::types::{PyBytes, PyMemoryView, PyString, PyTuple, PyType};
 use pyo3::{ffi, prelude::*, PyClass, PyTypeInfo};
 use std::os::raw::c_char;
 
-/// A new object, or none if Python has an error, which `raised` takes.
+/// A new object, or none if Python has an error, which `fetch_error_unless` takes.
 pub type MaybeObject = Option<PyObject>;
 
 /// Calls a function of Python that returns a new reference, or null with an error. It gets objects,
@@ -21,7 +21,7 @@ macro_rules! new {
     };
 }
 
-pub fn raised(py: Python<'_>, made: MaybeObject) -> PyResult<PyObject> {
+pub fn fetch_error_unless(py: Python<'_>, made: MaybeObject) -> PyResult<PyObject> {
     made.ok_or_else(|| PyErr::fetch(py))
 }
 
@@ -38,23 +38,23 @@ pub fn run<T: Send>(py: Python<'_>, length: usize, read: impl FnOnce() -> T + Se
 }
 
 /// A text that ends in NUL, as C takes it.
-fn for_c(text: &'static str) -> *const c_char {
+fn as_c_text(text: &'static str) -> *const c_char {
     debug_assert!(text.ends_with('\0'));
     text.as_ptr().cast()
 }
 
 /// An error with a text that ends in NUL. PyO3's errors allocate in a construction that can't fail.
-pub fn error<T: PyTypeInfo>(py: Python<'_>, text: &'static str) -> PyErr {
+pub fn make_error<T: PyTypeInfo>(py: Python<'_>, text: &'static str) -> PyErr {
     // SAFETY: a class of exceptions, and a text that ends in NUL
-    unsafe { ffi::PyErr_SetString(T::type_object_raw(py).cast(), for_c(text)) };
+    unsafe { ffi::PyErr_SetString(T::type_object_raw(py).cast(), as_c_text(text)) };
     PyErr::fetch(py)
 }
 
 /// Borrows what one thread at a time can use.
-pub fn borrowed<'py, T: PyClass<Frozen = False>>(
+pub fn borrow<'py, T: PyClass<Frozen = False>>(
     shared: &Bound<'py, T>,
 ) -> PyResult<PyRefMut<'py, T>> {
-    let wrong = |_| error::<PyRuntimeError>(shared.py(), "another thread uses this object\0");
+    let wrong = |_| make_error::<PyRuntimeError>(shared.py(), "another thread uses this object\0");
     shared.try_borrow_mut().map_err(wrong)
 }
 
@@ -65,32 +65,34 @@ pub fn bytes_of<'py>(data: &Bound<'py, PyAny>) -> PyResult<Bound<'py, PyBytes>> 
     }
     let view = PyMemoryView::from_bound(data)?;
     let copied = new!(data.py(), PyBytes_FromObject(view.as_ptr()));
-    Ok(raised(data.py(), copied)?
+    Ok(fetch_error_unless(data.py(), copied)?
         .into_bound(data.py())
         .downcast_into()?)
 }
 
 /// A `str` in UTF-8. What errors of codecs do is named by a text that ends in NUL.
-pub fn encoded<'py>(
+pub fn encode<'py>(
     text: &Bound<'py, PyString>,
     errors: &'static str,
 ) -> PyResult<Bound<'py, PyBytes>> {
-    let (py, text, errors) = (text.py(), text.as_ptr(), for_c(errors));
+    let (py, text, errors) = (text.py(), text.as_ptr(), as_c_text(errors));
     let encoded = new!(
         py,
-        PyUnicode_AsEncodedString(text, for_c("utf-8\0"), errors)
+        PyUnicode_AsEncodedString(text, as_c_text("utf-8\0"), errors)
     );
-    Ok(raised(py, encoded)?.into_bound(py).downcast_into()?)
+    Ok(fetch_error_unless(py, encoded)?
+        .into_bound(py)
+        .downcast_into()?)
 }
 
 /// The error of memory that was refused, which needs none itself.
-pub fn no_memory(py: Python<'_>) -> PyErr {
+pub fn make_memory_error(py: Python<'_>) -> PyErr {
     // SAFETY: the lock is held
     unsafe { ffi::PyErr_NoMemory() };
     PyErr::fetch(py)
 }
 
-fn size(length: usize) -> ffi::Py_ssize_t {
+fn as_ssize(length: usize) -> ffi::Py_ssize_t {
     // no slice is longer than `isize::MAX`
     length as ffi::Py_ssize_t
 }
@@ -107,7 +109,7 @@ impl ShortText {
 
     /// A copy of content, unless it has too many bytes.
     #[inline]
-    pub fn of(bytes: &[u8]) -> Option<Self> {
+    pub fn from_bytes(bytes: &[u8]) -> Option<Self> {
         let mut content = [0; Self::CAPACITY];
         content.get_mut(..bytes.len())?.copy_from_slice(bytes);
         let length = bytes.len();
@@ -115,7 +117,7 @@ impl ShortText {
     }
 
     #[inline]
-    fn bytes(&self) -> &[u8] {
+    fn as_bytes(&self) -> &[u8] {
         &self.content[..self.length]
     }
 }
@@ -129,16 +131,16 @@ fn length_of(first: u32) -> usize {
 }
 
 /// A `str` of text in UTF-8, which Python checks.
-pub fn text(py: Python<'_>, utf8: &[u8]) -> MaybeObject {
-    decoded(py, utf8, "strict\0")
+pub fn make_text(py: Python<'_>, utf8: &[u8]) -> MaybeObject {
+    decode(py, utf8, "strict\0")
 }
 
 /// A `str` of much ASCII, of which Python takes parts faster than it decodes each.
-pub fn whole(py: Python<'_>, content: &[u8]) -> MaybeObject {
+pub fn make_ascii_text(py: Python<'_>, content: &[u8]) -> MaybeObject {
     if content.len() < 256 || !content.is_ascii() {
         return None;
     }
-    let whole = text(py, content);
+    let whole = make_text(py, content);
     if whole.is_none() {
         // texts are then made without it
         drop(PyErr::take(py));
@@ -147,18 +149,18 @@ pub fn whole(py: Python<'_>, content: &[u8]) -> MaybeObject {
 }
 
 /// The part of a `str` from one character to another.
-pub fn part(py: Python<'_>, whole: &PyObject, start: usize, end: usize) -> MaybeObject {
+pub fn make_substring(py: Python<'_>, whole: &PyObject, start: usize, end: usize) -> MaybeObject {
     new!(
         py,
-        PyUnicode_Substring(whole.as_ptr(), size(start), size(end))
+        PyUnicode_Substring(whole.as_ptr(), as_ssize(start), as_ssize(end))
     )
 }
 
 /// A `str` of a short text. Beyond ASCII Python gets its characters, because it decodes few slowly.
-pub fn short_text(py: Python<'_>, short: &ShortText) -> MaybeObject {
-    let utf8 = short.bytes();
+pub fn make_short_text(py: Python<'_>, short: &ShortText) -> MaybeObject {
+    let utf8 = short.as_bytes();
     if cfg!(windows) || utf8.is_ascii() {
-        return text(py, utf8);
+        return make_text(py, utf8);
     }
     let (mut characters, mut count) = ([0; ShortText::CAPACITY], 0);
     for byte in utf8 {
@@ -176,41 +178,41 @@ pub fn short_text(py: Python<'_>, short: &ShortText) -> MaybeObject {
     // `wchar_t` has 32 bits, but on Windows
     new!(
         py,
-        PyUnicode_FromWideChar(characters.as_ptr().cast(), size(count))
+        PyUnicode_FromWideChar(characters.as_ptr().cast(), as_ssize(count))
     )
 }
 
-/// A `str` of bytes, as `encoded` makes them.
-pub fn decoded(py: Python<'_>, utf8: &[u8], errors: &'static str) -> MaybeObject {
-    let (start, length) = (utf8.as_ptr().cast(), size(utf8.len()));
-    new!(py, PyUnicode_DecodeUTF8(start, length, for_c(errors)))
+/// A `str` of bytes, as `encode` makes them.
+pub fn decode(py: Python<'_>, utf8: &[u8], errors: &'static str) -> MaybeObject {
+    let (start, length) = (utf8.as_ptr().cast(), as_ssize(utf8.len()));
+    new!(py, PyUnicode_DecodeUTF8(start, length, as_c_text(errors)))
 }
 
-pub fn bytes(py: Python<'_>, content: &[u8]) -> MaybeObject {
-    let (start, length) = (content.as_ptr().cast(), size(content.len()));
+pub fn make_bytes(py: Python<'_>, content: &[u8]) -> MaybeObject {
+    let (start, length) = (content.as_ptr().cast(), as_ssize(content.len()));
     new!(py, PyBytes_FromStringAndSize(start, length))
 }
 
-pub fn integer(py: Python<'_>, value: i64) -> MaybeObject {
+pub fn make_integer(py: Python<'_>, value: i64) -> MaybeObject {
     new!(py, PyLong_FromLongLong(value))
 }
 
-pub fn float(py: Python<'_>, value: f64) -> MaybeObject {
+pub fn make_float(py: Python<'_>, value: f64) -> MaybeObject {
     new!(py, PyFloat_FromDouble(value))
 }
 
 /// A tuple of as many values, of which each is made for its index.
 #[inline(always)]
-pub fn tuple(
+pub fn make_tuple(
     py: Python<'_>,
     count: usize,
     mut value: impl FnMut(usize) -> MaybeObject,
 ) -> MaybeObject {
-    let tuple = new!(py, PyTuple_New(size(count)))?;
+    let tuple = new!(py, PyTuple_New(as_ssize(count)))?;
     for index in 0..count {
         // SAFETY: a new tuple of this size. Values that can't be made stay null, which
         // nothing but the deallocator sees
-        unsafe { ffi::PyTuple_SetItem(tuple.as_ptr(), size(index), value(index)?.into_ptr()) };
+        unsafe { ffi::PyTuple_SetItem(tuple.as_ptr(), as_ssize(index), value(index)?.into_ptr()) };
     }
     Some(tuple)
 }
@@ -221,12 +223,12 @@ pub fn call(py: Python<'_>, function: &PyObject, words: &PyObject) -> MaybeObjec
 }
 
 /// A pair. The second is made after the first.
-pub fn pair(
+pub fn make_pair(
     py: Python<'_>,
     mut first: MaybeObject,
     second: impl Fn(Python<'_>) -> MaybeObject,
 ) -> MaybeObject {
-    tuple(
+    make_tuple(
         py,
         2,
         |index| if index == 0 { first.take() } else { second(py) },
@@ -234,11 +236,11 @@ pub fn pair(
 }
 
 /// A list of the first objects, which it takes. If memory is refused, they stay.
-pub fn list(py: Python<'_>, objects: &mut Vec<PyObject>, count: usize) -> MaybeObject {
-    let list = new!(py, PyList_New(size(count)))?;
+pub fn make_list(py: Python<'_>, objects: &mut Vec<PyObject>, count: usize) -> MaybeObject {
+    let list = new!(py, PyList_New(as_ssize(count)))?;
     for (index, object) in objects.drain(..count).enumerate() {
         // SAFETY: a new list, which has this index
-        unsafe { ffi::PyList_SetItem(list.as_ptr(), size(index), object.into_ptr()) };
+        unsafe { ffi::PyList_SetItem(list.as_ptr(), as_ssize(index), object.into_ptr()) };
     }
     Some(list)
 }
@@ -262,7 +264,7 @@ enum Construction {
 }
 
 impl Class {
-    pub fn of(class: Bound<'_, PyAny>) -> PyResult<Self> {
+    pub fn new(class: Bound<'_, PyAny>) -> PyResult<Self> {
         let py = class.py();
         let is_tuple = class.downcast::<PyType>()?.is_subclass_of::<PyTuple>()?;
         let (fields, construction) = match (is_tuple, py.version_info() < (3, 14)) {
@@ -287,7 +289,7 @@ impl Class {
         })
     }
 
-    pub fn is(&self, other: &Bound<'_, PyAny>) -> bool {
+    pub fn is_same(&self, other: &Bound<'_, PyAny>) -> bool {
         self.class.is(other)
     }
 
@@ -301,14 +303,15 @@ impl Class {
                 return new!(py, PyObject_GetItem(members.as_ptr(), field(0)?.as_ptr()));
             }
             Construction::Tuple(new) => {
-                let mut words = [tuple(py, count, field)?, self.class.clone_ref(py)].into_iter();
-                return call(py, new, &tuple(py, 2, |_| words.next_back())?);
+                let mut words =
+                    [make_tuple(py, count, field)?, self.class.clone_ref(py)].into_iter();
+                return call(py, new, &make_tuple(py, 2, |_| words.next_back())?);
             }
         }
         // SAFETY: a tuple, whose fields are null or set before anything sees it. What they hold is
         // in no cycle, so the collector needn't look at it
         unsafe {
-            let made = ffi::_PyObject_GC_NewVar(class.cast(), size(count));
+            let made = ffi::_PyObject_GC_NewVar(class.cast(), as_ssize(count));
             let made = PyObject::from_owned_ptr_or_opt(py, made.cast())?;
             let fields = made.as_ptr().cast::<ffi::PyVarObject>().add(1);
             let fields = fields.cast::<MaybeObject>();

@@ -1,9 +1,12 @@
 //! The parser of events.
 
 use crate::calls::Kind;
-use crate::events::{has, kinds_of, Kinds, Recorder, ALL};
-use crate::objects::{borrowed, bytes, bytes_of, error, integer, pair, raised, text, MaybeObject};
-use crate::reader::{first_slice, read, Reader};
+use crate::events::{has_kind, kinds_of, Kinds, Recorder, ALL};
+use crate::objects::{
+    borrow, bytes_of, fetch_error_unless, make_bytes, make_error, make_integer, make_pair,
+    make_text, MaybeObject,
+};
+use crate::reader::{read, take_first_slice, ReadStream};
 use crate::tape::Tape;
 use pyo3::exceptions::{PyTypeError, PyValueError};
 use pyo3::prelude::*;
@@ -15,7 +18,7 @@ use vte::{skip_to_command, InternalCalls as _, LongParser, Open, Refused, Saved}
 const LIMIT: usize = 1024;
 
 /// A parser that keeps 1,024 data bytes of a command.
-pub type Limited = vte::BoundedParser<LIMIT>;
+pub type LimitedParser = vte::BoundedParser<LIMIT>;
 
 /// The bytes of a saved parser. Any bytes are some parser.
 #[repr(C, align(8))]
@@ -24,37 +27,37 @@ const _: () = assert!(align_of::<Saved>() <= align_of::<Content>());
 
 impl Content {
     #[allow(unsafe_code)]
-    fn saved(&mut self) -> &mut Saved {
+    fn as_saved(&mut self) -> &mut Saved {
         // SAFETY: plain data of this size, aligned, for which any bytes do
         unsafe { &mut *self.0.as_mut_ptr().cast() }
     }
 }
 
 /// A parser and the version of this package, to be pickled.
-pub fn state_of(py: Python<'_>, parser: &Limited) -> MaybeObject {
+pub fn state_of(py: Python<'_>, parser: &LimitedParser) -> MaybeObject {
     let mut content = Content([0; size_of::<Saved>()]);
-    parser.save(content.saved());
-    let version = text(py, env!("CARGO_PKG_VERSION").as_bytes());
-    pair(py, version, |py| bytes(py, &content.0))
+    parser.save(content.as_saved());
+    let version = make_text(py, env!("CARGO_PKG_VERSION").as_bytes());
+    make_pair(py, version, |py| make_bytes(py, &content.0))
 }
 
 /// The parser of a state.
-pub fn restored(state: &Bound<'_, PyAny>) -> PyResult<Limited> {
+pub fn restore_parser(state: &Bound<'_, PyAny>) -> PyResult<LimitedParser> {
     if let Ok((version, content)) = state.extract::<(Bound<'_, PyString>, Bound<'_, PyBytes>)>() {
         let content = content.as_bytes().try_into().map(Content);
         if let (env!("CARGO_PKG_VERSION"), Ok(mut content)) = (version.to_str()?, content) {
-            let mut parser = Limited::new();
-            parser.restore(content.saved());
+            let mut parser = LimitedParser::new();
+            parser.restore(content.as_saved());
             return Ok(parser);
         }
     }
     let wrong = "this was pickled with another version of the package\0";
-    Err(error::<PyValueError>(state.py(), wrong))
+    Err(make_error::<PyValueError>(state.py(), wrong))
 }
 
 enum Machine {
     Long(LongParser),
-    Limited(Limited),
+    Limited(LimitedParser),
 }
 
 /// Reads a stream in chunks of any length and reports its events.
@@ -75,7 +78,7 @@ impl Parser {
         let machine = match limit {
             None => Machine::Long(LongParser::new()),
             Some(limit) if limit.eq(LIMIT)? => {
-                Machine::Limited(state.map_or_else(|| Ok(Limited::new()), restored)?)
+                Machine::Limited(state.map_or_else(|| Ok(LimitedParser::new()), restore_parser)?)
             }
             Some(limit) => {
                 let wrong = format!("limit must be None or {LIMIT}, not {}", limit.repr()?);
@@ -89,9 +92,11 @@ impl Parser {
     /// How many bytes of an operating system command are kept: 1,024, or None for all.
     #[getter]
     fn limit(slf: &Bound<'_, Self>) -> PyResult<PyObject> {
-        match borrowed(slf)?.machine {
+        match borrow(slf)?.machine {
             Machine::Long(_) => Ok(slf.py().None()),
-            Machine::Limited(_) => raised(slf.py(), integer(slf.py(), LIMIT as i64)),
+            Machine::Limited(_) => {
+                fetch_error_unless(slf.py(), make_integer(slf.py(), LIMIT as i64))
+            }
         }
     }
 
@@ -100,7 +105,7 @@ impl Parser {
     /// three bytes of a character.
     #[getter]
     fn open(slf: &Bound<'_, Self>) -> PyResult<PyObject> {
-        let open = match &borrowed(slf)?.machine {
+        let open = match &borrow(slf)?.machine {
             Machine::Long(parser) => parser.open(),
             Machine::Limited(parser) => parser.open(),
         };
@@ -113,7 +118,7 @@ impl Parser {
             Open::SystemCommand => "osc",
             Open::IgnoredString => "ignored",
         };
-        raised(slf.py(), text(slf.py(), word.as_bytes()))
+        fetch_error_unless(slf.py(), make_text(slf.py(), word.as_bytes()))
     }
 
     /// Reads the next bytes of the stream, and returns the events that they add to it.
@@ -144,12 +149,12 @@ impl Parser {
         kinds: Option<&Bound<'_, PyAny>>,
     ) -> PyResult<PyObject> {
         let (py, stops) = (slf.py(), kinds_of(stops)?);
-        if has(stops, Kind::Text) || has(stops, Kind::Data) {
+        if has_kind(stops, Kind::Text) || has_kind(stops, Kind::Data) {
             let wrong = "stops can't have vte.Text or vte.Data\0";
-            return Err(error::<PyValueError>(py, wrong));
+            return Err(make_error::<PyValueError>(py, wrong));
         }
         read_events(slf, data, kinds, stops, |events, read| {
-            pair(py, Some(events), |py| integer(py, read as i64))
+            make_pair(py, Some(events), |py| make_integer(py, read as i64))
         })
     }
 
@@ -157,12 +162,12 @@ impl Parser {
     fn __getnewargs__(slf: &Bound<'_, Self>) -> PyResult<PyObject> {
         let py = slf.py();
         let wrong = "only parsers with a limit can be copied and pickled: vte.Parser(limit=1024)\0";
-        match &borrowed(slf)?.machine {
+        match &borrow(slf)?.machine {
             Machine::Limited(parser) => {
-                let limit = integer(py, LIMIT as i64);
-                raised(py, pair(py, limit, |py| state_of(py, parser)))
+                let limit = make_integer(py, LIMIT as i64);
+                fetch_error_unless(py, make_pair(py, limit, |py| state_of(py, parser)))
             }
-            Machine::Long(_) => Err(error::<PyTypeError>(py, wrong)),
+            Machine::Long(_) => Err(make_error::<PyTypeError>(py, wrong)),
         }
     }
 }
@@ -179,14 +184,14 @@ where
     F: FnOnce(PyObject, usize) -> MaybeObject,
 {
     let (source, kinds) = (bytes_of(data)?, kinds.map_or(Ok(ALL), kinds_of)?);
-    let mut reader = borrowed(parser)?;
+    let mut reader = borrow(parser)?;
     reader.recorder.start(kinds, stops);
     let answer = read(parser.py(), &mut *reader, source.as_bytes(), answer);
     reader.recorder.is_refused = answer.is_err();
     answer
 }
 
-impl Reader for Parser {
+impl ReadStream for Parser {
     fn tape(&mut self) -> &mut Tape {
         &mut self.recorder.tape
     }
@@ -201,13 +206,13 @@ impl Reader for Parser {
             Machine::Long(parser) => (parser.is_open(), parser.stored()),
             Machine::Limited(parser) => (parser.is_open(), LIMIT),
         };
-        if recorder.only_commands() && !is_open {
+        if recorder.wants_only_commands() && !is_open {
             let skipped = skip_to_command(bytes);
             if skipped > 0 {
                 return Ok(skipped);
             }
         }
-        let bytes = first_slice(bytes);
+        let bytes = take_first_slice(bytes);
         recorder.tape.reserve(bytes.len(), command)?;
         recorder.go_on();
         let (read, lost_data) = match machine {

@@ -1,7 +1,9 @@
 //! The processor of calls.
 
-use crate::objects::{borrowed, bytes_of, float, integer, no_memory, raised};
-use crate::reader::{first_slice, read, Reader};
+use crate::objects::{
+    borrow, bytes_of, fetch_error_unless, make_float, make_integer, make_memory_error,
+};
+use crate::reader::{read, take_first_slice, ReadStream};
 use crate::refusal::Refusal;
 use crate::tape::Tape;
 use pyo3::prelude::*;
@@ -12,7 +14,7 @@ use vte::ansi::StdSyncHandler;
 use vte::Refused;
 
 /// The function `time.monotonic`.
-pub fn monotonic(py: Python<'_>) -> PyResult<&'static PyObject> {
+pub fn look_up_monotonic(py: Python<'_>) -> PyResult<&'static PyObject> {
     static MONOTONIC: GILOnceCell<PyObject> = GILOnceCell::new();
     MONOTONIC.get_or_try_init(py, || {
         Ok(py.import_bound("time")?.getattr("monotonic")?.unbind())
@@ -38,7 +40,8 @@ pub struct Processor {
 impl Processor {
     #[new]
     fn new(py: Python<'_>) -> PyResult<Self> {
-        let processor = LongProcessor::new(StdSyncHandler::default()).map_err(|_| no_memory(py))?;
+        let processor =
+            LongProcessor::new(StdSyncHandler::default()).map_err(|_| make_memory_error(py))?;
         Ok(Processor {
             processor,
             calls: ByCall(Tape::default()),
@@ -52,7 +55,7 @@ impl Processor {
     /// If memory is refused, it raises `vte.Refused`, whose `lost` says whether calls were lost.
     fn feed(slf: &Bound<'_, Self>, data: &Bound<'_, PyAny>) -> PyResult<PyObject> {
         let source = bytes_of(data)?;
-        let mut shared = borrowed(slf)?;
+        let mut shared = borrow(slf)?;
         read(slf.py(), &mut *shared, source.as_bytes(), |calls, _| {
             Some(calls)
         })
@@ -62,9 +65,9 @@ impl Processor {
     ///
     /// If memory is refused, it raises `vte.Refused`: call it again.
     fn stop_sync(slf: &Bound<'_, Self>) -> PyResult<PyObject> {
-        let (py, mut shared) = (slf.py(), borrowed(slf)?);
+        let (py, mut shared) = (slf.py(), borrow(slf)?);
         let refusal = Refusal::new(py)?;
-        let done = shared.stop().map_err(|_| no_memory(py));
+        let done = shared.stop().map_err(|_| make_memory_error(py));
         let tape = shared.tape();
         let done = done.and_then(|()| tape.make(py, true));
         let answer = refusal.raise_or(py, tape, 0, done, |calls, _| Some(calls));
@@ -75,24 +78,24 @@ impl Processor {
     /// How many bytes are held.
     #[getter]
     fn sync_bytes_count(slf: &Bound<'_, Self>) -> PyResult<PyObject> {
-        let count = borrowed(slf)?.processor.sync_bytes_count();
-        raised(slf.py(), integer(slf.py(), count as i64))
+        let count = borrow(slf)?.processor.sync_bytes_count();
+        fetch_error_unless(slf.py(), make_integer(slf.py(), count as i64))
     }
 
     /// Until when an update is pending, by `time.monotonic()`, or None.
     #[getter]
     fn sync_timeout(slf: &Bound<'_, Self>) -> PyResult<PyObject> {
         let py = slf.py();
-        let deadline = match borrowed(slf)?.processor.sync_timeout().sync_timeout() {
+        let deadline = match borrow(slf)?.processor.sync_timeout().sync_timeout() {
             Some(deadline) => deadline,
             None => return Ok(py.None()),
         };
-        let now = monotonic(py)?.call0(py)?.extract::<f64>(py)?;
+        let now = look_up_monotonic(py)?.call0(py)?.extract::<f64>(py)?;
         // one of these two is 0
         let left = deadline.saturating_duration_since(Instant::now());
         let over = deadline.elapsed();
-        let deadline = float(py, now + left.as_secs_f64() - over.as_secs_f64());
-        raised(py, deadline)
+        let deadline = make_float(py, now + left.as_secs_f64() - over.as_secs_f64());
+        fetch_error_unless(py, deadline)
     }
 }
 
@@ -112,13 +115,13 @@ impl Processor {
     }
 }
 
-impl Reader for Processor {
+impl ReadStream for Processor {
     fn tape(&mut self) -> &mut Tape {
         &mut self.calls.0
     }
 
     fn read(&mut self, bytes: &[u8]) -> Result<usize, Refused> {
-        let (bytes, before) = (first_slice(bytes), self.calls.0.size());
+        let (bytes, before) = (take_first_slice(bytes), self.calls.0.size());
         let parsed = self.processor.sync_bytes_count() + bytes.len();
         self.calls.0.reserve(parsed, self.command)?;
         self.is_stopped = false;

@@ -1,6 +1,6 @@
 //! How streams are read.
 
-use crate::objects::{no_memory, run, MaybeObject, LONG};
+use crate::objects::{make_memory_error, run, MaybeObject, LONG};
 use crate::refusal::Refusal;
 use crate::tape::Tape;
 use pyo3::prelude::*;
@@ -15,7 +15,7 @@ const MAX_COUNT: usize = 1 << 11;
 const MAX_COUNT_WITHOUT_LOCK: usize = 1 << 15;
 
 /// Records what a stream adds.
-pub trait Reader: Send {
+pub trait ReadStream: Send {
     fn tape(&mut self) -> &mut Tape;
 
     /// Reads some of the bytes, and returns how many.
@@ -27,7 +27,7 @@ pub trait Reader: Send {
 }
 
 /// The first bytes, which a call parses at once.
-pub fn first_slice(bytes: &[u8]) -> &[u8] {
+pub fn take_first_slice(bytes: &[u8]) -> &[u8] {
     &bytes[..bytes.len().min(SLICE_SIZE)]
 }
 
@@ -35,7 +35,7 @@ pub fn first_slice(bytes: &[u8]) -> &[u8] {
 /// read.
 pub fn read<F>(
     py: Python<'_>,
-    reader: &mut impl Reader,
+    reader: &mut impl ReadStream,
     source: &[u8],
     answer: F,
 ) -> PyResult<PyObject>
@@ -51,7 +51,7 @@ where
         let ends = is_refused || position == source.len() || reader.has_stopped();
         let done = match reader.tape().make(py, ends) {
             Ok(()) if !ends => continue,
-            Ok(()) if is_refused => Err(no_memory(py)),
+            Ok(()) if is_refused => Err(make_memory_error(py)),
             done => done,
         };
         return refusal.raise_or(py, reader.tape(), position, done, answer);
@@ -59,7 +59,7 @@ where
 }
 
 /// Reads until objects are to be made. Returns how much was read, and whether memory was refused.
-fn read_some(reader: &mut impl Reader, source: &[u8]) -> (usize, bool) {
+fn read_some(reader: &mut impl ReadStream, source: &[u8]) -> (usize, bool) {
     let mut position = 0;
     let max_count = if source.len() >= LONG {
         MAX_COUNT_WITHOUT_LOCK

@@ -1,6 +1,8 @@
 //! What a call raises if memory is refused.
 
-use crate::objects::{call, integer, list, no_memory, raised, tuple, MaybeObject};
+use crate::objects::{
+    call, fetch_error_unless, make_integer, make_list, make_memory_error, make_tuple, MaybeObject,
+};
 use crate::tape::Tape;
 use pyo3::exceptions::PyMemoryError;
 use pyo3::prelude::*;
@@ -21,7 +23,7 @@ impl Refusal {
         let mut room = KEPT.get(py).take();
         match room.try_reserve_exact(ROOM) {
             Ok(()) => Ok(Refusal(room)),
-            Err(_) => Err(no_memory(py)),
+            Err(_) => Err(make_memory_error(py)),
         }
     }
 
@@ -40,16 +42,16 @@ impl Refusal {
     {
         let mut made = None;
         let answered = done.and_then(|()| {
-            let list = raised(py, tape.list(py))?;
+            let list = fetch_error_unless(py, tape.take_list(py))?;
             made = Some(list.clone_ref(py));
-            raised(py, answer(list, read))
+            fetch_error_unless(py, answer(list, read))
         });
         match answered {
             Err(error) if error.is_instance_of::<PyMemoryError>(py) => {
                 // first, since what this has no memory for stays on the tape
-                let made = made.or_else(|| tape.list_of_some(py));
+                let made = made.or_else(|| tape.take_shorter_list(py));
                 drop(self);
-                Err(refused(py, read, made, tape.take_loss()))
+                Err(make_refused(py, read, made, tape.take_loss()))
             }
             answered => {
                 KEPT.get(py).set(self.0);
@@ -60,7 +62,7 @@ impl Refusal {
 }
 
 /// The class `vte.Refused`.
-pub fn class(py: Python<'_>) -> PyResult<&'static PyObject> {
+pub fn look_up_class(py: Python<'_>) -> PyResult<&'static PyObject> {
     static CLASS: GILOnceCell<PyObject> = GILOnceCell::new();
     CLASS.get_or_try_init(py, || {
         let class = py.import_bound("vte._events")?.getattr("Refused")?;
@@ -68,15 +70,15 @@ pub fn class(py: Python<'_>) -> PyResult<&'static PyObject> {
     })
 }
 
-fn refused(py: Python<'_>, read: usize, mut made: MaybeObject, has_lost: bool) -> PyErr {
+fn make_refused(py: Python<'_>, read: usize, mut made: MaybeObject, has_lost: bool) -> PyErr {
     let words = |index| match index {
-        0 => integer(py, read as i64),
-        1 => made.take().or_else(|| list(py, &mut Vec::new(), 0)),
+        0 => make_integer(py, read as i64),
+        1 => made.take().or_else(|| make_list(py, &mut Vec::new(), 0)),
         _ => Some(has_lost.into_py(py)),
     };
-    let error = class(py).and_then(|class| {
-        let words = raised(py, tuple(py, 3, words))?;
-        raised(py, call(py, class, &words))
+    let error = look_up_class(py).and_then(|class| {
+        let words = fetch_error_unless(py, make_tuple(py, 3, words))?;
+        fetch_error_unless(py, call(py, class, &words))
     });
     match error {
         Ok(error) => PyErr::from_value_bound(error.into_bound(py)),

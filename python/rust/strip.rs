@@ -4,12 +4,13 @@ mod shown;
 mod state;
 
 use crate::objects::{
-    borrowed, bytes, bytes_of, decoded, encoded, no_memory, raised, run, text, tuple,
+    borrow, bytes_of, decode, encode, fetch_error_unless, make_bytes, make_memory_error, make_text,
+    make_tuple, run,
 };
-use crate::parser::{restored, state_of};
+use crate::parser::{restore_parser, state_of};
 use pyo3::prelude::*;
 use pyo3::types::{PyBytes, PyString};
-use shown::shown;
+use shown::strip_stream;
 use state::{Errors, StripperState};
 use std::borrow::Cow;
 use vte::Refused;
@@ -19,25 +20,25 @@ fn strip_by<F>(data: &Bound<'_, PyAny>, errors: Errors, read: F) -> PyResult<PyO
 where
     F: for<'a> FnOnce(&'a [u8]) -> Result<Cow<'a, [u8]>, Refused> + Send,
 {
-    let (py, errors) = (data.py(), errors.of_codecs());
+    let (py, errors) = (data.py(), errors.codec_errors());
     let text = data.downcast::<PyString>().ok();
     let utf8 = text.and_then(|text| text.to_str().ok());
     let made;
     let source = match utf8 {
         Some(utf8) => utf8.as_bytes(),
         None => {
-            made = text.map_or_else(|| bytes_of(data), |text| encoded(text, errors))?;
+            made = text.map_or_else(|| bytes_of(data), |text| encode(text, errors))?;
             made.as_bytes()
         }
     };
     let is_exact = data.is_exact_instance_of::<PyBytes>()
         || utf8.is_some() && data.is_exact_instance_of::<PyString>();
-    match run(py, source.len(), || read(source)).map_err(|_| no_memory(py))? {
+    match run(py, source.len(), || read(source)).map_err(|_| make_memory_error(py))? {
         Cow::Borrowed(shown) if is_exact && shown.len() == source.len() => {
             Ok(data.clone().unbind())
         }
-        shown if text.is_some() => raised(py, decoded(py, &shown, errors)),
-        shown => raised(py, bytes(py, &shown)),
+        shown if text.is_some() => fetch_error_unless(py, decode(py, &shown, errors)),
+        shown => fetch_error_unless(py, make_bytes(py, &shown)),
     }
 }
 
@@ -49,11 +50,11 @@ where
 #[pyfunction]
 #[pyo3(signature = (data, errors="replace"))]
 pub fn strip(data: &Bound<'_, PyAny>, errors: &str) -> PyResult<PyObject> {
-    let errors = Errors::of(errors)?;
+    let errors = Errors::from_name(errors)?;
     match errors {
-        Errors::Replace => strip_by(data, errors, shown),
+        Errors::Replace => strip_by(data, errors, strip_stream),
         Errors::Escape => strip_by(data, errors, |source| {
-            StripperState::start(errors).read(source, true)
+            StripperState::new(errors).read(source, true)
         }),
     }
 }
@@ -77,9 +78,9 @@ impl Stripper {
         state: Option<&Bound<'_, PyAny>>,
         held: Option<&Bound<'_, PyBytes>>,
     ) -> PyResult<Self> {
-        let mut stripper = StripperState::start(Errors::of(errors)?);
+        let mut stripper = StripperState::new(Errors::from_name(errors)?);
         if let Some(state) = state {
-            stripper.parser = restored(state)?;
+            stripper.parser = restore_parser(state)?;
         }
         stripper.hold(held.map_or(&[], |held| held.as_bytes()));
         Ok(Stripper(stripper))
@@ -93,7 +94,7 @@ impl Stripper {
     /// call begins another. If memory is refused, call it again: nothing was read.
     #[pyo3(signature = (data, r#final=false), text_signature = "($self, data, final=False)")]
     fn strip(slf: &Bound<'_, Self>, data: &Bound<'_, PyAny>, r#final: bool) -> PyResult<PyObject> {
-        let mut shared = borrowed(slf)?;
+        let mut shared = borrow(slf)?;
         let before = shared.0.clone();
         let stripper = &mut shared.0;
         let stripped = strip_by(data, before.errors, |source| stripper.read(source, r#final));
@@ -105,17 +106,17 @@ impl Stripper {
 
     /// Of what `object` makes a copy and a pickle, to which it adds the attributes of a subclass.
     fn __getnewargs__(slf: &Bound<'_, Self>) -> PyResult<PyObject> {
-        let (py, shared) = (slf.py(), borrowed(slf)?);
+        let (py, shared) = (slf.py(), borrow(slf)?);
         let StripperState {
             errors,
             parser,
             held,
         } = &shared.0;
         let values = |index| match index {
-            0 => text(py, errors.name().as_bytes()),
+            0 => make_text(py, errors.name().as_bytes()),
             1 => state_of(py, parser),
-            _ => bytes(py, &held.0[..held.1]),
+            _ => make_bytes(py, &held.0[..held.1]),
         };
-        raised(py, tuple(py, 3, values))
+        fetch_error_unless(py, make_tuple(py, 3, values))
     }
 }

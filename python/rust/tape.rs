@@ -1,11 +1,25 @@
 //! Events and calls as they are recorded, before objects are made of them. This needs no object and
 //! so not the interpreter's lock, and if memory is refused to an object, those that follow are
 //! still there.
+//!
+//! An object is recorded as a value, and those of its fields follow. The bits of a value are:
+//!
+//! ```text
+//!  63                  13 12         5    4     3     0
+//! +----------------------+------------+-------+--------+
+//! |        field         |   class    | first |  tag   |   Sequence, Object, Member, Run
+//! +----------------------+------------+-------+--------+
+//! |              number               | first |  tag   |   the other tags
+//! +-----------------------------------+-------+--------+
+//! ```
+//!
+//! `first` is 1 if an object begins that is in no other. The content of texts and data is stored
+//! beside the values, in the same order.
 
 use crate::calls::Kind;
 use crate::head::Head;
 use crate::maker::{Maker, ObjectCache};
-use crate::objects::{list, no_memory, raised, MaybeObject};
+use crate::objects::{fetch_error_unless, make_list, make_memory_error, MaybeObject};
 use pyo3::prelude::*;
 use vte::{Params, Refused};
 
@@ -31,75 +45,72 @@ numbered! {
     Letter,
     /// How many fields follow.
     Tuple,
-    /// A sequence without its numbers, which follow.
+    /// A packed `Head`. The numbers of the sequence follow.
     Sequence,
-    /// Some of these: `NUMBERS_PER_VALUE`, of `NUMBER_BITS` each, of which the last says whether
-    /// `:` is before it.
+    /// `NUMBERS_PER_VALUE` of a sequence, of `NUMBER_BITS` each, of which the last says whether `:`
+    /// is before it.
     Numbers,
-    /// A class, whose fields follow.
+    /// An object, whose fields follow.
     Object,
-    /// A class, and the number that is its only field.
+    /// An object, and the number that is its only field.
     Member,
     /// The length of the content.
     Text,
     Data,
-    /// A class, and the length of the content that is its only field.
+    /// An object, and the length of the content that is its only field.
     Run,
 }
 
-/// The bit of a value with which an object begins that is in no other.
+const TAG: i64 = 15;
 const FIRST: i64 = 16;
-/// How many bits tell what a value is.
-pub const TAG_BITS: u32 = 5;
+/// The bit at which the number begins.
+pub const NUMBER_START: u32 = 5;
+const CLASS_BITS: u32 = 8;
 
 pub const NUMBERS_PER_VALUE: usize = 3;
 pub const NUMBER_BITS: u32 = 17;
 
-/// What an object is made of: what it is, and a number of 59 bits. The content of texts and data is
-/// stored beside it, in the same order.
+/// One value, with the bits above.
 #[derive(Clone, Copy, Default, PartialEq)]
 pub struct Value(pub i64);
 
 impl Value {
     #[inline]
     pub fn new(tag: Tag, number: i64) -> Self {
-        Value(number << TAG_BITS | tag as i64)
-    }
-
-    /// An object of a class, and its only field.
-    #[inline]
-    pub fn of(tag: Tag, kind: Kind, field: i64) -> Self {
-        Value::new(tag, field << 8 | kind as i64)
+        Value(number << NUMBER_START | tag as i64)
     }
 
     #[inline]
-    pub fn is(self, tag: Tag) -> bool {
-        self.0 & (FIRST - 1) == tag as i64
+    pub fn with_class(tag: Tag, kind: Kind, field: i64) -> Self {
+        Value::new(tag, field << CLASS_BITS | kind as i64)
     }
 
-    /// What it is, and its number.
     #[inline]
-    pub fn number(self) -> (Tag, i64) {
-        (TAGS[(self.0 & (FIRST - 1)) as usize], self.0 >> TAG_BITS)
+    pub fn has_tag(self, tag: Tag) -> bool {
+        self.0 & TAG == tag as i64
     }
 
-    /// Whether an object begins with it that is in no other.
+    #[inline]
+    pub fn tag_and_number(self) -> (Tag, i64) {
+        (TAGS[(self.0 & TAG) as usize], self.0 >> NUMBER_START)
+    }
+
     #[inline]
     pub fn is_first(self) -> bool {
         self.0 & FIRST != 0
     }
 
-    /// Adds to the only field.
+    /// Adds to the field.
     #[inline]
     fn lengthen(&mut self, more: i64) {
-        self.0 += more << 8 << TAG_BITS;
+        self.0 += more << CLASS_BITS << NUMBER_START;
     }
 
-    /// The class and the only field.
     #[inline]
-    pub fn parts(self) -> (usize, i64) {
-        let number = self.0 >> TAG_BITS;
-        ((number & 255) as usize, number >> 8)
+    pub fn class_and_field(self) -> (usize, i64) {
+        let number = self.0 >> NUMBER_START;
+        let class = number & ((1 << CLASS_BITS) - 1);
+        (class as usize, number >> CLASS_BITS)
     }
 }
 
@@ -115,7 +126,7 @@ macro_rules! fields {
             #[inline]
             fn record(self, tape: &mut Tape) {
                 let $field = self;
-                tape$(.with($value))+;
+                tape$(.add_field($value))+;
             }
         })+
     };
@@ -177,7 +188,7 @@ where
 {
     #[inline]
     fn record(self, tape: &mut Tape) {
-        tape.with(Value::new(Tag::Tuple, self.0.size_hint().0 as i64));
+        tape.add_field(Value::new(Tag::Tuple, self.0.size_hint().0 as i64));
         self.0.for_each(|field| field.record(tape));
     }
 }
@@ -231,21 +242,21 @@ impl Tape {
     /// Begins an object. Its fields are to follow.
     #[inline]
     pub fn begin(&mut self, kind: Kind) -> &mut Self {
-        self.add(Value::of(Tag::Object, kind, 0))
+        self.add(Value::with_class(Tag::Object, kind, 0))
     }
 
     /// Adds an object, or its first value.
     #[inline]
     pub fn add(&mut self, first: Value) -> &mut Self {
         self.is_open = false;
-        self.with(Value(first.0 | FIRST))
+        self.add_field(Value(first.0 | FIRST))
     }
 
     /// Adds a sequence, but not its numbers.
     #[inline]
     pub fn add_head(&mut self, kind: Kind, count: usize, rest: (&[u8], bool, char)) -> &mut Self {
         let head = Head::new(count, rest.0, rest.1, rest.2);
-        self.add(Value::of(Tag::Sequence, kind, head.packed()))
+        self.add(Value::with_class(Tag::Sequence, kind, head.pack()))
     }
 
     /// Adds the numbers of a sequence.
@@ -258,19 +269,19 @@ impl Tape {
                 numbers |= (i64::from(*number) << 1 | is_joined) << bits;
                 (bits, is_joined) = (bits + NUMBER_BITS, 1);
                 if bits == NUMBER_BITS * NUMBERS_PER_VALUE as u32 {
-                    self.with(Value::new(Tag::Numbers, numbers));
+                    self.add_field(Value::new(Tag::Numbers, numbers));
                     (numbers, bits) = (0, 0);
                 }
             }
         }
         if bits > 0 {
-            self.with(Value::new(Tag::Numbers, numbers));
+            self.add_field(Value::new(Tag::Numbers, numbers));
         }
     }
 
     /// Adds a field.
     #[inline]
-    pub fn with(&mut self, field: impl Field) -> &mut Self {
+    pub fn add_field(&mut self, field: impl Field) -> &mut Self {
         field.record(self);
         self
     }
@@ -281,11 +292,11 @@ impl Tape {
         match self.values.last_mut() {
             Some(last) if self.is_open => last.lengthen(run.len() as i64),
             _ => {
-                self.add(Value::of(Tag::Run, kind, run.len() as i64));
+                self.add(Value::with_class(Tag::Run, kind, run.len() as i64));
                 self.is_open = true;
             }
         }
-        self.with(Content(run));
+        self.add_field(Content(run));
     }
 
     /// Ends a text or data.
@@ -299,7 +310,7 @@ impl Tape {
         self.values[index] = Value::new(Tag::Flag, 1);
     }
 
-    /// Whether so many values are recorded, or memory was refused to one.
+    /// Whether `max_count` values are recorded, or memory was refused to one.
     pub fn is_full(&self, max_count: usize) -> bool {
         self.values.len() >= max_count || self.is_refused
     }
@@ -323,11 +334,11 @@ impl Tape {
     #[inline(never)]
     pub fn make(&mut self, py: Python<'_>, ends: bool) -> PyResult<()> {
         if self.is_refused {
-            return Err(no_memory(py));
+            return Err(make_memory_error(py));
         }
         let reserved = self.made.try_reserve(self.values.len());
-        reserved.map_err(|_| no_memory(py))?;
-        let mut cache = ObjectCache::taken(py);
+        reserved.map_err(|_| make_memory_error(py))?;
+        let mut cache = ObjectCache::take(py);
         let end = self.values.len() - usize::from(self.is_open && !ends);
         let mut maker = Maker::new(py, &self.values[..end], &self.content)?;
         let mut done = Ok(());
@@ -340,7 +351,7 @@ impl Tape {
                 }
             }
         }
-        let (left, rest) = maker.left();
+        let (left, rest) = maker.count_left();
         cache.put_back(py);
         self.values.drain(..end - left);
         self.content.drain(..self.content.len() - rest);
@@ -348,9 +359,9 @@ impl Tape {
     }
 
     /// A list of what was made. If memory is refused, this stays.
-    pub fn list(&mut self, py: Python<'_>) -> MaybeObject {
+    pub fn take_list(&mut self, py: Python<'_>) -> MaybeObject {
         let count = self.made.len();
-        let list = list(py, &mut self.made, count)?;
+        let list = make_list(py, &mut self.made, count)?;
         // The memory of few objects is kept.
         if self.made.capacity() > 1 << 12 {
             self.made = Vec::new();
@@ -359,10 +370,10 @@ impl Tape {
     }
 
     /// A list of as many of the first that were made as there is memory for. The others stay.
-    pub fn list_of_some(&mut self, py: Python<'_>) -> Option<PyObject> {
+    pub fn take_shorter_list(&mut self, py: Python<'_>) -> Option<PyObject> {
         let mut count = self.made.len();
         while count > 0 {
-            match raised(py, list(py, &mut self.made, count)) {
+            match fetch_error_unless(py, make_list(py, &mut self.made, count)) {
                 Ok(list) => return Some(list),
                 Err(_) => count /= 2,
             }

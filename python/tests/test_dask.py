@@ -152,7 +152,7 @@ def test_no_half_piece_is_written(cluster, file, out):
     # the other workers may still be at a piece, which they can't write either
     until(lambda: not pieces_of(out))
     limit_files(cluster, -1)
-    # where there is room, the same command goes on
+    # if there is room, the same command goes on
     cluster.strip(*words)
     assert_joined(out, MANY)
 

@@ -24,7 +24,7 @@ OLD = ["missing: old: the release and best builds were not counted"]
 
 @pytest.fixture
 def count(monkeypatch):
-    """What bench/count says to a table, or writes, where each count is 4 or 1."""
+    """What bench/count says to a table, or writes, if each count is 4 or 1."""
     def check_counts(*words, kit="kit", allowed="1", rustc="new", cell="4.000"):
         path = write("instructions.txt", LIMITS.format(rustc, cell))
         monkeypatch.setenv("NAQSHUVE_ALLOW_MISSING", allowed)

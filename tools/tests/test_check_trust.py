@@ -65,6 +65,10 @@ PARSER = {
     "a search reads a byte": ("reader/run_end", "if input.bytes[at] == 0 {", UNCOUNTED),
     "a search counts by itself": ("reader/run_blocks", "self.count_looks(0);", UNCOUNTED),
     "a search sets the tally": ("reader/run_end", "reader.tally = tally_before;", UNCOUNTED),
+    "a search opens an input": ("reader/run_end", "let Input { bytes } = input;", UNCOUNTED),
+    "a search renames an input": ("reader/run_end", "use a::b::{Input as I};", UNCOUNTED),
+    "a search extends an input": ("reader/run_blocks", "impl Input<'_> {", UNCOUNTED),
+    "a search takes an input": ("reader/run_end", "use a::{B, Input}; fn f(input: Input<'_>)", ""),
     "a search opens a reader": ("reader/run_blocks", "let Reader { tally } = self;", UNCOUNTED),
     "a contract names bytes": ("reader/run_end", "requires in { to ≤ length input.bytes.now }", "")}
 CASES = {**UNSAFE, **ROOTS, **{name: (f"{CORE}{file}.rt", text, fault)
@@ -95,6 +99,7 @@ def test_all_files_and_handles_are_checked():
 # a word that is replaced in a file of the reader, and the fault
 @pytest.mark.parametrize("path, word, fault", [
     ("reader", "tally", r"nothing there is \btally:"),
+    ("reader", "Input", r"nothing there is \bstruct Input\b"),
     ("reader", "count_looks", r"nothing there is \bfn count_looks\("),
     ("reader/advance", "take_run", r"nothing there is ^ *take_run\(bytes, range\)$"),
     ("reader/run_end", "", "it isn't there"),

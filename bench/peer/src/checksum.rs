@@ -17,8 +17,8 @@ const ESC_DISPATCH: u64 = 8 << 32;
 /// The exclusive or of all numbers, and the sum of its values after each, which depends on the
 /// order.
 ///
-/// With a sum in the place of the exclusive or, LLVM would fold several events at once where it
-/// sees them together.
+/// With a sum in the place of the exclusive or, LLVM would fold several events at once if it sees
+/// them together.
 #[derive(Default)]
 pub struct Checksum {
     parity: u64,

@@ -53,8 +53,10 @@ static size_t filter(const uint8_t *bytes, size_t length) {
     vte_counts counts;
     size_t read = vte_feed(&parser, bytes, length, VTE_KIND(VTE_OSC), VTE_KIND(VTE_OSC), events,
                            VTE_MIN_EVENTS, data, sizeof data, &counts);
-    hold(bytes, read - counts.events);
-    if (counts.events > 0) {
+    /* The call stops after a command, so there is one or none: its last byte is its end. */
+    size_t ends = counts.events;
+    hold(bytes, read - ends);
+    if (ends) {
         uint8_t end = bytes[read - 1];
         if (is_clipboard(events, data)) end = drop(end);
         hold(&end, 1);

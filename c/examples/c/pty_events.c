@@ -15,7 +15,11 @@ int main(int argc, char **argv) {
     int terminal;
     ssize_t length;
     if (argc < 2) return 2;
-    if (forkpty(&terminal, NULL, NULL, NULL) == 0) {
+    switch (forkpty(&terminal, NULL, NULL, NULL)) {
+    case -1:
+        perror("forkpty");
+        return 1;
+    case 0:
         execvp(argv[1], argv + 1);
         _exit(127);
     }

@@ -34,7 +34,11 @@ int main(int argc, char **argv) {
                                         "unhook", "osc", "csi", "esc"};
     int terminal;
     if (argc < 2) return 2;
-    if (forkpty(&terminal, nullptr, nullptr, nullptr) == 0) {
+    switch (forkpty(&terminal, nullptr, nullptr, nullptr)) {
+    case -1:
+        std::perror("forkpty");
+        return 1;
+    case 0:
         execvp(argv[1], argv + 1);
         _exit(127);
     }

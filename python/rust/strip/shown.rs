@@ -40,7 +40,7 @@ impl<'a> ShownText<'a> {
         Ok(())
     }
 
-    pub fn all(self) -> Result<Cow<'a, [u8]>, Refused> {
+    pub fn into_text(self) -> Result<Cow<'a, [u8]>, Refused> {
         match self.is_refused {
             true => Err(Refused { read: 0 }),
             false if self.text.is_empty() => Ok(Cow::Borrowed(&self.source[..self.same])),
@@ -68,11 +68,11 @@ impl PerformText for ShownText<'_> {
 pub const END: &[u8] = b"\x1b";
 
 /// The text of a whole stream. Of the two parsers this one is made in less time.
-pub fn shown(source: &[u8]) -> Result<Cow<'_, [u8]>, Refused> {
+pub fn strip_stream(source: &[u8]) -> Result<Cow<'_, [u8]>, Refused> {
     let (mut parser, mut shown) = (LongParser::new(), ShownText::new(source));
     parser.advance_text(&mut shown, source)?;
     if parser.is_open() {
         parser.advance_text(&mut shown, END)?;
     }
-    shown.all()
+    shown.into_text()
 }

@@ -1,7 +1,7 @@
 //! A stripper between two chunks, and what it makes of malformed bytes.
 
 use super::shown::{ShownText, END};
-use crate::parser::Limited;
+use crate::parser::LimitedParser;
 use pyo3::exceptions::PyValueError;
 use pyo3::prelude::*;
 use std::borrow::Cow;
@@ -15,7 +15,7 @@ pub enum Errors {
 }
 
 impl Errors {
-    pub fn of(name: &str) -> PyResult<Self> {
+    pub fn from_name(name: &str) -> PyResult<Self> {
         match name {
             "replace" => Ok(Errors::Replace),
             "surrogateescape" => Ok(Errors::Escape),
@@ -33,7 +33,7 @@ impl Errors {
     }
 
     /// The errors of codecs between bytes and `str`: U+FFFD for each surrogate, or these bytes.
-    pub fn of_codecs(self) -> &'static str {
+    pub fn codec_errors(self) -> &'static str {
         match self {
             Errors::Replace => "vte.replace\0",
             Errors::Escape => "surrogateescape\0",
@@ -45,15 +45,15 @@ impl Errors {
 #[derive(Clone)]
 pub struct StripperState {
     pub errors: Errors,
-    pub parser: Limited,
+    pub parser: LimitedParser,
     // the bytes of an unfinished character, and how many: only if they may have to stay. Then the
     // parser hasn't read them
     pub held: ([u8; 3], usize),
 }
 
 impl StripperState {
-    pub fn start(errors: Errors) -> Self {
-        let (parser, held) = (Limited::new(), ([0; 3], 0));
+    pub fn new(errors: Errors) -> Self {
+        let (parser, held) = (LimitedParser::new(), ([0; 3], 0));
         StripperState {
             errors,
             parser,
@@ -87,9 +87,9 @@ impl StripperState {
         self.parser.advance_text(&mut shown, source);
         if ends {
             self.parser.advance_text(&mut shown, END);
-            *self = StripperState::start(self.errors);
+            *self = StripperState::new(self.errors);
         }
-        shown.all()
+        shown.into_text()
     }
 
     /// The text of bytes, with malformed ones as they are.
@@ -101,7 +101,7 @@ impl StripperState {
             match single.0 {
                 // a well-formed one comes in a run
                 Some(char::REPLACEMENT_CHARACTER) => {
-                    shown.add(malformed_end(&source[at..at + run.start]))
+                    shown.add(find_malformed_end(&source[at..at + run.start]))
                 }
                 Some(c) => shown.add(c.encode_utf8(&mut [0; 4]).as_bytes()),
                 None => {}
@@ -115,10 +115,10 @@ impl StripperState {
             (open, false) => self.hold(open),
             (open, true) => {
                 shown.add(open);
-                *self = StripperState::start(self.errors);
+                *self = StripperState::new(self.errors);
             }
         }
-        shown.all()
+        shown.into_text()
     }
 
     pub fn hold(&mut self, open: &[u8]) {
@@ -135,8 +135,8 @@ impl StripperState {
         }
         match single.0 {
             Some(_) => {
-                self.parser = Limited::new();
-                malformed_end(source)
+                self.parser = LimitedParser::new();
+                find_malformed_end(source)
             }
             None => &[],
         }
@@ -162,7 +162,7 @@ impl Perform for SingleCharacter {
 }
 
 /// The malformed bytes at the end: the front of a character, or one byte.
-fn malformed_end(bytes: &[u8]) -> &[u8] {
+fn find_malformed_end(bytes: &[u8]) -> &[u8] {
     let end = |count: usize| &bytes[bytes.len() - count..];
     let is_front = |count: &usize| match std::str::from_utf8(end(*count)) {
         Ok(_) => false,

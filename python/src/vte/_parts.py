@@ -34,7 +34,7 @@ def parts(source: Parted, size: int) -> Iterator[tuple[int, int]]:
     `Text` may also end where a part does. The calls of a `Processor` can't be divided so.
 
     A part has more than `size` bytes, and ends with the first ESC after these, with which the next
-    part starts. Where no ESC is near, a part is larger; without any, it is the whole stream.
+    part starts. If no ESC is near, a part is larger; without any, it is the whole stream.
 
     The source is a path, a file descriptor, a binary file with `seek` and `readinto`, or any object
     with a buffer, such as an `mmap`. Of a file, only the bytes are read from where a part may end

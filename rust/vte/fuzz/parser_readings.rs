@@ -4,7 +4,7 @@ use vte::{LongParser, Open, Parser, Perform, PerformText, Run, Taken};
 
 use crate::event_lines::{EventLines, Stop};
 
-/// So many data bytes of a command are kept where there is a limit.
+/// How many data bytes of a command are kept if there is a limit.
 const LIMIT: usize = 64;
 
 /// What both parsers do. Memory isn't refused here.

@@ -7,7 +7,7 @@ use vte::ansi::{Processor, Timeout};
 
 use crate::call_lines::{CallLines, Lent};
 
-/// So many data bytes of a command are kept where there is a limit.
+/// How many data bytes of a command are kept if there is a limit.
 const LIMIT: usize = 1024;
 const END_OF_UPDATE: &str = "unset_private_mode Named(SyncUpdate)";
 

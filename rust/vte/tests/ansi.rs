@@ -188,7 +188,7 @@ fn titles_around(limit: usize) -> [(String, bool, bool); 5] {
     ]
 }
 
-/// Asserts that a processor keeps so many data bytes, or if it isn't limited any number, and says
+/// Asserts that a processor keeps `$limit` data bytes, or if it isn't limited any number, and says
 /// what it loses: also in a copy, and not before the bytes are parsed.
 macro_rules! assert_keeps {
     ($limit:expr, $new:expr, $is_limited:expr) => {

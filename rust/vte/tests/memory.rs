@@ -35,7 +35,7 @@ const SEPARATORS: usize = 16;
 /// For how many bytes memory is allocated at once.
 const SLICE_SIZE: usize = 0x1_0000;
 
-/// A title of two pieces, of which the second has so many bytes, and what it shows.
+/// A title of two pieces, of which the second has `count` bytes, and what it shows.
 fn title(count: usize) -> (Vec<u8>, String) {
     let text = format!("a;{}", "b".repeat(count));
     (format!("\x1b]2;{text}\x07").into_bytes(), text)
@@ -202,7 +202,7 @@ fn a_long_processor_goes_on_after_a_refusal_between_slices() {
 fn a_long_processor_stops_with_the_memory_that_it_has() {
     for (advance, stop) in WAYS {
         let (mut processor, mut shown) = (long_processor(), Shown::with_room(4000));
-        // where nothing is held, it needs none
+        // if nothing is held, it needs none
         refused(|| stop(&mut processor, &mut shown));
         assert_eq!(shown.texts, "|");
         // a call that holds bytes back takes the memory that they need when they are parsed
@@ -223,7 +223,7 @@ fn a_long_processor_stops_with_the_memory_that_it_has() {
     }
 }
 
-/// Asserts that calls with reserved memory are refused none, also where a command is open.
+/// Asserts that calls with reserved memory are refused none, also if a command is open.
 macro_rules! assert_serves_calls {
     ($reader:expr, $start:expr) => {
         let (mut reader, mut shown, (title, _)) = ($reader, Shown::with_room(9000), title(3000));

@@ -14,7 +14,7 @@ const NO_RUN: &[u8] = b"\r\xff\x1b[1m\x1bP1q\x1b\\a";
 const UP_TO_RUN: &str = "execute 0d\nprint fffd\ncsi [1] - false 6d\nhook [1] - false 71\n\
     unhook\nesc - false 5c\n";
 
-/// The events up to the last of so many that aren't prints.
+/// The events up to the last of `stop` that aren't prints.
 fn up_to(stop: usize, events: &str) -> String {
     let mut others = 0;
     let is_before = |line: &&str| {

@@ -81,7 +81,7 @@ fn debug_shows_a_name() {
     }
 }
 
-/// Panics at the last of so many events.
+/// Panics at the last of this many events.
 struct Panics(usize);
 
 impl Panics {

@@ -54,7 +54,7 @@ CHECKED = 50_000
 
 
 class Programs:
-    """The programs, those in Rust in so many placements of their code, and a folder for streams."""
+    """The programs, those in Rust in `placements` of their code, and a folder for streams."""
 
     def __init__(self, folder, placements=1):
         self.folder = Path(folder)

@@ -71,7 +71,7 @@ def make_environment(folder, profile):
 
 
 def build_peers(is_ours, folder, profile, count):
-    """Builds bench/peer over the crate, or over ours, into a folder, without warnings: so many
+    """Builds bench/peer over the crate, or over ours, into a folder, without warnings: `count`
     times, each with its code at another place."""
     folder, crate = Path(folder), KEPT / f"peer_{profile}{'_ours' * is_ours}"
     source = f'path = "{OURS}"' if is_ours else 'version = "=0.15.0"'

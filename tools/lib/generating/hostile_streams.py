@@ -32,7 +32,7 @@ def join(*parts):
 
 
 def repeat(counts, part, between=b""):
-    """Returns a part so many times, as one of the counts says, and something between them."""
+    """Returns a part as often as one of the counts says, and something between them."""
     def make(chance):
         count = chance.choice(counts)
         parts = [part, between] * (count - 1) + [part] * (count > 0)

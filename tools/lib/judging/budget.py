@@ -7,7 +7,7 @@ from lib.judging.candidate import OutOfTime
 
 # the seconds after the end of the time in which what is found is tried once more, by trial
 GRACE = 3
-# a batch that takes so many seconds is followed by a smaller one, by trial: what differs is
+# a batch that takes this many seconds is followed by a smaller one, by trial: what differs is
 # reported after its batch
 LONG_BATCH = 2
 # how many differences are shrunk that turn out to be of a class that was found before, and for one

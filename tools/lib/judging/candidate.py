@@ -229,7 +229,7 @@ class Program:
 
 
 def measure_memory(process):
-    """Measures the bytes of memory that a process uses, where the system shows them in /proc."""
+    """Measures the bytes of memory that a process uses, if the system shows them in /proc."""
     try:
         with open(f"/proc/{process.pid}/statm", "rb") as file:
             return int(file.read().split()[1]) * os.sysconf("SC_PAGE_SIZE")

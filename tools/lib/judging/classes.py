@@ -9,7 +9,7 @@ from itertools import accumulate, chain
 from typing import NamedTuple
 
 from lib.generating.random_text import cut_at
-from lib.judging.definition import LOOKAHEAD, NEAR, Reader, steps_of
+from lib.judging.definition import LOOKAHEAD, NEAR, StepReader, steps_of
 from lib.judging.kinds import FAILURES, FIELDS, KINDS
 from lib.judging.rules import ALONE, CUT, MALFORMED, MUST, ORDER, RULES, find_most_special
 from lib.judging.shrinking import cuts_of
@@ -150,7 +150,7 @@ def find_kept_positions(text, rules, house):
     """Finds the positions of what is left of a text without what rules are about, in one pass: if
     something goes, only the last that was read before is read again, without what followed it."""
     # the reader has what stands at the positions `front`, and then all from `rest` on
-    reader, front, rest, read = Reader(text, house), [], 0, []
+    reader, front, rest, read = StepReader(text, house), [], 0, []
     while True:
         start, state = reader.position, reader.state
         steps = reader.read_next()
@@ -169,5 +169,5 @@ def find_kept_positions(text, rules, house):
         kept = [position for position, at in zip(positions, range(start, end)) if at not in dropped]
         front = [*chain.from_iterable(positions for positions, _ in again), *kept, *front[end:]]
         rest = after
-        reader = Reader("".join(map(text.__getitem__, front)) + text[rest:], house,
+        reader = StepReader("".join(map(text.__getitem__, front)) + text[rest:], house,
                         again[0][1] if again else state)

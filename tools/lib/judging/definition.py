@@ -23,7 +23,7 @@ SEGMENT = re.compile("[\xc2-\xdf][\x80-\xbf]?|[\xe1-\xec\xee\xef][\x80-\xbf]{0,2
 # before the name of a rule about a limit that isn't reached, but would be by a parser with a lower
 # one
 NEAR = "near:"
-# so many readings may have looked at a byte that comes after them: that of a character looks at
+# how many readings may have looked at a byte that comes after them: that of a character looks at
 # four bytes, and that of a sequence at two bytes after it
 LOOKAHEAD = 3
 
@@ -37,7 +37,7 @@ def lines_of(stream, house=DEFAULT):
 
 
 def steps_of(stream, house=DEFAULT):
-    return [step for steps in iter(Reader(stream.decode("latin-1"), house).read_next, [])
+    return [step for steps in iter(StepReader(stream.decode("latin-1"), house).read_next, [])
             for step in steps]
 
 
@@ -68,7 +68,7 @@ def hex_of(text):
     return text.encode("latin-1").hex() or "-"
 
 
-class Reader:
+class StepReader:
     """Reads the steps of a text: those of a character, of a sequence, of a string, or of a byte of
     a device control string at a time."""
 

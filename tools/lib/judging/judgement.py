@@ -121,7 +121,8 @@ class Judge:
         self.result.streams, self.result.different = 1, int(reference != answer)
         if reference != answer:
             case, difference = Case("--case", chunks), Difference(chunks, reference, answer, before)
-            if repeated := self.repeat_or_report(case, difference, MORE_TRIES):
+            repeated, _ = self.repeat_or_report(case, difference, MORE_TRIES)
+            if repeated:
                 self.add(self.find_class(repeated), repeated, case)
         return reference, answer
 
@@ -139,11 +140,12 @@ class Judge:
         self.examined = differing[0] if differing else None
         explained = self.find_explained([difference for _, difference in differing])
         for (case, difference), is_explained in zip(differing, explained):
-            before, self.examined = self.result.unexplained_count, (case, difference)
-            repeated = difference if is_explained else self.repeat_or_report(case, difference)
+            self.examined = case, difference
+            repeated, is_reported = (difference, False) if is_explained else (
+                self.repeat_or_report(case, difference))
             if repeated:
                 self.examine(case, repeated, is_explained)
-            elif self.result.unexplained_count == before:  # it was only slow
+            elif not is_reported:  # it was only slow
                 self.result.different -= 1
         self.examined = None
 
@@ -173,36 +175,47 @@ class Judge:
 
     def examine(self, case, difference, is_explained):
         """Counts a case that differs for a class: a new one if it differs without the rules of the
-        classes found so far, or in a kind for which its rules have no class yet."""
+        classes found so far, or in a kind for which its rules have no class yet. Otherwise for one
+        of the rule where it differs first."""
         if mark_of(difference.candidate) == PROTOCOL and self.result.count(PROTOCOL):
             return
-        before, excluded = self.result.unexplained_count, self.list_excluded()
-        rest = not is_explained and self.sides.find_rest_without(difference, excluded)
-        if rest and self.patience.is_left():
-            self.report_shrunk(case, rest, excluded)
+        if not is_explained and self.report_new(case, difference):
+            return
         rules = self.result.list_rules()
         positions = differences_of(difference.reference, difference.candidate) if rules else []
         signatures = [(*find_nearest(difference.chunks, position, rules, self.house), kind)
                       for position, kind in positions]
-        for rule, of_step, kind in signatures:
-            if self.result.unexplained_count < before:
-                return
-            # where several differences meet there is often another event, which says little
-            is_known = kind == "other" or f"{rule}/{kind}" in self.result.findings
-            if is_known or not self.patience.is_left_for(rule, kind):
-                continue
-            excluded = self.list_excluded(of_step)
-            if rest := self.sides.find_rest_without(difference, excluded, kind):
-                self.patience.tries[rule, kind] += 1
-                self.report_shrunk(case, rest, excluded, kind)
-        if signatures and self.result.unexplained_count == before:
-            rule, _, kind = signatures[0]
+        if any(self.report_new_kind(case, difference, *signature) for signature in signatures):
+            return
+        for rule, _, kind in signatures[:1]:
             names = (it.name for it in self.result.findings.values() if it.rule == rule)
             if not self.result.count(f"{rule}/{kind}"):
                 self.result.count(next(names, None))
 
+    def report_new(self, case, difference):
+        """Reports the class of a case that differs without the rules of the classes found so far.
+        Returns whether the case is counted for a class."""
+        excluded = self.list_excluded()
+        rest = self.sides.find_rest_without(difference, excluded)
+        is_left = rest and self.patience.is_left()
+        return is_left and self.report_shrunk(case, rest, excluded)
+
+    def report_new_kind(self, case, difference, rule, of_step, kind):
+        """The same for a case that differs in a kind for which a rule has no class yet. `of_step`
+        are the rules at work where it does."""
+        # if several differences meet, there is often another event, which says little
+        is_known = kind == "other" or f"{rule}/{kind}" in self.result.findings
+        if is_known or not self.patience.is_left_for(rule, kind):
+            return False
+        excluded = self.list_excluded(of_step)
+        rest = self.sides.find_rest_without(difference, excluded, kind)
+        if rest:
+            self.patience.tries[rule, kind] += 1
+        return rest and self.report_shrunk(case, rest, excluded, kind)
+
     def report_shrunk(self, case, rest, excluded, kind=None):
-        """Shrinks a difference without some rules, and reports its class if it is new."""
+        """Shrinks a difference without some rules, and reports its class if it is new. Returns
+        whether the case is counted for one."""
         most = (MAX_OVER_LIMIT if mark_of(rest.candidate) in LIMITS else
                 MAX_CASES // 4 if kind else MAX_CASES)
         tries = Tries(self.time, most)
@@ -217,15 +230,19 @@ class Judge:
             self.examined = case, difference or rest
         if self.time.is_over and not difference:
             raise OutOfTime
-        if not difference or is_mixed or not self.repeat_or_report(
-                case, difference, 1 if self.time.is_over else MORE_TRIES):
-            return
+        if not difference or is_mixed:
+            return False
+        repeated, is_reported = self.repeat_or_report(
+            case, difference, 1 if self.time.is_over else MORE_TRIES)
+        if not repeated:
+            return is_reported
         name = self.find_class(difference)
         name = self.find_same(name, difference) or name
         if self.result.count(name):
             self.patience.again += 1
         else:
             self.add(name, difference, case, is_smallest=tries.take_try())
+        return True
 
     def report_examined(self):
         """Reports the difference that there was no time to examine, if nothing was found or there
@@ -270,13 +287,13 @@ class Judge:
     # ---- what differs only at times
 
     def repeat_or_report(self, case, difference, tries=1):
-        """Returns the difference that a stream has alone, or None if it has none, and then reports
-        that its answer changes unless it was only slow."""
+        """Returns the difference that a stream has alone, or None if it has none, and then whether
+        it was reported that its answer changes: unless it was only slow."""
         repeated, other = self.repeat(difference, tries)
         if other is None:
-            return repeated
+            return repeated, False
         self.report_unrepeated(case, repeated, other)
-        return None
+        return None, True
 
     def repeat(self, difference, tries):
         """Asks about a stream again: alone, and each time in a new process. Returns the difference,

@@ -17,7 +17,7 @@ PLAIN = [("\x1a", "a\x0a\x07\x18"), ("\x1b", ""), ("\x1f", "a\x0a"), ("\x7e", "a
 
 def shrink(streams, ask, at_once=1):
     """Returns what is known of the smallest streams in a row, each in chunks, that were found to
-    differ. `ask` returns something of those that do; so many are tried at once."""
+    differ. `ask` returns something of those that do; `at_once` are tried at once."""
     answers = {}
 
     def answer(text):

@@ -20,8 +20,8 @@ use crate::proved::vte_core::{LongParser, Open, Perform, PerformText, Refused, R
 /// With the feature `std` it keeps all data bytes of an operating system command, and
 /// `OSC_RAW_BUF_SIZE` has no effect. The program ends if memory runs out, as for any `Vec`;
 /// [`LongParser`](crate::LongParser) returns an error instead, and
-/// [`BoundedParser`](crate::BoundedParser) keeps so many of these bytes, as this type does without
-/// the feature.
+/// [`BoundedParser`](crate::BoundedParser) keeps that many of these bytes, as this type does
+/// without the feature.
 #[derive(Clone)]
 pub struct Parser<const OSC_RAW_BUF_SIZE: usize = 1024>(LongParser);
 

@@ -18,7 +18,7 @@ pub enum Stop {
     AfterEscape,
     /// After each event, until `is_terminated` is set back.
     AfterEach,
-    /// Once so many events had no character to print.
+    /// Once this many events had no character to print.
     AfterOthers(usize),
 }
 

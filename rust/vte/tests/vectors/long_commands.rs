@@ -48,7 +48,7 @@ fn store(command: impl Into<Vec<u8>>, clipboard: u8, data: &[u8]) -> Case {
     case(command, |it| it.clipboard_store(clipboard, data))
 }
 
-/// Checks cases of commands with so many data bytes: ended by BEL, ST and CAN, between two
+/// Checks cases of commands with a number of data bytes: ended by BEL, ST and CAN, between two
 /// characters and before a short command; outside an update, in one that holds it, and in one that
 /// ends. The longest end by ST alone.
 fn check_counts(cases: impl Fn(usize) -> Vec<Case>) {

@@ -16,13 +16,13 @@ LONG_CASES = [case._replace(chunks=[case.chunks[0][:10_000] + case.chunks[0][-10
 
 
 def limit_readings(monkeypatch, most):
-    """Lets readers of the definition read so many times."""
-    left, read_next = iter(range(most)), definition.Reader.read_next
+    """Lets readings by the definition take `most` steps."""
+    left, read_next = iter(range(most)), definition.StepReader.read_next
 
     def read_counted(reader):
         assert next(left, None) is not None, "too many readings"
         return read_next(reader)
-    monkeypatch.setattr(definition.Reader, "read_next", read_counted)
+    monkeypatch.setattr(definition.StepReader, "read_next", read_counted)
 
 
 # what is left of a long stream may be about its rules again, byte after byte
@@ -55,7 +55,7 @@ def test_long_streams_are_judged_to_the_end(monkeypatch, fault, left_out, found)
 # ---- slow programs, by a clock that the test holds
 
 class SlowSide(Side):
-    """A side whose clock goes on by so many seconds for a byte. It is the clock, too."""
+    """A side whose clock goes on by `seconds` for a byte. It is the clock, too."""
 
     def __init__(self, monkeypatch, answer, seconds, deadline=None, timeout=10):
         super().__init__(answer)
@@ -87,7 +87,7 @@ def test_long_batches_are_followed_by_smaller_ones(monkeypatch, seconds, sizes, 
     assert bool(result.ended_early) == bool(left)
 
 
-# a stream, of which a program that takes so many seconds for a byte forgets all lines but 27, how
+# a stream, of which a program that takes some seconds for a byte forgets all lines but 27, how
 # often it comes, and the class that is reported for it when the time is over
 @pytest.mark.parametrize("stream, seconds, count, name", [
     (b"a" * 40, 0.3, 40, "text/hang"), (b"\x1b[" + b"1;" * 20 + b"m", 0.3, 40, "numbers/hang"),

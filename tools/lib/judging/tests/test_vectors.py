@@ -33,7 +33,7 @@ def test_ids_stay_and_differ():
 
 @each_file
 def test_heads_follow_from_vectors(file):
-    """Where a head is wrong, this prints the right one."""
+    """If a head is wrong, this prints the right one."""
     for vector in file["vectors"] + file["long"]:
         head = head_of(vector, file["rules"])
         assert {name: vector.get(name) for name in head} == head, (

@@ -8,7 +8,7 @@ use Rattle.vte.specs.declared.ansi.calls.joined_text.TheConstants.{TEXT_CAPACITY
 use Rattle.vte.specs.declared.ansi.long_processor.LongProcessor.{LongProcessor}
 use Rattle.vte.specs.declared.ansi.processor.Processor.{Processor}
 use Rattle.vte.specs.declared.ansi.updates.engine.Engine.{Engine}
-use Rattle.vte.specs.declared.ansi.updates.hold.Hold.{Hold}
+use Rattle.vte.specs.declared.ansi.updates.hold.SyncState.{SyncState}
 use Rattle.vte.specs.Memory.{HasTextMemory}
 use Rattle.vte.specs.Views.{engine_view, EngineView, limited_engine_view, long_parser_view}
 use Rattle.vte_core.specs.Stream.{events}
@@ -36,7 +36,7 @@ ContinuesAs {W} processor other = (parsed held : List ℕ) (timeout : W)
 -- ---- made of an engine
 
 -- The held bytes. Those before them in the buffer were released by the last turn.
-abbrev pub held_of : {A : Type 0} → Hold A → List ℕ
+abbrev pub held_of : {A : Type 0} → SyncState A → List ℕ
 held_of hold = drop hold.released hold.bytes.items
 
 -- The engine has parsed bytes, and holds those that follow. It knows the last printed character,

@@ -1,12 +1,12 @@
 -- The bytes of a hold.
 use Rattle.std.specs.Prelude.{drop, eqb, false, length, List, None, Option, slice_index, Some, take, ℕ, ◌&&◌, ◌++◌, ◌+◌, ◌-◌, ◌<◌, ◌≡◌, ◌≤◌}
-use Rattle.vte.specs.declared.ansi.updates.hold.Hold.{Hold}
+use Rattle.vte.specs.declared.ansi.updates.hold.SyncState.{SyncState}
 use Rattle.vte.specs.declared.ansi.updates.release.Release.{Release}
 use Rattle.vte.specs.ProcessorFacts.{held_of}
 use Rattle.vte.specs.Synchronized.{after_last_end, begin_update, begins_ending_in_last, end_update, from_begin_update, is_prefix_of, part_after_last_end}
 
 -- The bytes before the held ones, which the last turn released.
-abbrev pub released_of : {A : Type 0} → Hold A → List ℕ
+abbrev pub released_of : {A : Type 0} → SyncState A → List ℕ
 released_of hold = take hold.released hold.bytes.items
 
 -- What stays held: all bytes or, if there is an end-update, those after the last one, from the
@@ -30,7 +30,7 @@ pub record FindsRelease (bytes : List ℕ) (new : ℕ) (release : Release) : Typ
   pub released : release.released ≡ length bytes - length (still_held bytes)
 
 -- Bytes were added to those that were held.
-pub record AddsToHold {A : Type 0} (held more : List ℕ) (hold : Hold A)
+pub record AddsToHold {A : Type 0} (held more : List ℕ) (hold : SyncState A)
     (begin_count : ℕ) : Type 0 where
   pub held_is : held_of hold ≡ still_held (held ++ more)
   pub released_is : released_of hold

@@ -5,7 +5,7 @@ use Rattle.vte.proofs.Common.{AddsToHold, after_last_end, ap, arith, Engine, eng
 use Rattle.vte.proofs.lemmas.turns.Slices.{parse-nothing}
 use Rattle.vte.proofs.lemmas.turns.TurnKinds.{hold_turn-all, hold_turn-rest}
 use Rattle.vte.proofs.lemmas.updates.Sequences.{cases_Option, stays_held, suffix-length}
-use Rattle.vte.specs.declared.ansi.updates.hold.Hold.{Hold}
+use Rattle.vte.specs.declared.ansi.updates.hold.SyncState.{SyncState}
 
 module _ {V W : Type 0} (meaning : Meaning V W) where
   abbrev cut : State V W → List ℕ → State V W
@@ -40,7 +40,7 @@ module _ {V W : Type 0} (meaning : Meaning V W) where
 
 -- The hold has the new bytes, and the timeout was set as often as they begin updates.
 module _ {P B T A V W : Type 0} {view : EngineView P B T W} (meaning : Meaning V W) {state : State V W} {more : List ℕ}
-    {old : Engine P B T A} {hold : Hold A} {timeout : T} {begin_count : ℕ} {value : V}
+    {old : Engine P B T A} {hold : SyncState A} {timeout : T} {begin_count : ℕ} {value : V}
     (is_at : EngineIsAt view old value state) (added : AddsToHold state.held more hold begin_count)
     (is_set : view.timeout_of timeout ≡ timeout_set_times meaning.timeout begin_count
     (view.timeout_of old.state.timeout))

@@ -13,7 +13,7 @@ ghost use Rattle.vte_handler.specs.Timeout.{timeout_meaning};
 use crate::ansi::calls::performer::ProcessorState;
 use crate::ansi::calls::text_buffer::TextBuffer;
 use crate::ansi::updates::UPDATE_TIMEOUT_MILLIS;
-use crate::ansi::updates::hold::{Hold, MAX_HELD};
+use crate::ansi::updates::hold::{MAX_HELD, SyncState};
 use crate::ansi::updates::parsing::{EventParser, ParseAs, parse_all, parse_until_begin};
 use std::alloc::Allocator;
 use std::time::Duration;
@@ -30,7 +30,7 @@ const SLICE_SIZE: usize = 65_536;
 #[derive(Clone, Drop)]
 pub(crate) struct Engine<P: Drop, B: Drop, T: Drop, A: Allocator> {
     pub(crate) parser: P,
-    pub(crate) hold: Hold<A>,
+    pub(crate) hold: SyncState<A>,
     pub(crate) state: ProcessorState<T, B>,
 }
 
@@ -51,7 +51,7 @@ impl<P: EventParser + Drop, B: TextBuffer + Drop, T: Timeout + Drop, A: Allocato
         ensures text { IfOk result (λ engine. engine.state.text ≡ text) }
     {
         laws::empty_stream();
-        match Hold::new(alloc) {
+        match SyncState::new(alloc) {
             Ok(hold) => Ok(Engine {
                 parser,
                 hold,

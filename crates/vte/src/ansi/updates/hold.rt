@@ -16,7 +16,7 @@ pub(crate) const MAX_HELD: usize = CAPACITY - 2;
 
 /// The bytes that were released last, and after them the held bytes, in which no update ends.
 #[derive(Drop)]
-pub(crate) struct Hold<A: Allocator> {
+pub(crate) struct SyncState<A: Allocator> {
     bytes: Vec<u8, A>,
     released: usize,
     ghost within: { released ≤ length bytes.items },
@@ -27,7 +27,7 @@ pub(crate) struct Hold<A: Allocator> {
     ghost capacity: { CAPACITY ≤ vec_capacity bytes },
 }
 
-impl<A: Allocator + Clone> Clone for Hold<A> {
+impl<A: Allocator + Clone> Clone for SyncState<A> {
     ghost use Rattle.vte.specs.ProcessorFacts.{held_of};
 
     ghost is_clone = { λ hold clone. held_of clone ≡ held_of hold };
@@ -37,11 +37,11 @@ impl<A: Allocator + Clone> Clone for Hold<A> {
         // A clone has as much memory.
         bytes.reserve(self.bytes.capacity() - bytes.len())?;
         let released = self.released;
-        Ok(Hold { bytes, released })
+        Ok(SyncState { bytes, released })
     }
 }
 
-impl<A: Allocator> Hold<A> {
+impl<A: Allocator> SyncState<A> {
     ghost use Rattle.vte.specs.private.Hold.{AddsToHold, released_of};
     ghost use Rattle.vte.specs.ProcessorCalls.{CountsHeld};
     ghost use Rattle.vte.specs.ProcessorFacts.{held_of};
@@ -51,7 +51,7 @@ impl<A: Allocator> Hold<A> {
         ensures { IfOk result (λ hold. held_of hold ≡ []) }
     {
         let bytes = Vec::with_capacity(alloc, CAPACITY)?;
-        Ok(Hold { bytes, released: 0 })
+        Ok(SyncState { bytes, released: 0 })
     }
 
     /// Returns the number of held bytes.

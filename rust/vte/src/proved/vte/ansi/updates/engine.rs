@@ -4,7 +4,7 @@
 
 use crate::proved::vte::ansi::calls::performer::ProcessorState;
 use crate::proved::vte::ansi::calls::text_buffer::TextBuffer;
-use crate::proved::vte::ansi::updates::hold::{Hold, MAX_HELD};
+use crate::proved::vte::ansi::updates::hold::{SyncState, MAX_HELD};
 use crate::proved::vte::ansi::updates::parsing::{
     parse_all, parse_until_begin, EventParser, ParseAs,
 };
@@ -23,7 +23,7 @@ const SLICE_SIZE: usize = 65_536;
 #[derive(Clone)]
 pub(crate) struct Engine<P, B, T> {
     pub(crate) parser: P,
-    pub(crate) hold: Hold,
+    pub(crate) hold: SyncState,
     pub(crate) state: ProcessorState<T, B>,
 }
 
@@ -31,7 +31,7 @@ impl<P: EventParser, B: TextBuffer, T: Timeout> Engine<P, B, T> {
     /// Creates an engine of a parser that has read nothing, with memory for a hold. Returns the
     /// timeout if memory runs out.
     pub(crate) fn new(parser: P, text: B, timeout: T) -> Result<Self, T> {
-        match Hold::new() {
+        match SyncState::new() {
             Ok(hold) => Ok(Engine {
                 parser,
                 hold,

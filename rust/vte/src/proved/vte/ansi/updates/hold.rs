@@ -12,17 +12,17 @@ pub(crate) const MAX_HELD: usize = CAPACITY - 2;
 
 /// The bytes that were released last, and after them the held bytes, in which no update ends.
 #[derive(Clone)]
-pub(crate) struct Hold {
+pub(crate) struct SyncState {
     bytes: Vec<u8>,
     released: usize,
 }
 
-impl Hold {
+impl SyncState {
     /// Allocates the memory.
     #[inline]
     pub(crate) fn new() -> Result<Self, AllocError> {
         let bytes = Vec::with_capacity(CAPACITY)?;
-        Ok(Hold { bytes, released: 0 })
+        Ok(SyncState { bytes, released: 0 })
     }
 
     /// Returns the number of held bytes.

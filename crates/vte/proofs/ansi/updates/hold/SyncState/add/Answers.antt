@@ -1,6 +1,6 @@
 -- The older bytes have no end of an update, so the search over the last seven of them and the new ones finds what the
 -- whole hold has (`find_release`).
-use Rattle.vte.proofs.ansi.updates.hold.Hold.add.Goals as goal
+use Rattle.vte.proofs.ansi.updates.hold.SyncState.add.Goals as goal
 use Rattle.vte.proofs.Common.{ap, arith, drop, FindsRelease, held_of, IsHeldTail, length, length-append, length-drop, List, refl, rules, take, take_all, ℕ, ◌++◌, ◌-◌, ◌∙◌, ◌≡◌}
 use Rattle.vte.proofs.lemmas.updates.Sequences.{stays-is, stays_held}
 

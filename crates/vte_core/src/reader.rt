@@ -170,7 +170,7 @@ fn take_run(bytes: &[u8], range: RunRange) -> Run<'_>
         // cargo: // SAFETY: this is what the caller promises.
         RunKind::Text => Taken::Text(text_between(bytes, range.start, range.end)),
         RunKind::Data => Taken::Data(data_between(bytes, range.start, range.end)),
-        RunKind::NoRun => Taken::Nothing,
+        RunKind::Nothing => Taken::Nothing,
     };
     Run {
         start: range.start,

@@ -7,7 +7,7 @@ use Rattle.vte_core.specs.declared.parser.refused.Refused.{Refused}
 use Rattle.vte_core.specs.declared.parser.State.{State}
 use Rattle.vte_core.specs.declared.parser.State.TheVariants.{DeviceData, Text}
 use Rattle.vte_core.specs.declared.reader.run.RunKind.{RunKind}
-use Rattle.vte_core.specs.declared.reader.run.RunKind.TheVariants.{Data as DataKind, NoRun, Text as TextKind}
+use Rattle.vte_core.specs.declared.reader.run.RunKind.TheVariants.{Data as DataKind, Nothing as NoKind, Text as TextKind}
 use Rattle.vte_core.specs.declared.reader.run.RunRange.{RunRange}
 use Rattle.vte_core.specs.declared.reader.run.Taken.{Taken}
 use Rattle.vte_core.specs.declared.reader.run.Taken.TheVariants.{Data, Nothing, Text as TakenText}
@@ -44,14 +44,14 @@ AreOfKind _ bytes = ⊤
 abbrev pub IsTaken : RunKind → List ℕ → Taken → Type 0
 IsTaken TextKind bytes (TakenText text) = text.now ≡ bytes
 IsTaken DataKind bytes (Data slice) = slice.now ≡ bytes
-IsTaken NoRun bytes Nothing = ⊤
+IsTaken NoKind bytes Nothing = ⊤
 IsTaken _ bytes _ = ⊥
 
 -- What the bytes of a run add to a stream.
 abbrev pub kind_events : RunKind → List ℕ → List Event
 kind_events TextKind bytes = map Print (chars bytes)
 kind_events DataKind bytes = map Put bytes
-kind_events NoRun bytes = []
+kind_events NoKind bytes = []
 
 -- Nothing of the kind is where the run ends. A run isn't empty.
 abbrev pub IsWholeAt : List ℕ → RunRange → RunKind → Type 0
@@ -59,7 +59,7 @@ IsWholeAt bytes range TextKind = (range.start < range.end) × HasNoRunAt false b
 IsWholeAt bytes range DataKind =
     (range.start < range.end) × (range.end < length bytes
     → IsDeviceData (slice_index bytes range.end) → ⊥)
-IsWholeAt bytes range NoRun = range.start ≡ range.end
+IsWholeAt bytes range NoKind = range.start ≡ range.end
 
 -- A run is there, adds its events to what the parser has read, and leaves the parser as it is.
 pub record HasRun {B : Type 0} (limit : Option ℕ) (bytes : List ℕ) (range : RunRange)

@@ -175,15 +175,15 @@ impl<B: Buffer> Machine<B> {
         performer: &mut P,
         head: HeadEnd,
         joined: bool,
-        byte: u8,
+        final_byte: u8,
     ) -> usize
-        requires final_byte { is_final (class_of byte) ≡ true }
+        requires final_byte { is_final (class_of final_byte) ≡ true }
         requires joined { self.old.collected.joined ≡ joined }
         requires no_overflow { head.position + 1 < 2 ^ 64 }
         ensures value { result ≡ head.position + 1 }
         ensures takes { (bytes : List ℕ) → HasReadHead self.old.collected head.progress bytes
             → TakesByte P.step (P.value_of performer.old) (P.value_of performer.new) B.limit
-            (InControlSequence bytes) byte self.new }
+            (InControlSequence bytes) final_byte self.new }
         ensures handles { HandlesByteWithin 1 self.old self.new reader.old reader.new }
     {
         if let HeadProgress::IllShaped = head.progress {
@@ -191,7 +191,7 @@ impl<B: Buffer> Machine<B> {
             return head.position + 1;
         }
         let ignore = self.collected.end_head(joined);
-        self.dispatch_control_sequence(reader, performer, ignore, byte, head.position)
+        self.dispatch_control_sequence(reader, performer, ignore, final_byte, head.position)
     }
 
     /// Dispatches a control sequence at its final byte, and returns the next position, so that
@@ -202,17 +202,17 @@ impl<B: Buffer> Machine<B> {
         reader: &mut Reader,
         performer: &mut P,
         ignore: bool,
-        byte: u8,
+        final_byte: u8,
         position: usize,
     ) -> usize
         requires no_overflow { position + 1 < 2 ^ 64 }
         ensures value { result ≡ position + 1 }
         ensures dispatches { Dispatches P.step (P.value_of performer.old) (P.value_of performer.new)
             (CsiDispatch self.old.collected.params self.old.collected.intermediates.items ignore
-            byte) self.old self.new reader.old reader.new }
+            final_byte) self.old self.new reader.old reader.new }
     {
         self.state = State::Text(Unfinished::Empty);
-        performer.csi_dispatch(reader, &self.collected, ignore, byte);
+        performer.csi_dispatch(reader, &self.collected, ignore, final_byte);
         position + 1
     }
 }

@@ -51,12 +51,12 @@ impl<B: Buffer> Machine<B> {
         reader: &mut Reader,
         performer: &mut P,
         reached: HeadProgress,
-        byte: u8,
+        final_byte: u8,
     )
-        requires { is_final (class_of byte) ≡ true }
+        requires { is_final (class_of final_byte) ≡ true }
         ensures takes { (head : List ℕ) → HasReadHead self.old.collected reached head
             → TakesByte P.step (P.value_of performer.old) (P.value_of performer.new) B.limit
-            (InDeviceControl head) byte self.new }
+            (InDeviceControl head) final_byte self.new }
         ensures handles { HandlesByteWithin 1 self.old self.new reader.old reader.new }
     {
         if let HeadProgress::IllShaped = reached {
@@ -65,7 +65,7 @@ impl<B: Buffer> Machine<B> {
         }
         let joined = self.collected.joined;
         let ignore = self.collected.end_head(joined);
-        performer.hook(reader, &self.collected, ignore, byte);
+        performer.hook(reader, &self.collected, ignore, final_byte);
         self.state = State::DeviceData;
     }
 

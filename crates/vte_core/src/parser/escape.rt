@@ -191,14 +191,14 @@ impl<B: Buffer> Machine<B> {
         &mut self,
         reader: &mut Reader,
         performer: &mut P,
-        byte: u8,
+        final_byte: u8,
     )
         ensures { Dispatches P.step (P.value_of performer.old) (P.value_of performer.new)
             (EscDispatch self.old.collected.intermediates.items
-            self.old.collected.too_many_intermediates byte)
+            self.old.collected.too_many_intermediates final_byte)
             self.old self.new reader.old reader.new }
     {
-        performer.esc_dispatch(reader, &self.collected, byte);
+        performer.esc_dispatch(reader, &self.collected, final_byte);
         self.state = State::Text(Unfinished::Empty);
     }
 }

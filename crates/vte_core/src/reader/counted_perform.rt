@@ -44,10 +44,10 @@ pub(crate) trait CountedPerform<G: Granularity> {
             (Execute byte) reader.old reader.new };
 
     /// Reports that a device control string begins, with the final byte of its head.
-    fn hook(&mut self, reader: &mut Reader, collected: &CollectedHead, ignore: bool, byte: u8)
+    fn hook(&mut self, reader: &mut Reader, collected: &CollectedHead, ignore: bool, final_byte: u8)
         ensures { Reports step (value_of self.old) (value_of self.new)
-            (Hook collected.now.params collected.now.intermediates.items ignore byte) reader.old
-            reader.new };
+            (Hook collected.now.params collected.now.intermediates.items ignore final_byte)
+            reader.old reader.new };
 
     /// Reports a data byte of the device control string.
     fn put_byte(&mut self, reader: &mut Reader, byte: u8)
@@ -67,9 +67,10 @@ pub(crate) trait CountedPerform<G: Granularity> {
             reader.old reader.new };
 
     /// Reports an operating system command.
-    fn osc_dispatch(&mut self, reader: &mut Reader, pieces: &[&[u8]], bell: bool)
+    fn osc_dispatch(&mut self, reader: &mut Reader, pieces: &[&[u8]], bell_terminated: bool)
         ensures { Reports step (value_of self.old) (value_of self.new)
-            (OscDispatch (map (λ piece. piece.now) pieces.now) bell) reader.old reader.new };
+            (OscDispatch (map (λ piece. piece.now) pieces.now) bell_terminated)
+            reader.old reader.new };
 
     /// Reports a control sequence with this final byte.
     fn csi_dispatch(
@@ -77,18 +78,17 @@ pub(crate) trait CountedPerform<G: Granularity> {
         reader: &mut Reader,
         collected: &CollectedHead,
         ignore: bool,
-        byte: u8,
+        final_byte: u8,
     )
         ensures { Reports step (value_of self.old) (value_of self.new)
-            (CsiDispatch collected.now.params collected.now.intermediates.items ignore byte)
+            (CsiDispatch collected.now.params collected.now.intermediates.items ignore final_byte)
             reader.old reader.new };
 
     /// Reports an escape sequence with this final byte.
-    fn esc_dispatch(&mut self, reader: &mut Reader, collected: &CollectedHead, byte: u8)
+    fn esc_dispatch(&mut self, reader: &mut Reader, collected: &CollectedHead, final_byte: u8)
         ensures { Reports step (value_of self.old) (value_of self.new)
             (EscDispatch collected.now.intermediates.items collected.now.too_many_intermediates
-            byte)
-            reader.old reader.new };
+            final_byte) reader.old reader.new };
 
     /// Returns whether a call that may stop ends here. The question takes no look.
     fn terminated(&self) -> bool
@@ -130,9 +130,9 @@ impl<P: ReceiveAs<G>, G: Granularity> CountedPerform<G> for P {
     }
 
     #[inline(always)]
-    fn hook(&mut self, reader: &mut Reader, collected: &CollectedHead, ignore: bool, byte: u8) {
+    fn hook(&mut self, reader: &mut Reader, collected: &CollectedHead, ignore: bool, final_byte: u8) {
         reader.count_looks(1);
-        let (intermediates, action) = (collected.intermediates.as_slice(), char::from(byte));
+        let (intermediates, action) = (collected.intermediates.as_slice(), char::from(final_byte));
         Perform::hook(self, &collected.params, intermediates, ignore, action);
     }
 
@@ -155,9 +155,9 @@ impl<P: ReceiveAs<G>, G: Granularity> CountedPerform<G> for P {
     }
 
     #[inline(always)]
-    fn osc_dispatch(&mut self, reader: &mut Reader, pieces: &[&[u8]], bell: bool) {
+    fn osc_dispatch(&mut self, reader: &mut Reader, pieces: &[&[u8]], bell_terminated: bool) {
         reader.count_looks(1);
-        Perform::osc_dispatch(self, pieces, bell);
+        Perform::osc_dispatch(self, pieces, bell_terminated);
     }
 
     #[inline(always)]
@@ -166,18 +166,18 @@ impl<P: ReceiveAs<G>, G: Granularity> CountedPerform<G> for P {
         reader: &mut Reader,
         collected: &CollectedHead,
         ignore: bool,
-        byte: u8,
+        final_byte: u8,
     ) {
         reader.count_looks(1);
-        let (intermediates, action) = (collected.intermediates.as_slice(), char::from(byte));
+        let (intermediates, action) = (collected.intermediates.as_slice(), char::from(final_byte));
         Perform::csi_dispatch(self, &collected.params, intermediates, ignore, action);
     }
 
     #[inline(always)]
-    fn esc_dispatch(&mut self, reader: &mut Reader, collected: &CollectedHead, byte: u8) {
+    fn esc_dispatch(&mut self, reader: &mut Reader, collected: &CollectedHead, final_byte: u8) {
         reader.count_looks(1);
         let intermediates = collected.intermediates.as_slice();
-        Perform::esc_dispatch(self, intermediates, collected.too_many_intermediates, byte);
+        Perform::esc_dispatch(self, intermediates, collected.too_many_intermediates, final_byte);
     }
 
     #[inline(always)]

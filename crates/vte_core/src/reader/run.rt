@@ -32,7 +32,7 @@ pub(crate) enum RunKind {
     /// Data of a device control string.
     Data,
     /// No run: the call ends there.
-    NoRun,
+    Nothing,
 }
 
 /// The position of a run in the bytes of a call.
@@ -48,12 +48,12 @@ impl RunRange {
     pub(crate) fn empty(end: usize) -> Self
         ensures start { result.start ≡ end }
         ensures end { result.end ≡ end }
-        ensures kind { result.kind ≡ RunKind.NoRun }
+        ensures kind { result.kind ≡ RunKind.Nothing }
     {
         RunRange {
             start: end,
             end,
-            kind: RunKind::NoRun,
+            kind: RunKind::Nothing,
         }
     }
 }

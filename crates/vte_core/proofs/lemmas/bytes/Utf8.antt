@@ -74,24 +74,24 @@ rows_after_bytes-append (b ∷ bytes) more rows = rows_after_bytes-append bytes 
 
 -- ---- the two tests of what is left
 
--- Some row wants nothing more.
-abbrev pub some_whole : List (List Range) → Bool
-some_whole rows = list_any is_complete rows
+-- Some row wants nothing more: the bytes are complete.
+abbrev pub some_complete : List (List Range) → Bool
+some_complete rows = list_any is_complete rows
 
--- Some row wants more.
-abbrev pub some_open : List (List Range) → Bool
-some_open rows = list_any (λ row. not (is_complete row)) rows
+-- Some row wants more: the bytes are truncated.
+abbrev pub some_truncated : List (List Range) → Bool
+some_truncated rows = list_any (λ row. not (is_complete row)) rows
 
-pub whole_not_open : (rows : List (List Range)) → AtMostOne rows → some_whole rows ≡ true → some_open rows ≡ false
-whole_not_open rows one whole = search (rules, arith)
+pub complete_not_truncated : (rows : List (List Range)) → AtMostOne rows → some_complete rows ≡ true → some_truncated rows ≡ false
+complete_not_truncated rows one whole = search (rules, arith)
 
-pub open_not_whole : (rows : List (List Range)) → AtMostOne rows → some_open rows ≡ true → some_whole rows ≡ false
-open_not_whole rows one more = search (rules, arith)
+pub truncated_not_complete : (rows : List (List Range)) → AtMostOne rows → some_truncated rows ≡ true → some_complete rows ≡ false
+truncated_not_complete rows one more = search (rules, arith)
 
-pub neither_whole_nor_open : (rows : List (List Range)) → some_whole rows ≡ false → some_open rows ≡ false → rows ≡ []
-neither_whole_nor_open [] whole more = refl
-neither_whole_nor_open ([] ∷ rows) whole more = cc
-neither_whole_nor_open ((range ∷ ranges) ∷ rows) whole more = cc
+pub neither_complete_nor_truncated : (rows : List (List Range)) → some_complete rows ≡ false → some_truncated rows ≡ false → rows ≡ []
+neither_complete_nor_truncated [] whole more = refl
+neither_complete_nor_truncated ([] ∷ rows) whole more = cc
+neither_complete_nor_truncated ((range ∷ ranges) ∷ rows) whole more = cc
 
 -- ---- how many bytes the rows allow
 
@@ -121,7 +121,7 @@ allowed_length-more rows b bytes has_row = search (rules, arith)
 
 -- A sequence is allowed whole, and nothing after it.
 pub allowed_length-whole : (rows : List (List Range)) (bytes following : List ℕ) → AtMostOne rows
-    → some_whole (rows_after_bytes bytes rows) ≡ true
+    → some_complete (rows_after_bytes bytes rows) ≡ true
     → allowed_length rows (bytes ++ following) ≡ length bytes
 allowed_length-whole rows [] [] one whole = refl
 allowed_length-whole [] [] (c ∷ following) one whole = refl
@@ -129,24 +129,24 @@ allowed_length-whole ([] ∷ []) [] (c ∷ following) one whole = refl
 allowed_length-whole ((range ∷ ranges) ∷ []) [] (c ∷ following) one whole = cc
 allowed_length-whole (row ∷ next ∷ rows) [] (c ∷ following) one whole = absurd one
 allowed_length-whole rows (b ∷ bytes) following one whole =
-    allowed_length-more rows b (bytes ++ following) (some_left some_whole refl bytes _ whole)
+    allowed_length-more rows b (bytes ++ following) (some_left some_complete refl bytes _ whole)
     ∙ ap suc (allowed_length-whole (rows_after_byte b rows) bytes following (AtMostOne-next b rows one) whole)
 
 -- A truncated sequence is allowed whole, and nothing after it that no row wants there.
 pub allowed_length-broken : (rows : List (List Range)) (bytes : List ℕ) (b : ℕ) (following : List ℕ)
-    → some_open (rows_after_bytes bytes rows) ≡ true
+    → some_truncated (rows_after_bytes bytes rows) ≡ true
     → rows_after_byte b (rows_after_bytes bytes rows) ≡ [] → allowed_length rows (bytes ++ b ∷ following) ≡ length bytes
 allowed_length-broken rows [] b following more no_row = rw (no_row, allowed_length)
 allowed_length-broken rows (c ∷ bytes) b following more no_row =
-    allowed_length-more rows c (bytes ++ b ∷ following) (some_left some_open refl bytes _ more)
+    allowed_length-more rows c (bytes ++ b ∷ following) (some_left some_truncated refl bytes _ more)
     ∙ ap suc (allowed_length-broken (rows_after_byte c rows) bytes b following more no_row)
 
 -- A truncated sequence at the end is allowed whole.
-pub allowed_length-end : (rows : List (List Range)) (bytes : List ℕ) → some_open (rows_after_bytes bytes rows) ≡ true
+pub allowed_length-end : (rows : List (List Range)) (bytes : List ℕ) → some_truncated (rows_after_bytes bytes rows) ≡ true
     → allowed_length rows bytes ≡ length bytes
 allowed_length-end rows [] more = refl
 allowed_length-end rows (c ∷ bytes) more =
-    allowed_length-more rows c bytes (some_left some_open refl bytes _ more)
+    allowed_length-more rows c bytes (some_left some_truncated refl bytes _ more)
     ∙ ap suc (allowed_length-end (rows_after_byte c rows) bytes more)
 
 -- ---- the range of a second byte, and the first bytes after which no row is left, by the nine rows
@@ -211,20 +211,20 @@ fits_prefix [] bytes = false
 fits_prefix (range ∷ ranges) [] = true
 fits_prefix (range ∷ ranges) (b ∷ bytes) = is_in range b && fits_prefix ranges bytes
 
-some_whole-row : (ranges : List Range) (bytes : List ℕ)
-    → some_whole (rows_after_bytes bytes (ranges ∷ [])) ≡ fits ranges bytes
-some_whole-row [] [] = refl
-some_whole-row [] (b ∷ bytes) = ap some_whole (rows_after_bytes-none bytes)
-some_whole-row (range ∷ ranges) [] = refl
-some_whole-row (range ∷ ranges) (b ∷ bytes) =
-    search (rules, arith, (some_whole-row ranges bytes), rows_after_bytes-none)
+some_complete-row : (ranges : List Range) (bytes : List ℕ)
+    → some_complete (rows_after_bytes bytes (ranges ∷ [])) ≡ fits ranges bytes
+some_complete-row [] [] = refl
+some_complete-row [] (b ∷ bytes) = ap some_complete (rows_after_bytes-none bytes)
+some_complete-row (range ∷ ranges) [] = refl
+some_complete-row (range ∷ ranges) (b ∷ bytes) =
+    search (rules, arith, (some_complete-row ranges bytes), rows_after_bytes-none)
 
-some_open-row : (ranges : List Range) (bytes : List ℕ)
-    → some_open (rows_after_bytes bytes (ranges ∷ [])) ≡ fits_prefix ranges bytes
-some_open-row [] [] = refl
-some_open-row [] (b ∷ bytes) = ap some_open (rows_after_bytes-none bytes)
-some_open-row (range ∷ ranges) [] = refl
-some_open-row (range ∷ ranges) (b ∷ bytes) = search (rules, arith, (some_open-row ranges bytes), rows_after_bytes-none)
+some_truncated-row : (ranges : List Range) (bytes : List ℕ)
+    → some_truncated (rows_after_bytes bytes (ranges ∷ [])) ≡ fits_prefix ranges bytes
+some_truncated-row [] [] = refl
+some_truncated-row [] (b ∷ bytes) = ap some_truncated (rows_after_bytes-none bytes)
+some_truncated-row (range ∷ ranges) [] = refl
+some_truncated-row (range ∷ ranges) (b ∷ bytes) = search (rules, arith, (some_truncated-row ranges bytes), rows_after_bytes-none)
 
 -- What the two tests say of bytes.
 pub record Tests (bytes : List ℕ) (whole more : Bool) : Type 0 where
@@ -234,7 +234,7 @@ pub record Tests (bytes : List ℕ) (whole more : Bool) : Type 0 where
 pub tests-row : (first : ℕ) (ranges : List Range) → rows_after_byte first utf8_rows ≡ ranges ∷ [] → (rest : List ℕ)
     → Tests (first ∷ rest) (fits ranges rest) (fits_prefix ranges rest)
 unfolding is_well_formed is_truncated
-tests-row first ranges same rest = search (rules, arith, some_whole-row, some_open-row)
+tests-row first ranges same rest = search (rules, arith, some_complete-row, some_truncated-row)
 
 pub tests-none : (first : ℕ) → rows_after_byte first utf8_rows ≡ [] → (rest : List ℕ) → Tests (first ∷ rest) false false
 unfolding is_well_formed is_truncated

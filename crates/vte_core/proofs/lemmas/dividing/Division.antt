@@ -2,7 +2,7 @@
 -- a byte, a longer segment exists; if they don't, no longer one does.
 use Rattle.std.proofs.lemmas.List.{length-take}
 use Rattle.vte_core.proofs.Common.{allowed_length, ap, arith, Bool, cases_lt, concat, drop, drop-append_seam, false, false≢true, inl, inr, is_truncated, is_well_formed, length, length-append, length-drop, length-take-le, List, Range, refl, rows_after_byte, rows_after_bytes, rules, segments, segments_after, subst, suc, sym, take, take-append-drop, take-append_seam, trailing_count, true, utf8_rows, zero, ℕ, [], ◌++◌, ◌<◌, ◌∙◌, ◌∷◌, ◌≡◌, ◌≢◌, ◌≤◌}
-use Rattle.vte_core.proofs.lemmas.bytes.Utf8.{allowed, allowed_length-none, neither_whole_nor_open, rows_after_bytes-none, some_open, some_whole, unwanted, wanted}
+use Rattle.vte_core.proofs.lemmas.bytes.Utf8.{allowed, allowed_length-none, neither_complete_nor_truncated, rows_after_bytes-none, some_truncated, some_complete, unwanted, wanted}
 use Rattle.vte_core.proofs.lemmas.shapes.FirstSegment.{not_well_formed-nothing, trailing_count-well_formed}
 use Rattle.vte_core.specs.Division.{AreCorrectSegments, IsCorrectSegment, IsSegment, SegmentsJoin}
 
@@ -54,15 +54,15 @@ is_segment b bytes = by_rows (rows_after_byte b utf8_rows) refl
     segment rows = take (allowed_length rows bytes) bytes
 
     by_tests : {rows : List (List Range)} → rows_after_byte b utf8_rows ≡ rows → (well_formed truncated : Bool)
-        → some_whole (rows_after_bytes (segment rows) rows) ≡ well_formed
-        → some_open (rows_after_bytes (segment rows) rows) ≡ truncated
+        → some_complete (rows_after_bytes (segment rows) rows) ≡ well_formed
+        → some_truncated (rows_after_bytes (segment rows) rows) ≡ truncated
         → (rows_after_bytes (segment rows) rows ≡ [] → ⊥) → IsSegment (b ∷ segment (rows_after_byte b utf8_rows))
     by_tests {rows} same true truncated is_whole is_open is_kept =
-        inl (ap (λ (rows : List (List Range)). some_whole (rows_after_bytes (segment rows) rows)) same ∙ is_whole)
+        inl (ap (λ (rows : List (List Range)). some_complete (rows_after_bytes (segment rows) rows)) same ∙ is_whole)
     by_tests {rows} same false true is_whole is_open is_kept =
-        inr (inl (ap (λ (rows : List (List Range)). some_open (rows_after_bytes (segment rows) rows)) same ∙ is_open))
+        inr (inl (ap (λ (rows : List (List Range)). some_truncated (rows_after_bytes (segment rows) rows)) same ∙ is_open))
     by_tests same false false is_whole is_open is_kept =
-        absurd (is_kept (neither_whole_nor_open _ is_whole is_open))
+        absurd (is_kept (neither_complete_nor_truncated _ is_whole is_open))
 
     by_rows : (rows : List (List Range)) → rows_after_byte b utf8_rows ≡ rows
         → IsSegment (b ∷ segment (rows_after_byte b utf8_rows))
@@ -84,7 +84,7 @@ divided_right b bytes = record {
   longest = λ n within truncated. elim (cases_lt (trailing_count b bytes) n) [
     | inl past ↦
         let none_left = allowed_length-longest (rows_after_byte b utf8_rows) bytes n past within in
-        absurd (false≢true (sym (ap some_open none_left) ∙ truncated))
+        absurd (false≢true (sym (ap some_truncated none_left) ∙ truncated))
     | inr reaches ↦ reaches
   ];
 }

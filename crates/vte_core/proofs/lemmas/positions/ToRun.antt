@@ -12,7 +12,7 @@ use Rattle.vte_core.proofs.lemmas.streams.After.{added-leads, added-nothing, aft
 use Rattle.vte_core.specs.AdvanceToRun.{IsLongestRun, IsRunIn, ReturnsRun, run_bytes, taken_bytes, taken_events}
 use Rattle.vte_core.specs.declared.reader.run.Run.{Run}
 use Rattle.vte_core.specs.declared.reader.run.RunKind.{RunKind}
-use Rattle.vte_core.specs.declared.reader.run.RunKind.TheVariants.{Data as DataKind, NoRun, Text as TextKind}
+use Rattle.vte_core.specs.declared.reader.run.RunKind.TheVariants.{Data as DataKind, Nothing as NoKind, Text as TextKind}
 use Rattle.vte_core.specs.declared.reader.run.RunRange.{RunRange}
 use Rattle.vte_core.specs.declared.reader.run.Taken.{Taken}
 use Rattle.vte_core.specs.private.Prelude.{AreOfKind, ArePut, ComesToRun, IsDeviceData, IsOutsideTextAndData, IsTaken}
@@ -22,7 +22,7 @@ use Rattle.vte_core.specs.private.ToRun.{bytes_at, HasRun, IsWholeAt, kind_event
 
 has-nowhere : {B : Type 0} {limit : Option ℕ} {bytes : List ℕ} {from : ℕ} {range : RunRange} {parser : Machine B}
     → from ≤ length bytes → range.start ≡ from → range.end ≡ from
-    → range.kind ≡ NoRun → HasRun limit bytes range parser
+    → range.kind ≡ NoKind → HasRun limit bytes range parser
 has-nowhere {limit} {bytes} {from} {range} {parser} within starts ends kind =
     search (rules, arith, added-nothing, append-nil)
 
@@ -111,7 +111,7 @@ module _ {V B : Type 0} {call : ChunkCall V} {old new : V} {range : RunRange} {b
 
   -- A call that finds no run ends at its position.
   pub comes-nowhere : {from : ℕ} → from ≤ length call.bytes → range.start ≡ from → range.end ≡ from
-      → range.kind ≡ NoRun
+      → range.kind ≡ NoKind
       → ((stream : List ℕ) → HasReadWithLimit call.limit before stream → IsAtPosition call old new stream from parser)
       → (from < length call.bytes → call.is_terminated new ≡ true) → ComesToRun call old new range before parser
   comes-nowhere within starts ends kind is_at stops = record {

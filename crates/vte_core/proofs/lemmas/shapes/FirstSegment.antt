@@ -1,7 +1,7 @@
 -- What a text gives, from its prefix, by the definition alone: the event of its first segment, and then what the rest
 -- gives as a text. `text_outcome-X` says so if the text begins with X.
 use Rattle.vte_core.proofs.Common.{ap, append-nil, arith, character_event, CharacterToClose, false, is_control_character, is_truncated, is_well_formed, leaves, length, List, malformed_event, nat_tests, NothingToClose, Print, refl, replacement, report, rows_after_byte, rows_after_bytes, rules, scalar_of, segment_event, segments, segments_after, segments_outcome, subst, take-append_seam, text_outcome, trailing_count, true, utf8_rows, ℕ, [], ◌++◌, ◌∙◌, ◌∷◌, ◌≡◌, ◌≤◌}
-use Rattle.vte_core.proofs.lemmas.bytes.Utf8.{allowed_length-broken, allowed_length-end, allowed_length-none, allowed_length-whole, AtMostOne-first, AtMostOne-rows_after_bytes, neither_whole_nor_open, open_not_whole, rows_after_bytes-append, truncated-first, whole_not_open}
+use Rattle.vte_core.proofs.lemmas.bytes.Utf8.{allowed_length-broken, allowed_length-end, allowed_length-none, allowed_length-whole, AtMostOne-first, AtMostOne-rows_after_bytes, neither_complete_nor_truncated, truncated_not_complete, rows_after_bytes-append, truncated-first, complete_not_truncated}
 
 -- ---- no sequence is both well formed and truncated: at most one row is left after its bytes
 
@@ -9,14 +9,14 @@ well_formed_not_truncated : (opened : List ℕ) → is_well_formed opened ≡ tr
 unfolding is_well_formed is_truncated
 well_formed_not_truncated [] well_formed = refl
 well_formed_not_truncated (a ∷ opened) well_formed =
-    whole_not_open (rows_after_bytes opened (rows_after_byte a utf8_rows))
+    complete_not_truncated (rows_after_bytes opened (rows_after_byte a utf8_rows))
     (AtMostOne-rows_after_bytes opened _ (AtMostOne-first a)) well_formed
 
 truncated_not_well_formed : (opened : List ℕ) → is_truncated opened ≡ true → is_well_formed opened ≡ false
 unfolding is_well_formed is_truncated
 truncated_not_well_formed [] truncated = cc
 truncated_not_well_formed (a ∷ opened) truncated =
-    open_not_whole (rows_after_bytes opened (rows_after_byte a utf8_rows))
+    truncated_not_complete (rows_after_bytes opened (rows_after_byte a utf8_rows))
     (AtMostOne-rows_after_bytes opened _ (AtMostOne-first a)) truncated
 
 -- ---- how far a segment goes
@@ -34,7 +34,7 @@ trailing_count-broken : (first : ℕ) (rest : List ℕ) (b : ℕ) (following : L
     → trailing_count first (rest ++ b ∷ following) ≡ length rest
 unfolding is_well_formed is_truncated trailing_count
 trailing_count-broken first rest b following truncated not_well_formed_after not_truncated_after =
-    search (rules, arith, allowed_length-broken, rows_after_bytes-append, neither_whole_nor_open)
+    search (rules, arith, allowed_length-broken, rows_after_bytes-append, neither_complete_nor_truncated)
 
 trailing_count-end : (first : ℕ) (rest : List ℕ) → is_truncated (first ∷ rest) ≡ true
     → trailing_count first rest ≡ length rest
@@ -45,7 +45,7 @@ trailing_count-lone : (b : ℕ) (following : List ℕ) → is_well_formed (b ∷
     → trailing_count b following ≡ 0
 unfolding is_well_formed is_truncated trailing_count
 trailing_count-lone b following not_well_formed not_truncated =
-    rw (neither_whole_nor_open (rows_after_byte b utf8_rows) not_well_formed not_truncated)
+    rw (neither_complete_nor_truncated (rows_after_byte b utf8_rows) not_well_formed not_truncated)
     (allowed_length-none following)
 
 -- ---- the first segment of a text

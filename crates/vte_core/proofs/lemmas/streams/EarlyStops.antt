@@ -14,33 +14,33 @@ use Rattle.vte_core.specs.EarlyStopLaws.{AreReportedAtStart, GoesOnFromPositions
 
 -- The proof is by induction over positions, a unit at a time.
 
--- P is to hold of what is reported before each position. It holds of no events, and a unit keeps it.
--- Before each unit Q holds, which is what the performer answers when it is asked: at first, and at
+-- Kept is to hold of what is reported before each position. It holds of no events, and a unit keeps it.
+-- Before each unit Asked holds, which is what the performer answers when it is asked: at first, and at
 -- each start.
-module _ {limit : Option ℕ} (P Q : List Event → Type 0) (stream bytes : List ℕ) (units : ReportsUnits limit)
-    (at_first : P []) (asked_first : Q [])
-    (kept : (before unit : List Event) → P before → Q before → AreBrief limit unit → P (before ++ unit)) where
-  -- By induction on m, P holds before each position below m, if Q holds before each earlier start.
+module _ {limit : Option ℕ} (Kept Asked : List Event → Type 0) (stream bytes : List ℕ) (units : ReportsUnits limit)
+    (at_first : Kept []) (asked_first : Asked [])
+    (kept : (before unit : List Event) → Kept before → Asked before → AreBrief limit unit → Kept (before ++ unit)) where
+  -- By induction on m, Kept holds before each position below m, if Asked holds before each earlier start.
   passed-below : (m i : ℕ) → i < m → i ≤ length bytes
-      → ((j : ℕ) → j < i → IsStart stream bytes j → Q (reported_before limit stream bytes j))
-      → P (reported_before limit stream bytes i)
+      → ((j : ℕ) → j < i → IsStart stream bytes j → Asked (reported_before limit stream bytes j))
+      → Kept (reported_before limit stream bytes i)
   passed-below zero i below within asked = absurd (omega arith)
   passed-below (suc m) i below within asked =
       let reports : ReportsUnit limit stream bytes i = units stream bytes i within in
-      subst P (sym reports.parts) (elim reports.at_start [
+      subst Kept (sym reports.parts) (elim reports.at_start [
         | inl nothing_before ↦
-            kept reports.before reports.unit (subst P (sym nothing_before) at_first)
-            (subst Q (sym nothing_before) asked_first) reports.brief
+            kept reports.before reports.unit (subst Kept (sym nothing_before) at_first)
+            (subst Asked (sym nothing_before) asked_first) reports.brief
         | inr t ↦
             let earlier : t.start < i = t.earlier in
             let before = passed-below m t.start (omega arith) (omega arith) (λ j first. asked j (omega arith)) in
-            kept reports.before reports.unit (subst P (sym t.events_are) before)
-            (subst Q (sym t.events_are) (asked t.start earlier t.starts)) reports.brief
+            kept reports.before reports.unit (subst Kept (sym t.events_are) before)
+            (subst Asked (sym t.events_are) (asked t.start earlier t.starts)) reports.brief
       ])
 
   pub passed-at : (i : ℕ) → i ≤ length bytes → ((j : ℕ) → j < i → IsStart stream bytes j
-      → Q (reported_before limit stream bytes j))
-      → P (reported_before limit stream bytes i)
+      → Asked (reported_before limit stream bytes j))
+      → Kept (reported_before limit stream bytes i)
   passed-at i within asked = passed-below (i + 1) i (omega arith) within asked
 
 -- ---- a byte that belongs to an open character
@@ -218,25 +218,25 @@ added_to limit stream bytes (suc i) within =
 pub reports_units : (limit : Option ℕ) → ReportsUnits limit
 unfolding reported_before
 reports_units limit stream bytes i within = record {
-  before = a.before;
-  unit = a.unit ++ (if breaks_at stream bytes i then Print replacement ∷ [] else []);
+  before = adds.before;
+  unit = adds.unit ++ (if breaks_at stream bytes i then Print replacement ∷ [] else []);
   parts =
-      ap (λ (events : List Event). events ++ (if breaks_at stream bytes i then Print replacement ∷ [] else [])) a.parts
-      ∙ append_assoc a.before a.unit _;
+      ap (λ (events : List Event). events ++ (if breaks_at stream bytes i then Print replacement ∷ [] else [])) adds.parts
+      ∙ append_assoc adds.before adds.unit _;
   brief = by_break (breaks_at stream bytes i) refl;
-  at_start = a.at_start;
+  at_start = adds.at_start;
 }
   where
-    a : Added limit stream bytes i
-    a = added_to limit stream bytes i within
+    adds : Added limit stream bytes i
+    adds = added_to limit stream bytes i within
 
     by_break : (broken : Bool) → breaks_at stream bytes i ≡ broken
-        → AreBrief limit (a.unit ++ (if broken then Print replacement ∷ [] else []))
+        → AreBrief limit (adds.unit ++ (if broken then Print replacement ∷ [] else []))
     by_break true is_broken =
-        one_character-append limit a.unit (Print replacement ∷ [])
-        (a.one_character (λ none_open. false≢true (sym (breaks_at-settled stream bytes i none_open) ∙ is_broken)))
+        one_character-append limit adds.unit (Print replacement ∷ [])
+        (adds.one_character (λ none_open. false≢true (sym (breaks_at-settled stream bytes i none_open) ∙ is_broken)))
         one_character-replacement
-    by_break false is_broken = rw append-nil a.brief
+    by_break false is_broken = rw append-nil adds.brief
 
 -- ---- what is reported before a position, and then what follows adds, is what all bytes add
 

@@ -25,11 +25,11 @@ returns-clause-takes g c = λ head s.
     let ready = c.end_head-ignore.ensures c.args.head.progress head (head-holds c.in_default.not-IllShaped s) in
     let dispatch = c.dispatch_control_sequence.ensures.dispatches in
     record {
-      reported = sequence_event CsiDispatch (head_of head) c.args.byte ∷ [];
+      reported = sequence_event CsiDispatch (head_of head) c.args.final_byte ∷ [];
       next = InText [];
       performed = dispatch.reports.value
           ∙ ap (g.P.CountedPerform.step (g.P.CountedPerform.value_of c.args.performer.now))
-          (dispatched-ready CsiDispatch c.args.byte ready);
+          (dispatched-ready CsiDispatch c.args.final_byte ready);
       is_at = is_at-text_begun dispatch.in_text;
       leads = control-dispatched (class-final _ c.requires.final_byte) ready.well_shaped;
     }

@@ -22,12 +22,12 @@ pub returns-clause-takes : goal.returns-clause-takes
 returns-clause-takes g c = λ head s.
     let head_end = c.end_head-ignore.ensures c.args.reached head (head-holds c.in_default.not-IllShaped s) in
     record {
-      reported = sequence_event Hook (head_of head) c.args.byte ∷ [];
+      reported = sequence_event Hook (head_of head) c.args.final_byte ∷ [];
       next = InDeviceData;
       performed =
           c.hook.ensures.value
           ∙ ap (g.P.CountedPerform.step (g.P.CountedPerform.value_of c.args.performer.now))
-          (dispatched-ready Hook c.args.byte head_end);
+          (dispatched-ready Hook c.args.final_byte head_end);
       is_at = record { fields = tt };
       leads = device-well_shaped (class-final _ c.requires) head_end.well_shaped;
     }

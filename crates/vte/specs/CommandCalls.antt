@@ -4,8 +4,8 @@ use Rattle.std.specs.List.{filter_map, join_with_byte, range_with_len}
 use Rattle.std.specs.Prelude.{Bool, bytes_eq, codes, false, if◌then◌else◌, length, List, map, None, Option, option_and_then, Some, true, ℕ, [], ◌%◌, ◌++◌, ◌+◌, ◌==◌, ◌∷◌}
 use Rattle.std.specs.Str.{is_utf8, trim}
 use Rattle.vte.specs.Colors.{xparse_color_of}
-use Rattle.vte.specs.declared.ansi.calls.joined_text.Malformed.{Malformed}
-use Rattle.vte.specs.declared.ansi.calls.joined_text.Malformed.TheVariants.{Empty, LeftOut}
+use Rattle.vte.specs.declared.ansi.calls.joined_text.MalformedPiece.{MalformedPiece}
+use Rattle.vte.specs.declared.ansi.calls.joined_text.MalformedPiece.TheVariants.{Empty, LeftOut}
 use Rattle.vte.specs.Numbers.{decimal_number}
 use Rattle.vte.specs.OptionalCalls.{call_some}
 use Rattle.vte.specs.Split.{first_after, split_by}
@@ -23,16 +23,16 @@ use Rattle.vte_types.specs.Words.{after_word, entry_of, entry_of_word, Row}
 -- ---- texts of pieces
 
 -- What becomes of a piece that isn't UTF-8: a title leaves it out, and in a link it is empty.
-abbrev pub text_of_malformed : Malformed → Option (List ℕ)
+abbrev pub text_of_malformed : MalformedPiece → Option (List ℕ)
 text_of_malformed LeftOut = None
 text_of_malformed Empty = Some []
 
 -- The text of a piece, if it isn't left out.
-abbrev pub text_in : Malformed → List ℕ → Option (List ℕ)
+abbrev pub text_in : MalformedPiece → List ℕ → Option (List ℕ)
 text_in malformed piece = if is_utf8 piece then Some piece else text_of_malformed malformed
 
 -- The texts of the pieces, with `;` between them.
-abbrev pub joined_texts : Malformed → List (List ℕ) → List ℕ
+abbrev pub joined_texts : MalformedPiece → List (List ℕ) → List ℕ
 joined_texts malformed pieces = join_with_byte 0x3b (filter_map (text_in malformed) pieces)
 
 -- ---- titles
@@ -112,9 +112,10 @@ link_calls (parameters ∷ text ∷ texts) =
 -- ---- pointer and cursor
 
 -- 22: the pointer's icon, by its keyword.
-abbrev pub pointer_calls : List (List ℕ) → List Call
-pointer_calls (name ∷ []) = call_some (λ icon. call.SetMouseCursorIcon icon) (icon_of name)
-pointer_calls _ = []
+abbrev pub mouse_cursor_icon_calls : List (List ℕ) → List Call
+mouse_cursor_icon_calls (name ∷ []) =
+    call_some (λ icon. call.SetMouseCursorIcon icon) (icon_of name)
+mouse_cursor_icon_calls _ = []
 
 -- 50: the cursor's shape, by the first byte after `CursorShape=`.
 abbrev pub shapes : List (Row CursorShape)
@@ -125,9 +126,9 @@ shape_after None = None
 shape_after (Some []) = None
 shape_after (Some (byte ∷ bytes)) = entry_of shapes byte
 
-abbrev pub shape_calls : List (List ℕ) → List Call
-shape_calls [] = []
-shape_calls (text ∷ texts) =
+abbrev pub cursor_shape_calls : List (List ℕ) → List Call
+cursor_shape_calls [] = []
+cursor_shape_calls (text ∷ texts) =
     call_some (λ shape. call.SetCursorShape shape)
     (shape_after (after_word (codes "CursorShape=") text))
 
@@ -162,8 +163,8 @@ command_table =
     (codes "10", λ terminator texts. dynamic_calls 10 terminator texts) ∷
     (codes "11", λ terminator texts. dynamic_calls 11 terminator texts) ∷
     (codes "12", λ terminator texts. dynamic_calls 12 terminator texts) ∷
-    (codes "22", λ terminator texts. pointer_calls texts) ∷
-    (codes "50", λ terminator texts. shape_calls texts) ∷
+    (codes "22", λ terminator texts. mouse_cursor_icon_calls texts) ∷
+    (codes "50", λ terminator texts. cursor_shape_calls texts) ∷
     (codes "52", λ terminator texts. clipboard_calls terminator texts) ∷
     (codes "104", λ terminator texts. reset_calls texts) ∷
     (codes "110", λ terminator texts. call.ResetColor (number_of_color Foreground) ∷ []) ∷

@@ -48,7 +48,7 @@ pub(crate) fn perform_control_sequence<H: InputAs<G> + ?Sized, G>(
         ([b'?'], 'u') => handler.report_keyboard_mode(),
         ([b'>'], 'm') => {
             if numbers.next_or(1) == 4 {
-                set_other_keys(handler, numbers.next_or(0));
+                set_modify_other_keys(handler, numbers.next_or(0));
             }
         }
         ([b'>'], 'u') => handler.push_keyboard_mode(read_keyboard_modes(numbers.next_or(0))),
@@ -173,7 +173,7 @@ fn clear_line<H: Handler + ?Sized>(handler: &mut H, number: u16) {
 }
 
 /// Sets how modified keys are sent.
-fn set_other_keys<H: Handler + ?Sized>(handler: &mut H, number: u16) {
+fn set_modify_other_keys<H: Handler + ?Sized>(handler: &mut H, number: u16) {
     match number {
         0 => handler.set_modify_other_keys(ModifyOtherKeys::Reset),
         1 => handler.set_modify_other_keys(ModifyOtherKeys::EnableExceptWellDefined),

@@ -2,7 +2,7 @@
 -- `plain_call`): nothing is ever held, so there are no stops. By induction over turns: each one parses, and ends with
 -- nothing held.
 use Rattle.vte.proofs.Common.{added_calls, Advance, after, ap, append-nil, Bor, calls, done, events, false, given_bytes, HasAdvanced, HasParsedAll, HasReplayed, IsAt, List, Meaning, ProcessorFacts, refl, Replays, State, Step, StopSync, sym, TakesAllTurns, TakesSteps, true, turn, turns, ℕ, [], ◌++◌, ◌∙◌, ◌∷◌, ◌≡◌}
-use Rattle.vte.proofs.lemmas.EventCalls.{after_calls-append, calls_whole}
+use Rattle.vte.proofs.lemmas.events.EventCalls.{after_calls-append, calls_whole}
 use Rattle.vte.proofs.lemmas.replays.ReceivedCalls.{calls_between-whole}
 use Rattle.vte.proofs.lemmas.replays.ReplayedSteps.{advance_runs}
 use Rattle.vte.specs.ProcessorCalls.{AreAdvances, IsNeverPending, ParsesAll}

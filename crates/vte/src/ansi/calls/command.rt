@@ -2,7 +2,7 @@
 ghost use Rattle.std.specs.Prelude.{bytes_eq, codes, map, ◌≡◌, ◌≤◌};
 ghost use Rattle.vte.specs.CommandCalls.{all_reset, clipboard_calls, color_calls, cursor_shape_calls, dynamic_calls, dynamic_color_calls, dynamic_colors, link_calls, link_to, mouse_cursor_icon_calls, palette_calls, palette_entry_calls, reset_calls, system_command_calls, title_calls};
 ghost use Rattle.vte.specs.Numbers.{decimal_number};
-ghost use Rattle.vte.specs.private.Performer.{FitsTextCapacity};
+ghost use Rattle.vte.specs.private.JoinedTexts.{FitsTextCapacity};
 ghost use Rattle.vte_handler.specs.Call.{SetHyperlink};
 ghost use Rattle.vte_handler.specs.Handler.{after};
 ghost use Rattle.vte_types.specs.CursorIcon.{icon_of};
@@ -188,7 +188,7 @@ fn set_dynamic_color<H: Handler>(handler: &mut H, code: usize, text: &[u8], term
 
 /// Sets dynamic colours, or asks for them (OSC 10, 11 and 12): that of `first` and those that
 /// follow, one for each text.
-#[tactic(auto, using(crate::proofs::lemmas::EventCalls::appended))]
+#[tactic(auto, using(crate::proofs::lemmas::events::EventCalls::appended))]
 fn set_dynamic_colors<H: Handler>(handler: &mut H, first: usize, texts: &[&[u8]], terminator: &str)
     requires { first ≤ 12 }
     ensures { H.value_of handler.new

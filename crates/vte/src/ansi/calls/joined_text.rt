@@ -1,7 +1,7 @@
 //! Texts that are joined from pieces.
 ghost use Rattle.std.specs.Prelude.{length, map, option_map, ◌++◌, ◌+◌, ◌≡◌, ◌≤◌};
 ghost use Rattle.vte.specs.CommandCalls.{joined_texts, text_in};
-ghost use Rattle.vte.specs.private.Performer.{FitsTextCapacity, text_to_join};
+ghost use Rattle.vte.specs.private.JoinedTexts.{FitsTextCapacity, text_to_join};
 
 use crate::ansi::calls::text_buffer::TextBuffer;
 

@@ -1,7 +1,7 @@
 -- A performer's value after the events of bytes. The handler and the state that it was lent come back as they are
 -- after the bytes, and an early stop reads the prefix up to the begin of an update.
 use Rattle.vte.proofs.Common.{added, after, All, All-head, All-tail, ap, arith, begin_count, begin_count_in_event, Bool, calls_from, calls_of, cases_lt, engine_view, Event, events, events_grow, false, false≢true, FitsText, inl, inr, KeepsMemory, last_printed, last_printed_after, last_printed_from, length, List, Meaning, nat_lt, nat_tests, or-false, parse, ParserView, PartsAreAt, PartsAreAtKeepingMemory, performer_value, performer_with_event, PerformerValue, prefix_to_begin, ProcessorState, refl, reported-settled, reported_before, resumed_stream, resumed_stream-settled, starts-settled, State, StopsExactly, sym, take, timeout_set_times, ℕ, [], ◌++◌, ◌+◌, ◌<◌, ◌||◌, ◌∙◌, ◌∷◌, ◌≡◌}
-use Rattle.vte.proofs.lemmas.EventCalls.{added_calls-events, after_calls-append, last_printed-append, timeout_set_times-add}
+use Rattle.vte.proofs.lemmas.events.EventCalls.{added_calls-events, after_calls-append, last_printed-append, timeout_set_times-add}
 use Rattle.vte.proofs.lemmas.updates.Prefixes.{begin_count-reported, breaks_at-prefix, IsPrefix, open_character-prefix, prefix-is}
 use Rattle.vte.specs.declared.ansi.calls.performer.Performer.{Performer}
 use Rattle.vte_core.specs.Event.{after as performed}

@@ -56,6 +56,7 @@ palette_entry_calls terminator None text = []
 palette_entry_calls terminator (Some index) text =
     color_calls (codes "4;" ++ decimal index) index terminator text
 
+-- Indices and texts alternate.
 abbrev pub palette_entries_calls : List ℕ → List (List ℕ) → List Call
 palette_entries_calls terminator [] = []
 palette_entries_calls terminator (index ∷ []) = []
@@ -63,6 +64,7 @@ palette_entries_calls terminator (index ∷ text ∷ texts) =
     palette_entry_calls terminator (decimal_number index) text
     ++ palette_entries_calls terminator texts
 
+-- An odd count of texts makes no call, since the last index has no colour.
 abbrev pub palette_calls : List ℕ → List (List ℕ) → List Call
 palette_calls terminator texts =
     if length texts % 2 == 0 then palette_entries_calls terminator texts else []
@@ -71,11 +73,13 @@ palette_calls terminator texts =
 abbrev pub dynamic_colors : List (Row NamedColor)
 dynamic_colors = (10, Foreground) ∷ (11, Background) ∷ (12, Cursor) ∷ []
 
+-- A code after 12 has no colour, and makes no call.
 abbrev pub dynamic_color_calls : ℕ → List ℕ → List ℕ → Option NamedColor → List Call
 dynamic_color_calls code terminator text None = []
 dynamic_color_calls code terminator text (Some color) =
     color_calls (decimal code) (number_of_color color) terminator text
 
+-- One text for each code from `code` on: xterm lets one command set several dynamic colours.
 abbrev pub dynamic_calls : ℕ → List ℕ → List (List ℕ) → List Call
 dynamic_calls code terminator [] = []
 dynamic_calls code terminator (text ∷ texts) =
@@ -86,6 +90,7 @@ dynamic_calls code terminator (text ∷ texts) =
 unfoldable pub all_reset : List Call
 all_reset = map (λ index. call.ResetColor index) (range_with_len 0 256)
 
+-- An empty first text counts as none. Texts that are no index are skipped.
 abbrev pub reset_calls : List (List ℕ) → List Call
 reset_calls [] = all_reset
 reset_calls ([] ∷ texts) = all_reset
@@ -99,10 +104,13 @@ abbrev pub id_of : List ℕ → Option (List ℕ)
 id_of parameters =
     option_and_then (text_in LeftOut) (first_after (codes "id=") (split_by 0x3a parameters))
 
+-- An empty URI ends the link.
 abbrev pub link_to : List ℕ → List ℕ → Option Link
 link_to parameters [] = None
 link_to parameters (byte ∷ uri) = Some (record { id = id_of parameters; uri = byte ∷ uri })
 
+-- A URI may contain `;`, so the pieces after the parameters are joined. Without a URI no call is
+-- made.
 abbrev pub link_calls : List (List ℕ) → List Call
 link_calls [] = []
 link_calls (parameters ∷ []) = []
@@ -111,7 +119,7 @@ link_calls (parameters ∷ text ∷ texts) =
 
 -- ---- pointer and cursor
 
--- 22: the pointer's icon, by its keyword.
+-- 22: the pointer's icon, by its keyword, which must be the only text.
 abbrev pub mouse_cursor_icon_calls : List (List ℕ) → List Call
 mouse_cursor_icon_calls (name ∷ []) =
     call_some (λ icon. call.SetMouseCursorIcon icon) (icon_of name)
@@ -126,6 +134,7 @@ shape_after None = None
 shape_after (Some []) = None
 shape_after (Some (byte ∷ bytes)) = entry_of shapes byte
 
+-- Only the first text counts.
 abbrev pub cursor_shape_calls : List (List ℕ) → List Call
 cursor_shape_calls [] = []
 cursor_shape_calls (text ∷ texts) =
@@ -139,6 +148,8 @@ abbrev pub clipboard_of : List ℕ → ℕ
 clipboard_of [] = 0x63
 clipboard_of (byte ∷ bytes) = byte
 
+-- `?` asks for what the clipboard holds. Other data are stored, and not decoded. Later texts are
+-- ignored.
 abbrev pub clipboard_calls : List ℕ → List (List ℕ) → List Call
 clipboard_calls terminator [] = []
 clipboard_calls terminator (name ∷ []) = []

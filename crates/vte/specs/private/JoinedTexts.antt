@@ -19,6 +19,7 @@ text_to_join false text = 0x3b ∷ text
 abbrev pub joined_size : List (List ℕ) → ℕ
 joined_size pieces = length (concat pieces) + length pieces
 
+-- A buffer of this size has room for all pieces joined.
 abbrev pub FitsTextCapacity : ℕ → List (List ℕ) → Type 0
 FitsTextCapacity text_capacity pieces = joined_size pieces ≤ text_capacity
 

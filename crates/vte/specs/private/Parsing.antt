@@ -42,6 +42,7 @@ pub record AdvancesAll {P V W : Type 0} (view : ParserView P) (limit : Option �
   pub keeps_memory : (size : ℕ)
       → KeepsMemory (view.has_memory parser size) (view.has_memory next size)
 
+-- `AdvancesAll`, but it performs bytes up to a stop, and has read `read` of them.
 pub record AdvancesUntilStop {P V W : Type 0} (view : ParserView P) (limit : Option ℕ)
     (step : PerformerValue V W → Event → PerformerValue V W) (parser next : P)
     (old new : PerformerValue V W)

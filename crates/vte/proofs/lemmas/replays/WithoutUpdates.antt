@@ -97,6 +97,7 @@ module _ {T V W : Type 0} (meaning : Meaning V W) {processor next : ProcessorFac
         plain_parses old has_parsed meaning never steps are_advances (replayed _ (is_at_start old has_parsed));
   }
 
+  -- The clauses of `Replays`, of which the first gives the second.
   pub replays_all : {steps : List Step}
       → ((state : State V W) → IsAt processor old state → HasReplayed meaning state steps (IsAt next new))
       → Replays meaning processor next old new steps

@@ -33,8 +33,8 @@ pub(crate) trait EventParser {
     /// Which streams it has read, for which bytes it has memory, and whether data were lost.
     ghost view: { ParserView Self };
 
-    /// Takes memory for held bytes and for more, and for the texts that are joined from them.
-    /// Returns whether it is there.
+    /// Reserves memory for `held` bytes and `more` others, and for the texts that are joined from
+    /// them. Returns whether it succeeded.
     fn reserve<B: TextBuffer>(&mut self, text: &mut B, held: usize, more: usize) -> bool
         ensures reads { (stream : List ℕ) → view.has_read self.old stream
             → view.has_read self.new stream }

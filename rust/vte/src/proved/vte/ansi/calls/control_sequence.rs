@@ -17,7 +17,8 @@ use crate::proved::vte_types::{
 
 /// Makes the calls of a control sequence, other than `ESC [ ? .. h`, which may begin an update.
 #[inline]
-// A guard would read the numbers.
+// Clippy asks for guards in place of an `if` in an arm. A guard that fails would still have taken a
+// number, which the arms below then miss.
 #[allow(clippy::collapsible_match)]
 pub(crate) fn perform_control_sequence<H: InputAs<G> + ?Sized, G>(
     handler: &mut H,

@@ -28,10 +28,12 @@ pub use Rattle.vte.specs.declared.ansi.updates.engine.Engine.{Engine}
 pub use Rattle.vte.specs.LongProcessor.{AdvancesLong, AdvancesUntilRefused, ProcessorLacksMemory, Reserves}
 pub use Rattle.vte.specs.Memory.{HasTextMemory, KeepsMemory, ParserHasMemory}
 pub use Rattle.vte.specs.Numbers.{decimal_number, first_number, first_numbers}
+pub use Rattle.vte.specs.private.Colors.{first_component}
 pub use Rattle.vte.specs.private.Engine.{EndsParsingTurn, EndsTurn, EngineIsAt, HasBeenRefused, HasParsedPrefix, HasParsedWithoutBegin, HasTakenParsingTurn, HasTurned, IsAtKeepingMemory, PartsAreAt, PartsAreAtKeepingMemory, PartsAreAtWithMemory}
 pub use Rattle.vte.specs.private.Hold.{AddsToHold, FindsRelease, IsHeldTail, released_of, still_held}
-pub use Rattle.vte.specs.private.Performer.{first_component, fits_text_capacity, FitsText, FitsTextCapacity, joined_size, parts_left, performer_with_event, PerformerValue, text_to_join}
-pub use Rattle.vte.specs.private.Performing.{AdvancesAll, AdvancesUntilStop, performer_value, with_private_mode, with_private_modes}
+pub use Rattle.vte.specs.private.JoinedTexts.{fits_text_capacity, FitsTextCapacity, joined_size, parts_left, text_to_join}
+pub use Rattle.vte.specs.private.Parsing.{AdvancesAll, AdvancesUntilStop}
+pub use Rattle.vte.specs.private.PerformerValue.{FitsText, performer_value, performer_with_event, PerformerValue, with_private_mode, with_private_modes}
 pub use Rattle.vte.specs.Processor.{added_calls, all_bytes, AreInOrder, calls_between, calls_with_stops, done, EndsInBegin, ExpiredTurn, extend, given_bytes, hold_turn, HoldInvariantAt, IsInsideUpdate, IsOutsideUpdate, max_held, Meaning, parse, parsing_turn, ParsingTurn, prefix_to_begin, processor_meaning, release, State, stop, TakesAllTurns, TakesSteps, TakesTurns, timeout_set_times, turn, turn_kind_of, turns, update_nanos, with_held}
 pub use Rattle.vte.specs.ProcessorCalls.{AdvancesInTurns, HasAdvanced, HasDelivered, HasParsedAll, HasReplayed, IsAt, Replays, StopsSync}
 pub use Rattle.vte.specs.ProcessorFacts.{engine_facts, engine_facts_with, HasParsedAndHolds, held_of, long_facts, processor_facts, ProcessorFacts}

@@ -3,9 +3,7 @@
 -- The two sequences of updates: in held bytes, and where bytes are parsed.
 pub mod updates
 -- From events to calls, and to a performer's value, with memory for them.
-pub mod EventCalls
-pub mod PerformedEvents
-pub mod EnoughMemory
+pub mod events
 -- From slices of bytes and holds to the turns of a call.
 pub mod turns
 -- From turns to processors, and from calls to lists of them.

@@ -28,6 +28,7 @@ abbrev pub last_printed_after : Option ℕ → Event → Option ℕ
 last_printed_after last (Print c) = Some c
 last_printed_after last _ = last
 
+-- The same after a list of events.
 abbrev pub last_printed_from : Option ℕ → List Event → Option ℕ
 last_printed_from last [] = last
 last_printed_from last (event ∷ events) = last_printed_from (last_printed_after last event) events
@@ -36,6 +37,7 @@ last_printed_from last (event ∷ events) = last_printed_from (last_printed_afte
 abbrev pub last_printed : List Event → Option ℕ
 last_printed events = last_printed_from None events
 
+-- Each event takes the last printed character that those before it leave, for REP.
 abbrev pub calls_from : Option ℕ → List Event → List Call
 calls_from last [] = []
 calls_from last (event ∷ events) =

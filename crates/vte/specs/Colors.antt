@@ -21,6 +21,7 @@ color_of_numbers (r ∷ g ∷ b ∷ []) = Some (Spec (record { r = r; g = g; b =
 color_of_numbers (index ∷ []) = Some (Indexed index)
 color_of_numbers _ = None
 
+-- An index of the palette is one too.
 abbrev pub is_component : ℕ → Bool
 is_component number = nat_lt number 256
 
@@ -42,6 +43,7 @@ components_reading count numbers =
     if length components == count then record { color = color_of_numbers components; used = count }
     else failed_reading (length components) (drop (length components) numbers)
 
+-- An unknown kind has no components, and uses none of the numbers after it.
 abbrev pub counted_reading : Option ℕ → List ℕ → ReadColor
 counted_reading None numbers = record { color = None; used = 0 }
 counted_reading (Some count) numbers = components_reading count numbers
@@ -50,6 +52,7 @@ counted_reading (Some count) numbers = components_reading count numbers
 abbrev pub kind_reading : ℕ → List ℕ → ReadColor
 kind_reading kind numbers = counted_reading (entry_of component_counts kind) numbers
 
+-- The kind is used even if it is unknown.
 abbrev pub color_reading : List ℕ → ReadColor
 color_reading [] = record { color = None; used = 0 }
 color_reading (kind ∷ numbers) =
@@ -109,5 +112,6 @@ xparse_forms =
     (codes "#", color_of_thirds) ∷
     []
 
+-- Any other text is no colour: names of colours and `rgbi:` aren't supported.
 abbrev pub xparse_color_of : List ℕ → Option Rgb
 xparse_color_of text = read_by xparse_forms text

@@ -4,8 +4,8 @@ use Rattle.std.specs.List.{filter_map, join_with_byte, range_with_len}
 use Rattle.std.specs.Prelude.{Bool, bytes_eq, codes, false, if◌then◌else◌, length, List, map, None, Option, option_and_then, Some, true, ℕ, [], ◌%◌, ◌++◌, ◌+◌, ◌==◌, ◌∷◌}
 use Rattle.std.specs.Str.{is_utf8, trim}
 use Rattle.vte.specs.Colors.{xparse_color_of}
-use Rattle.vte.specs.declared.ansi.calls.joined_text.Malformed.{Malformed}
-use Rattle.vte.specs.declared.ansi.calls.joined_text.Malformed.TheVariants.{Empty, LeftOut}
+use Rattle.vte.specs.declared.ansi.calls.joined_text.MalformedPiece.{MalformedPiece}
+use Rattle.vte.specs.declared.ansi.calls.joined_text.MalformedPiece.TheVariants.{Empty, LeftOut}
 use Rattle.vte.specs.Numbers.{decimal_number}
 use Rattle.vte.specs.OptionalCalls.{call_some}
 use Rattle.vte.specs.Split.{first_after, split_by}
@@ -23,16 +23,16 @@ use Rattle.vte_types.specs.Words.{after_word, entry_of, entry_of_word, Row}
 -- ---- texts of pieces
 
 -- What becomes of a piece that isn't UTF-8: a title leaves it out, and in a link it is empty.
-abbrev pub text_of_malformed : Malformed → Option (List ℕ)
+abbrev pub text_of_malformed : MalformedPiece → Option (List ℕ)
 text_of_malformed LeftOut = None
 text_of_malformed Empty = Some []
 
 -- The text of a piece, if it isn't left out.
-abbrev pub text_in : Malformed → List ℕ → Option (List ℕ)
+abbrev pub text_in : MalformedPiece → List ℕ → Option (List ℕ)
 text_in malformed piece = if is_utf8 piece then Some piece else text_of_malformed malformed
 
 -- The texts of the pieces, with `;` between them.
-abbrev pub joined_texts : Malformed → List (List ℕ) → List ℕ
+abbrev pub joined_texts : MalformedPiece → List (List ℕ) → List ℕ
 joined_texts malformed pieces = join_with_byte 0x3b (filter_map (text_in malformed) pieces)
 
 -- ---- titles
@@ -56,6 +56,7 @@ palette_entry_calls terminator None text = []
 palette_entry_calls terminator (Some index) text =
     color_calls (codes "4;" ++ decimal index) index terminator text
 
+-- Indices and texts alternate.
 abbrev pub palette_entries_calls : List ℕ → List (List ℕ) → List Call
 palette_entries_calls terminator [] = []
 palette_entries_calls terminator (index ∷ []) = []
@@ -63,6 +64,7 @@ palette_entries_calls terminator (index ∷ text ∷ texts) =
     palette_entry_calls terminator (decimal_number index) text
     ++ palette_entries_calls terminator texts
 
+-- An odd count of texts makes no call, since the last index has no colour.
 abbrev pub palette_calls : List ℕ → List (List ℕ) → List Call
 palette_calls terminator texts =
     if length texts % 2 == 0 then palette_entries_calls terminator texts else []
@@ -71,11 +73,13 @@ palette_calls terminator texts =
 abbrev pub dynamic_colors : List (Row NamedColor)
 dynamic_colors = (10, Foreground) ∷ (11, Background) ∷ (12, Cursor) ∷ []
 
+-- A code after 12 has no colour, and makes no call.
 abbrev pub dynamic_color_calls : ℕ → List ℕ → List ℕ → Option NamedColor → List Call
 dynamic_color_calls code terminator text None = []
 dynamic_color_calls code terminator text (Some color) =
     color_calls (decimal code) (number_of_color color) terminator text
 
+-- One text for each code from `code` on: xterm lets one command set several dynamic colours.
 abbrev pub dynamic_calls : ℕ → List ℕ → List (List ℕ) → List Call
 dynamic_calls code terminator [] = []
 dynamic_calls code terminator (text ∷ texts) =
@@ -86,6 +90,7 @@ dynamic_calls code terminator (text ∷ texts) =
 unfoldable pub all_reset : List Call
 all_reset = map (λ index. call.ResetColor index) (range_with_len 0 256)
 
+-- An empty first text counts as none. Texts that are no index are skipped.
 abbrev pub reset_calls : List (List ℕ) → List Call
 reset_calls [] = all_reset
 reset_calls ([] ∷ texts) = all_reset
@@ -99,10 +104,13 @@ abbrev pub id_of : List ℕ → Option (List ℕ)
 id_of parameters =
     option_and_then (text_in LeftOut) (first_after (codes "id=") (split_by 0x3a parameters))
 
+-- An empty URI ends the link.
 abbrev pub link_to : List ℕ → List ℕ → Option Link
 link_to parameters [] = None
 link_to parameters (byte ∷ uri) = Some (record { id = id_of parameters; uri = byte ∷ uri })
 
+-- A URI may contain `;`, so the pieces after the parameters are joined. Without a URI no call is
+-- made.
 abbrev pub link_calls : List (List ℕ) → List Call
 link_calls [] = []
 link_calls (parameters ∷ []) = []
@@ -111,10 +119,11 @@ link_calls (parameters ∷ text ∷ texts) =
 
 -- ---- pointer and cursor
 
--- 22: the pointer's icon, by its keyword.
-abbrev pub pointer_calls : List (List ℕ) → List Call
-pointer_calls (name ∷ []) = call_some (λ icon. call.SetMouseCursorIcon icon) (icon_of name)
-pointer_calls _ = []
+-- 22: the pointer's icon, by its keyword, which must be the only text.
+abbrev pub mouse_cursor_icon_calls : List (List ℕ) → List Call
+mouse_cursor_icon_calls (name ∷ []) =
+    call_some (λ icon. call.SetMouseCursorIcon icon) (icon_of name)
+mouse_cursor_icon_calls _ = []
 
 -- 50: the cursor's shape, by the first byte after `CursorShape=`.
 abbrev pub shapes : List (Row CursorShape)
@@ -125,9 +134,10 @@ shape_after None = None
 shape_after (Some []) = None
 shape_after (Some (byte ∷ bytes)) = entry_of shapes byte
 
-abbrev pub shape_calls : List (List ℕ) → List Call
-shape_calls [] = []
-shape_calls (text ∷ texts) =
+-- Only the first text counts.
+abbrev pub cursor_shape_calls : List (List ℕ) → List Call
+cursor_shape_calls [] = []
+cursor_shape_calls (text ∷ texts) =
     call_some (λ shape. call.SetCursorShape shape)
     (shape_after (after_word (codes "CursorShape=") text))
 
@@ -138,6 +148,8 @@ abbrev pub clipboard_of : List ℕ → ℕ
 clipboard_of [] = 0x63
 clipboard_of (byte ∷ bytes) = byte
 
+-- `?` asks for what the clipboard holds. Other data are stored, and not decoded. Later texts are
+-- ignored.
 abbrev pub clipboard_calls : List ℕ → List (List ℕ) → List Call
 clipboard_calls terminator [] = []
 clipboard_calls terminator (name ∷ []) = []
@@ -162,8 +174,8 @@ command_table =
     (codes "10", λ terminator texts. dynamic_calls 10 terminator texts) ∷
     (codes "11", λ terminator texts. dynamic_calls 11 terminator texts) ∷
     (codes "12", λ terminator texts. dynamic_calls 12 terminator texts) ∷
-    (codes "22", λ terminator texts. pointer_calls texts) ∷
-    (codes "50", λ terminator texts. shape_calls texts) ∷
+    (codes "22", λ terminator texts. mouse_cursor_icon_calls texts) ∷
+    (codes "50", λ terminator texts. cursor_shape_calls texts) ∷
     (codes "52", λ terminator texts. clipboard_calls terminator texts) ∷
     (codes "104", λ terminator texts. reset_calls texts) ∷
     (codes "110", λ terminator texts. call.ResetColor (number_of_color Foreground) ∷ []) ∷

@@ -21,6 +21,7 @@ change_call change.Reset number = call.UnsetMode (mode_of number)
 change_call change.SetPrivate number = call.SetPrivateMode (private_mode_of number)
 change_call change.ResetPrivate number = call.UnsetPrivateMode (private_mode_of number)
 
+-- One call per number, in order.
 abbrev pub change_calls : ModeChange → List ℕ → List Call
 change_calls which numbers = map (λ number. change_call which number) numbers
 
@@ -31,9 +32,11 @@ abbrev pub repeat_calls : Option ℕ → ℕ → List Call
 repeat_calls None count = []
 repeat_calls (Some character) count = replicate count (call.Input character)
 
+-- DECST8C: 5 sets a tab stop at every eighth column.
 abbrev pub set_tabs_table : List (Row (List Call))
 set_tabs_table = (5, call.SetTabs 8 ∷ []) ∷ []
 
+-- XTWINOPS: the sizes of the text area, and xterm's stack of titles.
 abbrev pub window_operation_table : List (Row (List Call))
 window_operation_table =
     (14, call.TextAreaSizePixels ∷ []) ∷
@@ -121,6 +124,7 @@ module _ (last : Option ℕ) (groups : List (List ℕ)) where
       (0x75, call.RestoreCursorPosition ∷ []) ∷  -- u: SCORC
       []
 
+  -- With `?`: private sequences of DEC, and those of xterm and kitty.
   abbrev pub question_table : List (Row (List Call))
   question_table =
       (0x57, unwrap_or (entry_of set_tabs_table ps) []) ∷  -- W: DECST8C
@@ -130,33 +134,39 @@ module _ (last : Option ℕ) (groups : List (List ℕ)) where
       (0x75, call.ReportKeyboardMode ∷ []) ∷  -- u: kitty
       []
 
+  -- With `>`: xterm's keys are set, or kitty's keyboard modes pushed.
   abbrev pub greater_table : List (Row (List Call))
   greater_table =
       (0x6d, modify_keys_calls pn ps2) ∷  -- m: XTMODKEYS
       (0x75, call.PushKeyboardMode (keyboard_modes ps) ∷ []) ∷  -- u: kitty
       []
 
+  -- With `=`: kitty's keyboard modes are changed.
   abbrev pub equals_table : List (Row (List Call))
   equals_table =
       (0x75, call.SetKeyboardMode (keyboard_modes ps) (behavior_of pn2) ∷ []) ∷  -- u: kitty
       []
 
+  -- With `<`: kitty's keyboard modes are popped, as many as the number says.
   abbrev pub less_table : List (Row (List Call))
   less_table =
       (0x75, call.PopKeyboardModes pn ∷ []) ∷  -- u: kitty
       []
 
+  -- With a space: the character path of ECMA-48, and DEC's cursor style.
   abbrev pub space_table : List (Row (List Call))
   space_table =
       (0x6b, scp_calls ps ps2) ∷  -- k: SCP
       (0x71, cursor_style_calls ps) ∷  -- q: DECSCUSR
       []
 
+  -- With `$`: DEC's request for an ANSI mode.
   abbrev pub dollar_table : List (Row (List Call))
   dollar_table =
       (0x70, call.ReportMode (mode_of ps) ∷ []) ∷  -- p: DECRQM
       []
 
+  -- With `?$`: DEC's request for a private mode.
   abbrev pub question_dollar_table : List (Row (List Call))
   question_dollar_table =
       (0x70, call.ReportPrivateMode (private_mode_of ps) ∷ []) ∷  -- p: DECRQM

@@ -23,6 +23,7 @@ execute_table =
     (0x1a, call.Substitute ∷ []) ∷  -- SUB
     []
 
+-- A control without a row makes no call.
 abbrev pub execute_calls : ℕ → List Call
 execute_calls byte = unwrap_or (entry_of execute_table byte) []
 
@@ -45,14 +46,16 @@ escape_table =
 abbrev pub charset_table : List (Row CharsetIndex)
 charset_table = (0x28, G0) ∷ (0x29, G1) ∷ (0x2a, G2) ∷ (0x2b, G3) ∷ []
 
+-- The sets by their final byte: 0 is DEC Special Graphics, and B is ASCII.
 abbrev pub standard_charsets : List (Row StandardCharset)
 standard_charsets = (0x30, SpecialCharacterAndLineDrawing) ∷ (0x42, Ascii) ∷ []
 
+-- An unknown set, or one that is designated as none of G0 to G3, makes no call.
 abbrev pub charset_calls : Option CharsetIndex → Option StandardCharset → List Call
 charset_calls (Some index) (Some charset) = call.ConfigureCharset index charset ∷ []
 charset_calls _ _ = []
 
--- `ESC # 8` is DECALN.
+-- `ESC # 8` is DECALN. Several intermediates make no call.
 abbrev pub escape_calls : List ℕ → ℕ → List Call
 escape_calls [] byte = unwrap_or (entry_of escape_table byte) []
 escape_calls (intermediate ∷ []) byte =

@@ -11,7 +11,7 @@ use Rattle.vte.specs.Refusal.{HasAdvancedPart}
 use Rattle.vte_core.specs.declared.parser.refused.Refused.{Refused}
 use Rattle.vte_core.specs.LongParser.{memory_of}
 
--- The processor has given back its memory: that for data of a command, and that to join a text.
+-- The processor has freed its memory: that for data of a command, and that to join a text.
 abbrev pub HasFreedMemoryLong : {T A : Type 0} → LongProcessor T A → Type 0
 HasFreedMemoryLong processor =
     (memory_of processor.engine.parser ≡ 0)

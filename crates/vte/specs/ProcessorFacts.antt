@@ -13,7 +13,8 @@ use Rattle.vte.specs.Memory.{HasTextMemory}
 use Rattle.vte.specs.Views.{engine_view, EngineView, limited_engine_view, long_parser_view}
 use Rattle.vte_core.specs.Stream.{events}
 
--- `T` is the type of its timeout, and `W` that of the timeout's value.
+-- What is known of a processor, of whichever kind. `T` is the type of the processor's timeout, and
+-- `W` that of the timeout's value.
 pub record ProcessorFacts (T W : Type 0) : Type 1 where
   -- It has parsed bytes, and holds those that follow. The timeout has this value.
   pub has_parsed_and_holds : (parsed held : List ℕ) → (timeout : W) → Type 0

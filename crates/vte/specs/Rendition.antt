@@ -119,6 +119,7 @@ joined_rendition number numbers (Some with_color) =
 joined_rendition number numbers None =
     without_further_groups (if number == 4 then Some (underline_of numbers) else None)
 
+-- A group of several numbers is read by itself, as ISO 8613-6 writes colours with `:`.
 abbrev pub rendition : List ℕ → List (List ℕ) → Rendition
 rendition [] groups = without_further_groups None
 rendition (number ∷ []) groups = single_rendition number (entry_of color_table number) groups
@@ -133,5 +134,6 @@ attributes_from zero (group ∷ groups) =
     let here = rendition group groups in
     option_to_list here.attribute ++ attributes_from here.used groups
 
+-- One call per attribute.
 abbrev pub attribute_calls : List (List ℕ) → List Call
 attribute_calls groups = map (λ attribute. TerminalAttribute attribute) (attributes_from 0 groups)

@@ -74,5 +74,6 @@ bottom_of number = if number == 0 then None else Some number
 abbrev pub keyboard_modes : ℕ → KeyboardModes
 keyboard_modes number = modes_of_bits (number % 32)
 
+-- 1 and unknown numbers replace the modes.
 abbrev pub behavior_of : ℕ → KeyboardModesApplyBehavior
 behavior_of number = if number == 3 then Difference else if number == 2 then Union else Replace

@@ -15,6 +15,7 @@ expiry_in timeout = timeout.expiry
 abbrev pub is_pending : {C : Type 0} → StdSyncHandler C → Bool
 is_pending timeout = is_some timeout.expiry
 
+-- The clock doesn't matter: the caller decides when an update has expired.
 abbrev pub pending_meaning : TimeoutMeaning Bool
 pending_meaning =
     record {

@@ -11,6 +11,7 @@ use Rattle.vte_types.specs.Words.{after_word}
 
 -- ---- events that begin an update, and how often
 
+-- The private mode of synchronized updates.
 abbrev pub update_mode : ℕ
 update_mode = 2026
 
@@ -18,6 +19,7 @@ update_mode = 2026
 abbrev pub is_update_group : List ℕ → Bool
 is_update_group group = first_number group == update_mode
 
+-- A sequence may name the mode more than once.
 abbrev pub update_group_count : List (List ℕ) → ℕ
 update_group_count [] = 0
 update_group_count (group ∷ groups) =

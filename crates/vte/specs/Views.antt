@@ -22,6 +22,7 @@ limited_parser_view {N} = record {
   lost = lost_data;
 }
 
+-- Without a limit it also needs memory for the data of an open command.
 abbrev pub long_parser_view : {A : Type 0} → ParserView (LongParser A)
 long_parser_view =
     record { has_read = HasReadLong; has_memory = ParserHasMemory; lost = lost_data_long }

@@ -64,8 +64,8 @@ impl<T: Timeout + Drop, A: Allocator, const N: usize> BoundedProcessor<T, A, N> 
         self.engine.parser.command_lost_data()
     }
 
-    /// Stops an update: parses the bytes that are held back, tells the handler that the update has
-    /// ended, and clears the timeout. The handler is called without an update, too.
+    /// Stops an update: parses the bytes that are held back, calls the handler to tell it that the
+    /// update has ended, and clears the timeout. This call is made even if no update is open.
     pub fn stop_sync<H: Handler>(&mut self, handler: &mut H)
         ensures { StopsSync (processor_meaning (Some N) H.step T.set T.clear T.allows)
             (bounded_facts T.value_of self.old) (bounded_facts T.value_of self.new)

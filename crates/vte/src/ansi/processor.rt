@@ -92,8 +92,8 @@ impl<T: Timeout + Drop, A: Allocator> Processor<T, A> {
         self.engine.parser.command_lost_data()
     }
 
-    /// Stops an update: parses the bytes that are held back, tells the handler that the update has
-    /// ended, and clears the timeout. The handler is called without an update, too.
+    /// Stops an update: parses the bytes that are held back, calls the handler to tell it that the
+    /// update has ended, and clears the timeout. This call is made even if no update is open.
     pub fn stop_sync<H: Handler>(&mut self, handler: &mut H)
         ensures { StopsSync (processor_meaning default_limit H.step T.set T.clear T.allows)
             (processor_facts T.value_of self.old) (processor_facts T.value_of self.new)

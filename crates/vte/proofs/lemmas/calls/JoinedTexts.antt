@@ -3,8 +3,8 @@
 use Rattle.std.proofs.lemmas.Str.{is_utf8-from_IsUtf8, IsUtf8-from_is_utf8}
 use Rattle.std.specs.Option.{option_map, unwrap_or}
 use Rattle.vte.proofs.Common.{ap, append-nil, append_assoc, arith, Bool, Bor, concat, drop, drop_more, false, false_from_ne_true, filter_map, FitsTextCapacity, get_or, id_of, is_utf8, IsUtf8, join_with_byte, joined_size, joined_texts, length, length-append, link_to, List, map, None, Option, refl, Some, sym, text_in, text_to_join, true, ℕ, [], ◌++◌, ◌+◌, ◌<◌, ◌∙◌, ◌∷◌, ◌≡◌, ◌≤◌}
-use Rattle.vte.specs.declared.ansi.calls.joined_text.Malformed.{Malformed}
-use Rattle.vte.specs.declared.ansi.calls.joined_text.Malformed.TheVariants.{Empty, LeftOut}
+use Rattle.vte.specs.declared.ansi.calls.joined_text.MalformedPiece.{MalformedPiece}
+use Rattle.vte.specs.declared.ansi.calls.joined_text.MalformedPiece.TheVariants.{Empty, LeftOut}
 
 -- What texts add after others, each with a separator unless it is the first.
 abbrev joined_more : Bool → List (List ℕ) → List ℕ
@@ -21,26 +21,26 @@ joined-all [] = refl
 joined-all (text ∷ texts) = sym (joined-text_to_join text texts)
 
 -- The text holds what was joined, the texts of the pieces that are left add the rest, and they fit.
-pub record Joins (malformed : Malformed) (size : ℕ) (text : List ℕ) (is_first : Bool)
+pub record Joins (malformed : MalformedPiece) (size : ℕ) (text : List ℕ) (is_first : Bool)
     (left all : List (List ℕ)) : Type 0 where
   pub joins : text ++ joined_more is_first (filter_map (text_in malformed) left) ≡ joined_texts malformed all
   pub fits : length text + joined_size left ≤ size
 
-pub joins-begin : {malformed : Malformed} {size : ℕ} {text : List ℕ} {all : List (List ℕ)} → text ≡ []
+pub joins-begin : {malformed : MalformedPiece} {size : ℕ} {text : List ℕ} {all : List (List ℕ)} → text ≡ []
     → FitsTextCapacity size all → Joins malformed size text true all all
 joins-begin {malformed} {all} empty fits =
     record { joins = rw empty (joined-all (filter_map (text_in malformed) all)); fits = rw empty (omega (arith, fits)) }
 
-texts-more : (malformed : Malformed) (piece : List ℕ) {part : List ℕ} (left : List (List ℕ))
+texts-more : (malformed : MalformedPiece) (piece : List ℕ) {part : List ℕ} (left : List (List ℕ))
     → Some part ≡ text_in malformed piece
     → filter_map (text_in malformed) (piece ∷ left) ≡ part ∷ filter_map (text_in malformed) left
 texts-more malformed piece left has_text = rw (← has_text) refl
 
-texts-same : (malformed : Malformed) (piece : List ℕ) (left : List (List ℕ)) → None ≡ text_in malformed piece
+texts-same : (malformed : MalformedPiece) (piece : List ℕ) (left : List (List ℕ)) → None ≡ text_in malformed piece
     → filter_map (text_in malformed) (piece ∷ left) ≡ filter_map (text_in malformed) left
 texts-same malformed piece left no_text = rw (← no_text) refl
 
-text-short : (malformed : Malformed) (piece part : List ℕ) → Some part ≡ text_in malformed piece
+text-short : (malformed : MalformedPiece) (piece part : List ℕ) → Some part ≡ text_in malformed piece
     → length part ≤ length piece
 text-short LeftOut piece part has_text = grind arith
 text-short Empty piece part has_text = grind arith
@@ -49,7 +49,8 @@ text_to_join-length : (is_first : Bool) (text : List ℕ) → length (text_to_jo
 text_to_join-length true text = omega arith
 text_to_join-length false text = omega arith
 
-module _ (malformed : Malformed) (pieces : List (Bor (List ℕ))) (i : ℕ) (d : Bor (List ℕ)) (inside : i < length pieces)
+module _ (malformed : MalformedPiece) (pieces : List (Bor (List ℕ))) (i : ℕ) (d : Bor (List ℕ))
+    (inside : i < length pieces)
     {size : ℕ} {text : List ℕ} {is_first : Bool}
     {all : List (List ℕ)}
     (before : Joins malformed size text is_first (map (λ piece. piece.now) (drop i pieces)) all) where
@@ -101,7 +102,7 @@ pub is_text : (text : List ℕ) → IsUtf8 text → is_utf8 text ≡ true
 is_text text utf8 = is_utf8-from_IsUtf8 text utf8
 
 -- One piece needs no joining: its text, if any, is the joined text.
-pub one_text : (malformed : Malformed) (piece : List ℕ) (found : Option (Bor (List ℕ))) (nothing : Bor (List ℕ))
+pub one_text : (malformed : MalformedPiece) (piece : List ℕ) (found : Option (Bor (List ℕ))) (nothing : Bor (List ℕ))
     → option_map (λ text. text.now) found ≡ text_in malformed piece
     → nothing.now ≡ [] → joined_texts malformed (piece ∷ []) ≡ (unwrap_or found nothing).now
 one_text malformed piece None nothing found_is empty = rw (← found_is, empty) refl

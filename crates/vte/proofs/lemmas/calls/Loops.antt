@@ -1,7 +1,7 @@
 -- Loops that make calls one by one: what is left gives what all gave. The invariant is an equation between the value
 -- now and the value after all calls, and each round takes one call off its prefix.
 use Rattle.vte.proofs.Common.{after, arith, attributes_from, Bor, Call, decimal_number, drop, length, List, map, palette_entries_calls, palette_entry_calls, refl, slice_index_or, suc, take, take_all, zero, ℕ, [], ◌+◌, ◌-◌, ◌<◌, ◌∷◌, ◌≡◌, ◌≤◌}
-use Rattle.vte.proofs.lemmas.EventCalls.{after_calls-append}
+use Rattle.vte.proofs.lemmas.events.EventCalls.{after_calls-append}
 
 -- At i, one more is left than at i + 1.
 pub one_less : (n i : ℕ) → i < n → n - i ≡ suc (n - (i + 1))

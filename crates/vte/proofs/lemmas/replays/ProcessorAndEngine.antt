@@ -66,6 +66,7 @@ module _ {N : ℕ} {B T A V W : Type 0} {size_of : B → ℕ} {timeout_of : T �
     {engine next : Engine (Parser N) B T A} {Had Has : Type 0} {old new : V}
     (had : Had → HasTextMemory N (size_of engine.state.text))
     (has : HasTextMemory N (size_of next.state.text) → Has) where
+  -- An engine's stop is its processor's, and memory for texts stays.
   pub stops_within : StopsSync meaning (limited_facts size_of timeout_of engine)
       (limited_facts size_of timeout_of next) old new
       → StopsSync meaning (limited_facts_with size_of timeout_of engine Had)
@@ -79,6 +80,7 @@ module _ {N : ℕ} {B T A V W : Type 0} {size_of : B → ℕ} {timeout_of : T �
     keeps_memory = λ state is_at. stops.keeps_memory state (is_at-limited had is_at);
   }
 
+  -- With memory for texts, a parser with a limit is refused none, so all bytes are read.
   pub refused-never : (bytes : Bor (List ℕ)) (result : Result (Unit {0}) Refused)
       → AdvancesUntilRefused meaning (limited_facts size_of timeout_of engine)
       (limited_facts size_of timeout_of next) old new bytes.now result
@@ -131,6 +133,7 @@ module _ {T A V W : Type 0} {timeout_of : T → W} {meaning : Meaning V W} {new 
 
 module _ {T A V W : Type 0} {timeout_of : T → W} {meaning : Meaning V W} {processor next : LongProcessor T A}
     {old new : V} (bytes : Bor (List ℕ)) where
+  -- A call without a limit is refused no memory that was there, and otherwise reads all bytes.
   pub advances_long : (result : Result (Unit {0}) Refused)
       → AdvancesUntilRefused meaning (long_facts timeout_of processor) (long_facts timeout_of next)
       old new bytes.now result

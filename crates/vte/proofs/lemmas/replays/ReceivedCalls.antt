@@ -2,7 +2,7 @@
 -- (`delivers-replay`). By induction over the list: the calls before a stop are those of the bytes up to it, and
 -- positions of later stops only grow.
 use Rattle.vte.proofs.Common.{added_calls, Advance, after, after_last_end, ap, append-nil, append_assoc, AreInOrder, arith, between_turns, Bool, calls, calls_after, calls_between, calls_with_stops, cases_Bool, done, drop_all, events, extend, from_begin_update, hold_turn, inl, inr, inside_turn, length, length-append, List, Meaning, Option, parsing_turn, prefix_to_begin, refl, release, State, Step, stop, StopSync, subst, sym, take, take-append-add, take-append_seam, take_all, TakesSteps, TakesTurns, TakesTurnsUntilRefused, turn, turns, ℕ, [], ◌++◌, ◌+◌, ◌-◌, ◌∙◌, ◌∷◌, ◌≡◌, ◌≤◌}
-use Rattle.vte.proofs.lemmas.EventCalls.{added_calls-append, after_calls-append}
+use Rattle.vte.proofs.lemmas.events.EventCalls.{added_calls-append, after_calls-append}
 use Rattle.vte.proofs.lemmas.turns.TurnKinds.{hold_turn-all, hold_turn-rest, is_held, is_stopped, refused-parses, stop_if_due, turn-holds, turn-parses}
 use Rattle.vte.proofs.lemmas.updates.Sequences.{cases_Option}
 

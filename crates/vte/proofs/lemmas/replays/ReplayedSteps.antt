@@ -32,6 +32,7 @@ module _ {V W : Type 0} (meaning : Meaning V W) (steady : IsSteady meaning.timeo
       advances-only_one _ end other _ (turn-invariant meaning pending state (b ∷ bytes) allowed hold_invariant) takes
       (rw (answers-only_one state also pending hold_invariant allowed_too allowed) at takes_too)
 
+  -- With a steady timeout, calls lead to one state only: each turn has one answer.
   pub replay-only_one : (state end other : State V W) (steps : List Step) → HoldInvariantAt meaning state
       → TakesSteps meaning state steps end
       → TakesSteps meaning state steps other → other ≡ end
@@ -48,6 +49,7 @@ module _ {V W : Type 0} (meaning : Meaning V W) (steady : IsSteady meaning.timeo
 -- Lists of calls compose (`replay-append`), so a loop keeps `HasReplayed`.
 
 module _ {V W : Type 0} (meaning : Meaning V W) where
+  -- Calls keep the hold's invariant.
   pub replay-invariant : (state next : State V W) (steps : List Step) → TakesSteps meaning state steps next
       → HoldInvariantAt meaning state
       → HoldInvariantAt meaning next
@@ -82,6 +84,7 @@ module _ {V W : Type 0} (meaning : Meaning V W) where
     handler_is = still.handler_is;
   }
 
+  -- Each byte was parsed or is held, and the handler received the calls.
   pub steps_delivered : (state next : State V W) (steps : List Step) → TakesSteps meaning state steps next
       → HasDelivered meaning state (given_bytes steps) next
   steps_delivered state next steps takes =
@@ -108,6 +111,7 @@ module _ {V W : Type 0} (meaning : Meaning V W) where
       ∙ progress.each_once ∙ sym (append_assoc progress.more next.held (drop read bytes))))
       (delivers-refused meaning next state reached steps bytes (drop read bytes) takes until_refused)
 
+  -- All that is promised of a list of calls follows from the state to which it leads.
   pub has_replayed : {state : State V W} (next : State V W) {steps : List Step} {IsNowAt : State V W → Type 0}
       → TakesSteps meaning state steps next
       → IsNowAt next → HasReplayed meaning state steps IsNowAt

@@ -2,7 +2,7 @@
 -- `plain_call`): nothing is ever held, so there are no stops. By induction over turns: each one parses, and ends with
 -- nothing held.
 use Rattle.vte.proofs.Common.{added_calls, Advance, after, ap, append-nil, Bor, calls, done, events, false, given_bytes, HasAdvanced, HasParsedAll, HasReplayed, IsAt, List, Meaning, ProcessorFacts, refl, Replays, State, Step, StopSync, sym, TakesAllTurns, TakesSteps, true, turn, turns, ℕ, [], ◌++◌, ◌∙◌, ◌∷◌, ◌≡◌}
-use Rattle.vte.proofs.lemmas.EventCalls.{after_calls-append, calls_whole}
+use Rattle.vte.proofs.lemmas.events.EventCalls.{after_calls-append, calls_whole}
 use Rattle.vte.proofs.lemmas.replays.ReceivedCalls.{calls_between-whole}
 use Rattle.vte.proofs.lemmas.replays.ReplayedSteps.{advance_runs}
 use Rattle.vte.specs.ProcessorCalls.{AreAdvances, IsNeverPending, ParsesAll}
@@ -97,6 +97,7 @@ module _ {T V W : Type 0} (meaning : Meaning V W) {processor next : ProcessorFac
         plain_parses old has_parsed meaning never steps are_advances (replayed _ (is_at_start old has_parsed));
   }
 
+  -- The clauses of `Replays`, of which the first gives the second.
   pub replays_all : {steps : List Step}
       → ((state : State V W) → IsAt processor old state → HasReplayed meaning state steps (IsAt next new))
       → Replays meaning processor next old new steps

@@ -6,6 +6,7 @@ use Rattle.vte.proofs.lemmas.turns.TurnKinds.{hold_turn-all, hold_turn-rest, is_
 use Rattle.vte.proofs.lemmas.updates.Prefixes.{prefix-is}
 use Rattle.vte.proofs.lemmas.updates.Sequences.{cases_Option, stays-is}
 
+-- The bytes that a parsing turn parses and those that it leaves are all its bytes.
 pub prefix-rest : (limit : Option ℕ) (stream bytes : List ℕ)
     → prefix_to_begin limit stream bytes ++ drop (length (prefix_to_begin limit stream bytes)) bytes ≡ bytes
 prefix-rest limit stream bytes =
@@ -19,10 +20,12 @@ pub record Progresses {V W : Type 0} (state next : State V W) (bytes left : List
   pub parsed_is : next.parsed ≡ state.parsed ++ more
   pub each_once : state.held ++ bytes ≡ more ++ (next.held ++ left)
 
+-- No byte is lost: each is parsed, held or left.
 pub all_bytes-grown : {V W : Type 0} {state next : State V W} {bytes left : List ℕ} → Progresses state next bytes left
     → all_bytes next ++ left ≡ all_bytes state ++ bytes
 all_bytes-grown {state} {next} {bytes} {left} progress = search (rules, arith, append_assoc)
 
+-- What one part of a call and the next do with bytes is what both do.
 pub progresses-then : {V W : Type 0} {state reached next : State V W} {bytes rest left : List ℕ}
     → Progresses state reached bytes rest
     → Progresses reached next rest left → Progresses state next bytes left
@@ -45,10 +48,12 @@ module _ {V W : Type 0} (meaning : Meaning V W) where
   pub stop_if_due-holds_nothing : (pending : Bool) (state : State V W) → (stop_if_due meaning pending state).held ≡ []
   stop_if_due-holds_nothing pending state = search (rules, arith, nil_from_length)
 
+  -- A stop, if one is due, parses held bytes and no given ones.
   pub progresses-stop_if_due : (pending : Bool) {state : State V W} {bytes : List ℕ}
       → Progresses state (stop_if_due meaning pending state) bytes bytes
   progresses-stop_if_due pending {state} = search (rules, arith)
 
+  -- If nothing is held, the first of the given bytes are parsed.
   pub progresses-parse : {state : State V W} (prefix : List ℕ) {left bytes : List ℕ} → state.held ≡ []
       → prefix ++ left ≡ bytes
       → Progresses state (parse meaning state prefix) bytes left
@@ -85,12 +90,14 @@ module _ {V W : Type 0} (meaning : Meaning V W) where
         (prefix-rest meaning.limit (stop_if_due meaning pending state).parsed bytes)))
   ]
 
+  -- By induction over the turns of a call.
   pub progresses-turns : {state next : State V W} {bytes left : List ℕ} → TakesTurns meaning state bytes next left
       → Progresses state next bytes left
   progresses-turns done = progresses-nothing
   progresses-turns {state} {next} {bytes = b ∷ bytes} {left} (turns pending allowed takes) =
       progresses-then (progresses-turn pending state (b ∷ bytes)) (progresses-turns takes)
 
+  -- By induction over the calls, each of which leaves no byte.
   pub progresses-replay : (state next : State V W) (steps : List Step) → TakesSteps meaning state steps next
       → Progresses state next (given_bytes steps) []
   progresses-replay state next [] takes = rw takes progresses-nothing

@@ -36,10 +36,12 @@ module _ {P B T A V W : Type 0} {view : EngineView P B T W} {engine : Engine P B
 
 -- Turns go on with the memory that was there before.
 module _ {T V W : Type 0} {value : V} {state : State V W} where
+  -- An engine that does nothing keeps its memory.
   pub keeping_memory-same : {engine : ProcessorFacts T W} → IsAt engine value state
       → IsAtKeepingMemory engine engine value state
   keeping_memory-same is_at = record { engine_at = is_at; keeps_memory = λ stream count had. had }
 
+  -- If two parts of a turn keep memory, both together do.
   pub keeping_memory-then : {old mid new : ProcessorFacts T W} {other : V} {reached : State V W}
       → IsAtKeepingMemory old mid other reached → IsAtKeepingMemory mid new value state
       → IsAtKeepingMemory old new value state
@@ -110,6 +112,7 @@ module _ {T V W : Type 0} {meaning : Meaning V W} {old new : ProcessorFacts T W}
         λ state is_at stream count had. (ends state is_at).keeps_memory stream count (keeps stream count had);
   }
 
+  -- The converse, from the stop's contract.
   pub engine-at_stop : {state : State V W} → StopsSync meaning old new before value → IsAt old before state
       → IsAtKeepingMemory old new value (stop meaning state)
   engine-at_stop stops is_at = record { engine_at = stops.stops _ is_at; keeps_memory = stops.keeps_memory _ is_at }
@@ -148,6 +151,7 @@ ends_turn {meaning} {state} {bytes} pending allowed not_held here (Err refused) 
 
 module _ {V W : Type 0} (meaning : Meaning V W) {state : State V W} {bytes : List ℕ} {n : ℕ}
     {IsNowAt : State V W → Type 0} where
+  -- A turn that holds its bytes has read all of them.
   pub turned_hold : {pending : Bool} → meaning.timeout.allows state.timeout pending → is_held pending state bytes ≡ true
       → n ≡ length bytes → IsNowAt (hold_turn meaning state bytes) → HasTurned meaning state bytes n IsNowAt
   turned_hold {pending} allowed held all_read is_at = search (rules, arith, turn-holds, drop_all)
@@ -170,9 +174,11 @@ module _ {V W : Type 0} (meaning : Meaning V W) (state : State V W) (bytes : Lis
     pub takes : TakesTurns meaning state bytes here (drop read bytes)
     pub is_at : IsNowAt here
 
+  -- Before the first turn.
   pub reaches-nothing : {IsNowAt : State V W → Type 0} → IsNowAt state → HasReached 0 0 IsNowAt
   reaches-nothing is_at = record { here = state; enough = omega arith; takes = done; is_at = is_at }
 
+  -- One more turn reads at least one more byte.
   pub reaches-more : {T : Type 0} {first mid new : ProcessorFacts T W} {before value : V} {count read n : ℕ}
       → (reached : HasReached count read (IsAtKeepingMemory first mid before)) → read < length bytes
       → HasTurned meaning reached.here (take (length bytes - read) (drop read bytes)) n
@@ -253,6 +259,7 @@ module _ {V W : Type 0} {meaning : Meaning V W} {state : State V W} {bytes : Lis
 -- What a call ensures follows from its turns.
 module _ {T V W : Type 0} {meaning : Meaning V W} {old new : ProcessorFacts T W} {before value : V} (bytes : List ℕ)
   where
+    -- At the loop's end all bytes are read.
     pub engine_reads-all : {count read : ℕ}
         → ((state : State V W) → IsAt old before state
         → HasReached meaning state bytes count read (IsAtKeepingMemory old new value))
@@ -267,6 +274,7 @@ module _ {T V W : Type 0} {meaning : Meaning V W} {old new : ProcessorFacts T W}
       keeps_memory = λ state is_at. (reaches state is_at).is_at.keeps_memory;
     }
 
+    -- At a refusal some bytes are left, and there is no memory for them.
     pub engine_reads-until : {refused : Refused}
         → ((state : State V W) → IsAt old before state
         → HasAdvancedPart meaning state bytes refused.read (IsAtKeepingMemory old new value))

@@ -9,12 +9,14 @@ use Rattle.vte.proofs.lemmas.updates.Sequences.{cases_Option, is_prefix_of-appen
 -- ---- a steady timeout is pending once it is set, and stays so when it is set again
 
 module _ {W : Type 0} (meaning : TimeoutMeaning W) (steady : IsSteady meaning) where
+  -- A timeout that is pending stays so, however often it is set.
   allows-still_pending : (n : ℕ) (value : W) → AllowsOnly meaning value true
       → AllowsOnly meaning (timeout_set_times meaning n value) true
   allows-still_pending zero value allows = allows
   allows-still_pending (suc n) value allows =
       allows-still_pending n (meaning.set value update_nanos) (steady.set value update_nanos)
 
+  -- Once it is set it is pending, whatever it was before.
   allows-pending : (n : ℕ) (value : W) → 0 < n → AllowsOnly meaning (timeout_set_times meaning n value) true
   allows-pending zero value some_times = absurd (omega arith)
   allows-pending (suc n) value some_times =
@@ -23,10 +25,12 @@ module _ {W : Type 0} (meaning : TimeoutMeaning W) (steady : IsSteady meaning) w
 -- ---- a stop
 
 module _ {V W : Type 0} (meaning : Meaning V W) where
+  -- A stop clears the timeout and empties the hold.
   stop-outside : (state : State V W) → IsSteady meaning.timeout
       → IsOutsideUpdate meaning.timeout [] (stop meaning state).timeout
   stop-outside state steady = record { not_pending = steady.clear _; none_held = refl }
 
+  -- After a stop the invariant is true, even if it wasn't before.
   pub stop-invariant : (state : State V W) → HoldInvariantAt meaning (stop meaning state)
   stop-invariant state = record {
     no_end = refl;
@@ -36,6 +40,7 @@ module _ {V W : Type 0} (meaning : Meaning V W) where
 
   -- ---- a parsing turn
 
+  -- A parsing turn begins outside an update, and ends there or with the byte that begins one.
   parsing_turn-invariant : (state : State V W) (bytes : List ℕ) → state.held ≡ []
       → (IsSteady meaning.timeout → IsOutsideUpdate meaning.timeout state.held state.timeout)
       → HoldInvariantAt meaning (parsing_turn meaning state bytes).state
@@ -59,6 +64,7 @@ module _ {V W : Type 0} (meaning : Meaning V W) where
 
   -- ---- a turn that holds
 
+  -- Bytes that stay held are all of them or start with a begin-update, so the update is still open.
   release-invariant : (state : State V W) (kept : List ℕ) → StaysHeld state.held kept → length state.held ≤ max_held
       → (IsSteady meaning.timeout → IsInsideUpdate meaning.limit meaning.timeout state.parsed state.held state.timeout)
       → HoldInvariantAt meaning (release meaning state kept)
@@ -81,11 +87,13 @@ module _ {V W : Type 0} (meaning : Meaning V W) where
     });
   }
 
+  -- If a steady timeout answers "pending", an update is open: outside one, it can't give that answer.
   inside-pending : (state : State V W) → HoldInvariantAt meaning state → meaning.timeout.allows state.timeout true
       → IsSteady meaning.timeout
       → IsInsideUpdate meaning.limit meaning.timeout state.parsed state.held state.timeout
   inside-pending state hold_invariant allowed steady = search (rules, arith)
 
+  -- A parsing turn begins outside an update, since one that is due was stopped.
   pub stop_if_due-outside : (pending : Bool) (state : State V W) → meaning.timeout.allows state.timeout pending
       → HoldInvariantAt meaning state
       → IsSteady meaning.timeout
@@ -93,6 +101,7 @@ module _ {V W : Type 0} (meaning : Meaning V W) where
       (stop_if_due meaning pending state).timeout
   stop_if_due-outside pending state allowed hold_invariant steady = search (rules, arith)
 
+  -- By whether the hold then has an end-update: if not, all bytes stay held, and if so, those that `release` keeps.
   hold_turn-invariant : (state : State V W) (bytes : List ℕ) → HoldInvariantAt meaning state
       → meaning.timeout.allows state.timeout true
       → length (state.held ++ bytes) ≤ max_held → HoldInvariantAt meaning (hold_turn meaning state bytes)
@@ -121,6 +130,7 @@ module _ {V W : Type 0} (meaning : Meaning V W) where
 
   -- ---- a turn, and turns of a call
 
+  -- A turn holds bytes, which then fit, or it parses them.
   pub turn-invariant : (pending : Bool) (state : State V W) (bytes : List ℕ)
       → meaning.timeout.allows state.timeout pending
       → HoldInvariantAt meaning state
@@ -138,6 +148,7 @@ module _ {V W : Type 0} (meaning : Meaning V W) where
         (stop_if_due-outside pending state allowed hold_invariant))
   ]
 
+  -- By induction over the turns.
   pub turns-invariant : {state next : State V W} {bytes left : List ℕ} → TakesTurns meaning state bytes next left
       → HoldInvariantAt meaning state
       → HoldInvariantAt meaning next

@@ -10,11 +10,13 @@ use Rattle.vte.proofs.lemmas.updates.Prefixes.{prefix-after}
 
 -- ---- turns of a call, and one after them that is refused memory
 
+-- A refusal before the first turn has read nothing.
 pub refused-nothing : {V W : Type 0} (meaning : Meaning V W) {state : State V W} {bytes : List ℕ}
     {IsNowAt : State V W → Type 0} → IsNowAt state → HasBeenRefused meaning state bytes 0 IsNowAt
 refused-nothing meaning {state} is_at = record { next = state; takes = between_turns done; is_at = is_at }
 
 module _ {V W : Type 0} (meaning : Meaning V W) where
+  -- One turn is a list of turns, if there are bytes.
   pub takes-one : {state : State V W} {bytes : List ℕ} (pending : Bool) → 0 < length bytes
       → meaning.timeout.allows state.timeout pending
       → TakesTurns meaning state bytes (turn meaning pending state bytes).state (turn meaning pending state bytes).rest
@@ -29,6 +31,7 @@ module _ {V W : Type 0} (meaning : Meaning V W) where
   taken_on state reached next (b ∷ bytes) left rest (turns pending allowed takes) takes_rest =
       turns pending allowed (taken_on _ reached next _ left rest takes takes_rest)
 
+  -- Turns of some bytes, and turns of the rest up to a refusal, are turns of all up to it.
   pub until_refused-on : (state reached next : State V W) (bytes left rest : List ℕ)
       → TakesTurns meaning state bytes reached left
       → TakesTurnsUntilRefused meaning reached left next rest
@@ -53,6 +56,7 @@ module _ {V W : Type 0} (meaning : Meaning V W) where
       (progresses-then (progresses-stop_if_due meaning pending)
       (progresses-parse meaning refused.prefix (stop_if_due-holds_nothing meaning pending state) refused.bytes_are))
 
+  -- A refused turn, too, has parsed or left each of its bytes.
   pub progresses-until_refused : {state next : State V W} {bytes left : List ℕ}
       → TakesTurnsUntilRefused meaning state bytes next left
       → Progresses state next bytes left
@@ -75,6 +79,7 @@ module _ {V W : Type 0} (meaning : Meaning V W) where
   refused-held pending state next bytes left (not_held, refused) =
       ap (λ next. next.held) refused.state_is ∙ stop_if_due-holds_nothing meaning pending state
 
+  -- The hold's invariant is true after a refusal, as a refused turn holds nothing.
   pub until_refused-invariant : {state next : State V W} {bytes left : List ℕ}
       → TakesTurnsUntilRefused meaning state bytes next left
       → HoldInvariantAt meaning state
@@ -134,6 +139,7 @@ module _ {V W : Type 0} (meaning : Meaning V W) where
       taken_on state _ end bytes _ [] (takes-one pending some_bytes allowed)
       (subst (λ result. TakesTurns meaning result.state result.rest end []) same_turn takes)
 
+  -- With a steady timeout, a further call finishes the turn that was refused memory.
   pub until_refused-goes_on : (state next end : State V W) (bytes left : List ℕ) → IsSteady meaning.timeout
       → HoldInvariantAt meaning state
       → TakesTurnsUntilRefused meaning state bytes next left → TakesAllTurns meaning next left end

@@ -2,7 +2,7 @@
 -- turn ends where the prefix of the whole does: with all bytes (`parsing-all`) or a begin (`parsing-ends`). If memory
 -- for a slice is refused, `ParsingTurnIsRefused` says how far it came (`parsing-refused`).
 use Rattle.vte.proofs.Common.{added, ap, append-nil, append_assoc, arith, begin_count, Bool, drop, drop_all, false, HasParsedPrefix, HasParsedWithoutBegin, HasTakenParsingTurn, length, length-append, length-drop, length-take-le, List, Meaning, nat_lt, nat_tests, parse, ParsingTurnIsRefused, prefix_to_begin, refl, rules, State, sym, take, take-add, take-append-drop, take_all, take_at, true, ℕ, [], ◌++◌, ◌+◌, ◌-◌, ◌<◌, ◌∙◌, ◌≡◌, ◌≤◌}
-use Rattle.vte.proofs.lemmas.EventCalls.{added_calls-append, added_calls-nothing, after_calls-append, timeout_set_times-add}
+use Rattle.vte.proofs.lemmas.events.EventCalls.{added_calls-append, added_calls-nothing, after_calls-append, timeout_set_times-add}
 use Rattle.vte.proofs.lemmas.updates.Prefixes.{begin_count-added, begin_count-none, begin_count-nothing, prefix-after, prefix-all, prefix-more, prefix-some}
 
 pub slice-size : (bytes : List ℕ) (read : ℕ) {count : ℕ} → read ≤ length bytes → count ≤ length bytes - read

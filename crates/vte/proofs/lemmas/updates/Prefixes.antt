@@ -42,6 +42,7 @@ begin_count-before limit stream rest b k zero none_begin found below = begin_cou
 begin_count-before limit stream rest b k (suc i) none_begin found below =
     omega (arith, begin_count-added limit stream (b ∷ []) (take i rest), none_begin, found.none_before i (omega arith))
 
+-- What `prefix_to_begin` finds is such a prefix.
 pub prefix-is : (limit : Option ℕ) (stream bytes : List ℕ)
     → IsPrefix limit stream bytes (length (prefix_to_begin limit stream bytes))
 prefix-is limit stream [] = record {

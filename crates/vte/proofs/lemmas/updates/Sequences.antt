@@ -61,6 +61,7 @@ pub record IsSuffix (part text : List ℕ) : Type 0 where
   pub within : prefix ≤ length text
   pub part_is : part ≡ drop prefix text
 
+-- A suffix and what precedes it are the text.
 pub suffix-length : {part text : List ℕ} → (suffix : IsSuffix part text) → suffix.prefix + length part ≡ length text
 suffix-length {part} {text} suffix =
     omega (arith, suffix.within, ap length suffix.part_is, length-drop suffix.prefix text)
@@ -129,6 +130,7 @@ pub record StaysHeld (held kept : List ℕ) : Type 0 where
   pub no_end : after_last_end kept ≡ None
   pub begins : (kept ≡ held) ⊎ (0 < length kept → is_prefix_of begin_update kept ≡ true)
 
+-- By whether there is an end-update.
 pub stays_held : (held : List ℕ) → StaysHeld held (still_held held)
 stays_held held = elim (cases_Option (after_last_end held)) [
   | inl no_end ↦
@@ -148,6 +150,7 @@ stays_held held = elim (cases_Option (after_last_end held)) [
       })
 ]
 
+-- So the length of what stays held tells what it is.
 pub stays-is : (held : List ℕ) → drop (length held - length (still_held held)) held ≡ still_held held
 stays-is held =
     let suffix = (stays_held held).suffix in

@@ -1,7 +1,7 @@
 //! Colours of numbers, read from any iterator of them.
 ghost use Rattle.std.specs.Prelude.{drop, map, ◌≡◌};
 ghost use Rattle.vte.specs.Colors.{color_reading, kind_reading, without_color_space};
-ghost use Rattle.vte.specs.private.Performer.{first_component};
+ghost use Rattle.vte.specs.private.Colors.{first_component};
 
 use crate::ansi::calls::numbers::NumberIterator;
 use vte_types::{Color, Rgb};

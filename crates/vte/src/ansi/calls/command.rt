@@ -1,15 +1,15 @@
 //! The calls of operating system commands.
 ghost use Rattle.std.specs.Prelude.{bytes_eq, codes, map, ◌≡◌, ◌≤◌};
-ghost use Rattle.vte.specs.CommandCalls.{all_reset, clipboard_calls, color_calls, dynamic_calls, dynamic_color_calls, dynamic_colors, link_calls, link_to, palette_calls, palette_entry_calls, pointer_calls, reset_calls, shape_calls, system_command_calls, title_calls};
+ghost use Rattle.vte.specs.CommandCalls.{all_reset, clipboard_calls, color_calls, cursor_shape_calls, dynamic_calls, dynamic_color_calls, dynamic_colors, link_calls, link_to, mouse_cursor_icon_calls, palette_calls, palette_entry_calls, reset_calls, system_command_calls, title_calls};
 ghost use Rattle.vte.specs.Numbers.{decimal_number};
-ghost use Rattle.vte.specs.private.Performer.{FitsTextCapacity};
+ghost use Rattle.vte.specs.private.JoinedTexts.{FitsTextCapacity};
 ghost use Rattle.vte_handler.specs.Call.{SetHyperlink};
 ghost use Rattle.vte_handler.specs.Handler.{after};
 ghost use Rattle.vte_types.specs.CursorIcon.{icon_of};
 ghost use Rattle.vte_types.specs.Words.{entry_of};
 
 use crate::ansi::calls::color_text::xparse_color;
-use crate::ansi::calls::joined_text::{Malformed, join_texts, text_in};
+use crate::ansi::calls::joined_text::{MalformedPiece, join_texts, text_in};
 use crate::ansi::calls::numbers::{parse_number, push_number};
 use crate::ansi::calls::split::{find_link_id, strip_word};
 use crate::ansi::calls::text_buffer::TextBuffer;
@@ -45,9 +45,9 @@ pub(crate) fn perform_system_command<H: Handler, B: TextBuffer>(
             b"10" => set_dynamic_colors(handler, 10, texts, terminator),
             b"11" => set_dynamic_colors(handler, 11, texts, terminator),
             b"12" => set_dynamic_colors(handler, 12, texts, terminator),
-            b"22" => set_pointer(handler, texts),
-            b"50" => set_shape(handler, texts),
-            b"52" => use_clipboard(handler, texts, terminator),
+            b"22" => set_mouse_cursor_icon(handler, texts),
+            b"50" => set_cursor_shape(handler, texts),
+            b"52" => store_or_load_clipboard(handler, texts, terminator),
             b"104" => reset_colors(handler, texts),
             b"110" => handler.reset_color(Foreground as usize),
             b"111" => handler.reset_color(Background as usize),
@@ -67,9 +67,11 @@ fn set_title<H: Handler, B: TextBuffer>(handler: &mut H, text: &mut B, texts: &[
 {
     match texts {
         [] => {}
-        [title] => handler.set_title(Some(text_in(title, Malformed::LeftOut).unwrap_or("").trim())),
+        [title] => handler.set_title(Some(
+            text_in(title, MalformedPiece::LeftOut).unwrap_or("").trim(),
+        )),
         _ => {
-            join_texts(text, texts, Malformed::LeftOut);
+            join_texts(text, texts, MalformedPiece::LeftOut);
             handler.set_title(Some(text.as_str().trim()));
         }
     }
@@ -146,11 +148,11 @@ fn set_link<H: Handler, B: TextBuffer>(handler: &mut H, text: &mut B, texts: &[&
     match texts {
         [] | [_] => {}
         [parameters, uri] => {
-            let uri = text_in(uri, Malformed::Empty).unwrap_or("");
+            let uri = text_in(uri, MalformedPiece::Empty).unwrap_or("");
             set_link_to(handler, parameters, uri);
         }
         [parameters, uri @ ..] => {
-            join_texts(text, uri, Malformed::Empty);
+            join_texts(text, uri, MalformedPiece::Empty);
             set_link_to(handler, parameters, text.as_str());
         }
     }
@@ -165,7 +167,7 @@ fn set_link_to<H: Handler>(handler: &mut H, parameters: &[u8], uri: &str)
     if uri.is_empty() {
         handler.set_hyperlink(None);
     } else {
-        let id = find_link_id(parameters).and_then(|id| text_in(id, Malformed::LeftOut));
+        let id = find_link_id(parameters).and_then(|id| text_in(id, MalformedPiece::LeftOut));
         handler.set_hyperlink(Some(Hyperlink { id, uri }));
     }
 }
@@ -186,7 +188,7 @@ fn set_dynamic_color<H: Handler>(handler: &mut H, code: usize, text: &[u8], term
 
 /// Sets dynamic colours, or asks for them (OSC 10, 11 and 12): that of `first` and those that
 /// follow, one for each text.
-#[tactic(auto, using(crate::proofs::lemmas::EventCalls::appended))]
+#[tactic(auto, using(crate::proofs::lemmas::events::EventCalls::appended))]
 fn set_dynamic_colors<H: Handler>(handler: &mut H, first: usize, texts: &[&[u8]], terminator: &str)
     requires { first ≤ 12 }
     ensures { H.value_of handler.new
@@ -201,10 +203,10 @@ fn set_dynamic_colors<H: Handler>(handler: &mut H, first: usize, texts: &[&[u8]]
 }
 
 /// Sets the icon of the mouse pointer (OSC 22).
-fn set_pointer<H: Handler>(handler: &mut H, texts: &[&[u8]])
+fn set_mouse_cursor_icon<H: Handler>(handler: &mut H, texts: &[&[u8]])
     ensures { H.value_of handler.new
         ≡ after H.step (H.value_of handler.old)
-        (pointer_calls (map (λ piece. piece.now) texts.now)) }
+        (mouse_cursor_icon_calls (map (λ piece. piece.now) texts.now)) }
 {
     if let [name] = texts {
         if let Some(icon) = find_icon(name) {
@@ -218,13 +220,14 @@ fn find_icon(name: &[u8]) -> Option<CursorIcon>
     ensures { result ≡ icon_of name.now }
 {
     laws::keywords_are_text();
-    CursorIcon::from_str(text_in(name, Malformed::LeftOut)?).ok()
+    CursorIcon::from_str(text_in(name, MalformedPiece::LeftOut)?).ok()
 }
 
 /// Sets the shape of the cursor (OSC 50).
-fn set_shape<H: Handler>(handler: &mut H, texts: &[&[u8]])
+fn set_cursor_shape<H: Handler>(handler: &mut H, texts: &[&[u8]])
     ensures { H.value_of handler.new
-        ≡ after H.step (H.value_of handler.old) (shape_calls (map (λ piece. piece.now) texts.now)) }
+        ≡ after H.step (H.value_of handler.old)
+        (cursor_shape_calls (map (λ piece. piece.now) texts.now)) }
 {
     if let [text, ..] = texts {
         match strip_word(text, b"CursorShape=") {
@@ -237,7 +240,7 @@ fn set_shape<H: Handler>(handler: &mut H, texts: &[&[u8]])
 }
 
 /// Stores data in a clipboard, or asks for what it holds (OSC 52).
-fn use_clipboard<H: Handler>(handler: &mut H, texts: &[&[u8]], terminator: &str)
+fn store_or_load_clipboard<H: Handler>(handler: &mut H, texts: &[&[u8]], terminator: &str)
     ensures { H.value_of handler.new
         ≡ after H.step (H.value_of handler.old)
         (clipboard_calls terminator.now (map (λ piece. piece.now) texts.now)) }

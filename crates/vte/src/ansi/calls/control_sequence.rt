@@ -24,7 +24,8 @@ use vte_types::{
 
 /// Makes the calls of a control sequence, other than `ESC [ ? .. h`, which may begin an update.
 // cargo: #[inline]
-// A guard would read the numbers.
+// Clippy asks for guards in place of an `if` in an arm. A guard that fails would still have taken a
+// number, which the arms below then miss.
 #[allow(clippy::collapsible_match)]
 pub(crate) fn perform_control_sequence<H: InputAs<G>, G>(
     handler: &mut H,
@@ -59,7 +60,7 @@ pub(crate) fn perform_control_sequence<H: InputAs<G>, G>(
         ([b'?'], 'u') => handler.report_keyboard_mode(),
         ([b'>'], 'm') => {
             if numbers.next_or(1) == 4 {
-                set_other_keys(handler, numbers.next_or(0));
+                set_modify_other_keys(handler, numbers.next_or(0));
             }
         }
         ([b'>'], 'u') => handler.push_keyboard_mode(read_keyboard_modes(numbers.next_or(0))),
@@ -205,7 +206,7 @@ fn clear_line<H: Handler>(handler: &mut H, number: u16)
 }
 
 /// Sets how modified keys are sent.
-fn set_other_keys<H: Handler>(handler: &mut H, number: u16)
+fn set_modify_other_keys<H: Handler>(handler: &mut H, number: u16)
     ensures { H.value_of handler.new ≡ after H.step (H.value_of handler.old)
         (call_some (λ x. call.SetModifyOtherKeys x) (entry_of modify_other_keys_table number)) }
 {

@@ -1,7 +1,7 @@
 //! Texts that are joined from pieces.
 ghost use Rattle.std.specs.Prelude.{length, map, option_map, ◌++◌, ◌+◌, ◌≡◌, ◌≤◌};
 ghost use Rattle.vte.specs.CommandCalls.{joined_texts, text_in};
-ghost use Rattle.vte.specs.private.Performer.{FitsTextCapacity, text_to_join};
+ghost use Rattle.vte.specs.private.JoinedTexts.{FitsTextCapacity, text_to_join};
 
 use crate::ansi::calls::text_buffer::TextBuffer;
 
@@ -15,7 +15,7 @@ pub(crate) const TEXT_CAPACITY: usize = 1024 + SEPARATORS;
 
 /// What becomes of a piece that isn't UTF-8.
 #[derive(Clone, Copy)]
-pub(crate) enum Malformed {
+pub(crate) enum MalformedPiece {
     /// It is left out, as in a title.
     LeftOut,
     /// It counts as empty, as in a link.
@@ -23,7 +23,7 @@ pub(crate) enum Malformed {
 }
 
 /// Joins pieces with `;` between them.
-pub(crate) fn join_texts<B: TextBuffer>(text: &mut B, pieces: &[&[u8]], malformed: Malformed)
+pub(crate) fn join_texts<B: TextBuffer>(text: &mut B, pieces: &[&[u8]], malformed: MalformedPiece)
     requires { FitsTextCapacity (B.text_capacity text.old) (map (λ piece. piece.now) pieces.now) }
     ensures joined { B.stored text.new
         ≡ joined_texts malformed (map (λ piece. piece.now) pieces.now) }
@@ -53,12 +53,12 @@ fn push_part<B: TextBuffer>(text: &mut B, is_first: bool, part: &str)
 
 /// Returns the text of a piece, or `None` if it is left out.
 #[tactic(auto, using(crate::proofs::lemmas::calls::JoinedTexts::is_text, crate::proofs::lemmas::calls::JoinedTexts::no_utf8))]
-pub(crate) fn text_in(piece: &[u8], malformed: Malformed) -> Option<&str>
+pub(crate) fn text_in(piece: &[u8], malformed: MalformedPiece) -> Option<&str>
     ensures { option_map (λ text. text.now) result ≡ text_in malformed piece.now }
 {
     let text = str::from_utf8(piece).ok();
     match malformed {
-        Malformed::LeftOut => text,
-        Malformed::Empty => text.or(Some("")),
+        MalformedPiece::LeftOut => text,
+        MalformedPiece::Empty => text.or(Some("")),
     }
 }

@@ -2,8 +2,8 @@
 ghost use Rattle.std.specs.Prelude.{false, map, ◌≡◌};
 ghost use Rattle.std.specs.Str.{chars};
 ghost use Rattle.vte.specs.Calls.{last_printed_from};
-ghost use Rattle.vte.specs.private.Performer.{fits_text_capacity};
-ghost use Rattle.vte.specs.private.Performing.{performer_value, with_private_mode, with_private_modes};
+ghost use Rattle.vte.specs.private.JoinedTexts.{fits_text_capacity};
+ghost use Rattle.vte.specs.private.PerformerValue.{performer_value, with_private_mode, with_private_modes};
 ghost use Rattle.vte_core.specs.Event.{Print};
 ghost use Rattle.vte_handler.specs.Timeout.{timeout_meaning};
 
@@ -43,7 +43,7 @@ pub(crate) struct Performer<'s, 'h, H: Handler, T: Timeout + Drop, B: TextBuffer
 
 impl<'s, 'h, H: InputAs<G>, T: Timeout + Drop, B: TextBuffer + Drop, G> Perform
     for Performer<'s, 'h, H, T, B, G> {
-    ghost use Rattle.vte.specs.private.Performer.{performer_with_event, PerformerValue};
+    ghost use Rattle.vte.specs.private.PerformerValue.{performer_with_event, PerformerValue};
 
     ghost Value = { PerformerValue H.Value T.Value };
 
@@ -71,7 +71,7 @@ impl<'s, 'h, H: InputAs<G>, T: Timeout + Drop, B: TextBuffer + Drop, G> Perform
     fn unhook(&mut self) {}
 
     fn osc_dispatch(&mut self, params: &[&[u8]], bell_terminated: bool) {
-        // Always, for the events of a processor's parser.
+        // The pieces always fit if a processor's parser reports them.
         if pieces_fit(params, self.state.text.capacity()) {
             perform_system_command(self.handler, &mut self.state.text, params, bell_terminated);
         }
@@ -115,7 +115,7 @@ impl<'s, 'h, H: HandlerText, T: Timeout + Drop, B: TextBuffer + Drop> PerformTex
     }
 
     #[inline(always)]
-    #[tactic(auto, using(crate::proofs::lemmas::EventCalls::performed_run))]
+    #[tactic(auto, using(crate::proofs::lemmas::events::EventCalls::performed_run))]
     fn print_text(&mut self, text: &str) {
         self.handler.input_text(text);
         self.state.last_printed = find_last_printed(text, self.state.last_printed);
@@ -161,7 +161,7 @@ impl<'s, 'h, H: Handler, T: Timeout + Drop, B: TextBuffer + Drop, G> Performer<'
 }
 
 /// Returns the last character of a text, or `before` if the text is empty.
-#[tactic(auto, using(crate::proofs::lemmas::EventCalls::last_of_text))]
+#[tactic(auto, using(crate::proofs::lemmas::events::EventCalls::last_of_text))]
 // cargo: #[inline(always)]
 fn find_last_printed(text: &str, before: Option<char>) -> Option<char>
     ensures { result ≡ last_printed_from before (map Print (chars text.now)) }

@@ -1,6 +1,6 @@
 //! Prefixes of texts, and texts between separators.
 ghost use Rattle.std.specs.Prelude.{codes, IfSome, length, option_map, ◌<◌, ◌∷◌, ◌≡◌};
-ghost use Rattle.vte.specs.private.Performer.{parts_left};
+ghost use Rattle.vte.specs.private.JoinedTexts.{parts_left};
 ghost use Rattle.vte.specs.Split.{first_after, split_by};
 ghost use Rattle.vte_types.specs.Words.{after_word};
 

@@ -15,7 +15,7 @@ pub(crate) trait TextBuffer {
     fn capacity(&self) -> usize
         ensures { result ≡ text_capacity self.now };
 
-    /// Makes room for a text of `size` bytes, and returns whether it is there.
+    /// Makes room for a text of `size` bytes. Returns whether it succeeded.
     fn reserve(&mut self, size: usize) -> bool
         ensures suffices { result ≡ true → size ≤ text_capacity self.new }
         ensures keeps_capacity { text_capacity self.old ≤ text_capacity self.new }

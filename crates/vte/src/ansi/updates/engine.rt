@@ -233,7 +233,7 @@ impl<P: EventParser + Drop, B: TextBuffer + Drop, T: Timeout + Drop, A: Allocato
         Ok(read)
     }
 
-    /// Takes memory for the held bytes and for this many more, and returns whether it is there.
+    /// Reserves memory for the held bytes and for `more` others. Returns whether it succeeded.
     pub(crate) fn reserve(&mut self, more: usize) -> bool
         ensures reserved { let view = engine_view P.limit P.view B.text_capacity T.value_of in
             Reserves (engine_facts view self.old) (engine_facts view self.new)

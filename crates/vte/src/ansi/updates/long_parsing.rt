@@ -40,7 +40,7 @@ fn joined_size(stored: usize, more: usize) -> Option<usize>
     stored.checked_add(more)?.checked_add(SEPARATORS)
 }
 
-#[tactic(auto, using(crate::proofs::lemmas::EnoughMemory::long_stops))]
+#[tactic(auto, using(crate::proofs::lemmas::events::EnoughMemory::long_stops))]
 impl<H: Handler, T: Timeout + Drop, A: Allocator> ParseAs<H, T, LongParser<A>> for ByCharacter {
     #[inline(always)]
     fn advance<B: TextBuffer + Drop>(
@@ -65,7 +65,7 @@ impl<H: Handler, T: Timeout + Drop, A: Allocator> ParseAs<H, T, LongParser<A>> f
     }
 }
 
-#[tactic(auto, using(crate::proofs::lemmas::EnoughMemory::long_stops))]
+#[tactic(auto, using(crate::proofs::lemmas::events::EnoughMemory::long_stops))]
 impl<H: HandlerText, T: Timeout + Drop, A: Allocator> ParseAs<H, T, LongParser<A>> for InRuns {
     #[inline(always)]
     fn advance<B: TextBuffer + Drop>(

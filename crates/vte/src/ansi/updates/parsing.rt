@@ -3,8 +3,8 @@
 ghost use Rattle.std.specs.Prelude.{false, length, List, Option, Some, true, ℕ, ◌+◌, ◌≡◌, ◌≤◌};
 ghost use Rattle.vte.specs.Memory.{KeepsMemory};
 ghost use Rattle.vte.specs.private.Engine.{HasParsedPrefix, PartsLeadOn, PartsLeaveMemory};
-ghost use Rattle.vte.specs.private.Performer.{performer_with_event};
-ghost use Rattle.vte.specs.private.Performing.{AdvancesAll, AdvancesUntilStop, performer_value};
+ghost use Rattle.vte.specs.private.Parsing.{AdvancesAll, AdvancesUntilStop};
+ghost use Rattle.vte.specs.private.PerformerValue.{performer_value, performer_with_event};
 ghost use Rattle.vte.specs.Processor.{parse, processor_meaning};
 ghost use Rattle.vte.specs.Views.{engine_view, limited_parser_view, ParserView};
 ghost use Rattle.vte_handler.specs.Timeout.{timeout_meaning};
@@ -33,8 +33,8 @@ pub(crate) trait EventParser {
     /// Which streams it has read, for which bytes it has memory, and whether data were lost.
     ghost view: { ParserView Self };
 
-    /// Takes memory for held bytes and for more, and for the texts that are joined from them.
-    /// Returns whether it is there.
+    /// Reserves memory for `held` bytes and `more` others, and for the texts that are joined from
+    /// them. Returns whether it succeeded.
     fn reserve<B: TextBuffer>(&mut self, text: &mut B, held: usize, more: usize) -> bool
         ensures reads { (stream : List ℕ) → view.has_read self.old stream
             → view.has_read self.new stream }
@@ -86,7 +86,7 @@ pub(crate) trait ParseAs<H: Handler, T: Timeout + Drop, P: EventParser>: Sized {
             bytes.now result };
 }
 
-#[tactic(auto, using(crate::proofs::lemmas::EnoughMemory::short_parses))]
+#[tactic(auto, using(crate::proofs::lemmas::events::EnoughMemory::short_parses))]
 impl<H: Handler, T: Timeout + Drop, const N: usize> ParseAs<H, T, Parser<N>> for ByCharacter {
     #[inline(always)]
     fn advance<B: TextBuffer + Drop>(
@@ -107,7 +107,7 @@ impl<H: Handler, T: Timeout + Drop, const N: usize> ParseAs<H, T, Parser<N>> for
     }
 }
 
-#[tactic(auto, using(crate::proofs::lemmas::EnoughMemory::short_parses))]
+#[tactic(auto, using(crate::proofs::lemmas::events::EnoughMemory::short_parses))]
 impl<H: HandlerText, T: Timeout + Drop, const N: usize> ParseAs<H, T, Parser<N>> for InRuns {
     #[inline(always)]
     fn advance<B: TextBuffer + Drop>(

@@ -48,8 +48,8 @@ impl<T: Timeout, const N: usize> BoundedProcessor<T, N> {
         self.engine.parser.command_lost_data()
     }
 
-    /// Stops an update: parses the bytes that are held back, tells the handler that the update has
-    /// ended, and clears the timeout. The handler is called without an update, too.
+    /// Stops an update: parses the bytes that are held back, calls the handler to tell it that the
+    /// update has ended, and clears the timeout. This call is made even if no update is open.
     pub fn stop_sync<H: Handler + ?Sized>(&mut self, handler: &mut H) {
         self.engine.stop::<H, ByCharacter>(handler);
     }

@@ -48,14 +48,14 @@ impl<T: Timeout> LongProcessor<T> {
         self.engine.parser.command_lost_data()
     }
 
-    /// Takes memory for the bytes that are held back and for this many more, and returns whether it
-    /// is there. Calls with no more bytes than that are then never refused memory.
+    /// Reserves memory for the bytes that are held back and for `more` others. Returns whether it
+    /// succeeded. Calls with no more bytes than that are then never refused memory.
     #[must_use = "the memory may be refused"]
     pub fn reserve(&mut self, more: usize) -> bool {
         self.engine.reserve(more)
     }
 
-    /// Gives back the memory that an open operating system command doesn't need, unless bytes are
+    /// Frees the memory that an open operating system command doesn't need, unless bytes are
     /// held back. The 2,097,152 bytes for updates stay.
     pub fn shrink(&mut self) {
         if self.engine.hold.len() == 0 {
@@ -64,9 +64,10 @@ impl<T: Timeout> LongProcessor<T> {
         }
     }
 
-    /// Stops an update: parses the bytes that are held back, tells the handler that the update has
-    /// ended, and clears the timeout. The handler is called without an update, too. It needs no
-    /// memory: what is held back has taken it.
+    /// Stops an update: parses the bytes that are held back, calls the handler to tell it that the
+    /// update has ended, and clears the timeout. This call is made even if no update is open.
+    ///
+    /// It needs no more memory: the calls that held the bytes back reserved it.
     pub fn stop_sync<H: Handler + ?Sized>(&mut self, handler: &mut H) {
         self.engine.stop::<H, ByCharacter>(handler);
     }
@@ -81,6 +82,11 @@ impl<T: Timeout> LongProcessor<T> {
     ///
     /// If the timeout is never pending and no memory is refused, all bytes are parsed: the handler
     /// of a new processor receives the calls of the whole stream, however it is split.
+    ///
+    /// # Errors
+    ///
+    /// Fails if memory is refused. [`Refused`] says how many of the bytes were read, which is fewer
+    /// than all. Pass in the others next, `&bytes[refused.read..]`.
     pub fn advance<H: Handler + ?Sized>(
         &mut self,
         handler: &mut H,
@@ -90,6 +96,10 @@ impl<T: Timeout> LongProcessor<T> {
     }
 
     /// Reads bytes as [`advance`](Self::advance) does. The handler receives text in runs.
+    ///
+    /// # Errors
+    ///
+    /// Fails as [`advance`](Self::advance) does.
     pub fn advance_text<H: HandlerText + ?Sized>(
         &mut self,
         handler: &mut H,

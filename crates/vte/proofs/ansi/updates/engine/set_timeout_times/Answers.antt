@@ -1,7 +1,7 @@
 -- Setting the timeout `count` times and then once more sets it `count + 1` times (`timeout_set_times-add`).
 use Rattle.vte.proofs.ansi.updates.engine.set_timeout_times.Goals as goal
 use Rattle.vte.proofs.Common.{◌∙◌}
-use Rattle.vte.proofs.lemmas.EventCalls.{timeout_set_times-add}
+use Rattle.vte.proofs.lemmas.events.EventCalls.{timeout_set_times-add}
 
 pub loop-time-preserved : goal.loop-time-preserved
 loop-time-preserved g c =

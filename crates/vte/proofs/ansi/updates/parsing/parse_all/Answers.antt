@@ -1,7 +1,7 @@
 -- What was lent to the performer comes back with the calls of the parsed bytes.
 use Rattle.vte.proofs.ansi.updates.parsing.parse_all.Goals as goal
 use Rattle.vte.proofs.Common.{processor_meaning, refl}
-use Rattle.vte.proofs.lemmas.PerformedEvents.{performer-given_back, text_capacity_back}
+use Rattle.vte.proofs.lemmas.events.PerformedEvents.{performer-given_back, text_capacity_back}
 
 pub returns-clause-parsed : goal.returns-clause-parsed
 returns-clause-parsed g c = λ state spare ready.

@@ -2,8 +2,8 @@
 -- its calls.
 use Rattle.vte.proofs.ansi.updates.parsing.parse_until_begin.Goals as goal
 use Rattle.vte.proofs.Common.{drop, length, prefix_to_begin, processor_meaning, refl}
-use Rattle.vte.proofs.lemmas.EnoughMemory.{prefix_fits}
-use Rattle.vte.proofs.lemmas.PerformedEvents.{performer-given_back, stop_performs, stop_stream, stop_terminated, stops_at_prefix}
+use Rattle.vte.proofs.lemmas.events.EnoughMemory.{prefix_fits}
+use Rattle.vte.proofs.lemmas.events.PerformedEvents.{performer-given_back, stop_performs, stop_stream, stop_terminated, stops_at_prefix}
 use Rattle.vte.proofs.lemmas.turns.EachOnce.{prefix-rest}
 
 pub returns-clause-parses_prefix : goal.returns-clause-parses_prefix

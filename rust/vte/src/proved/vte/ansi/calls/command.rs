@@ -3,7 +3,7 @@
 
 use crate::adapter::array_string::ArrayString;
 use crate::proved::vte::ansi::calls::color_text::xparse_color;
-use crate::proved::vte::ansi::calls::joined_text::{join_texts, text_in, Malformed};
+use crate::proved::vte::ansi::calls::joined_text::{join_texts, text_in, MalformedPiece};
 use crate::proved::vte::ansi::calls::numbers::{parse_number, push_number};
 use crate::proved::vte::ansi::calls::split::{find_link_id, strip_word};
 use crate::proved::vte::ansi::calls::text_buffer::TextBuffer;
@@ -29,9 +29,9 @@ pub(crate) fn perform_system_command<H: Handler + ?Sized, B: TextBuffer>(
             b"10" => set_dynamic_colors(handler, 10, texts, terminator),
             b"11" => set_dynamic_colors(handler, 11, texts, terminator),
             b"12" => set_dynamic_colors(handler, 12, texts, terminator),
-            b"22" => set_pointer(handler, texts),
-            b"50" => set_shape(handler, texts),
-            b"52" => use_clipboard(handler, texts, terminator),
+            b"22" => set_mouse_cursor_icon(handler, texts),
+            b"50" => set_cursor_shape(handler, texts),
+            b"52" => store_or_load_clipboard(handler, texts, terminator),
             b"104" => reset_colors(handler, texts),
             b"110" => handler.reset_color(Foreground as usize),
             b"111" => handler.reset_color(Background as usize),
@@ -46,10 +46,10 @@ fn set_title<H: Handler + ?Sized, B: TextBuffer>(handler: &mut H, text: &mut B, 
     match texts {
         [] => {}
         [title] => handler.set_title(Some(
-            text_in(title, Malformed::LeftOut).unwrap_or("").trim(),
+            text_in(title, MalformedPiece::LeftOut).unwrap_or("").trim(),
         )),
         _ => {
-            join_texts(text, texts, Malformed::LeftOut);
+            join_texts(text, texts, MalformedPiece::LeftOut);
             handler.set_title(Some(text.as_str().trim()));
         }
     }
@@ -113,11 +113,11 @@ fn set_link<H: Handler + ?Sized, B: TextBuffer>(handler: &mut H, text: &mut B, t
     match texts {
         [] | [_] => {}
         [parameters, uri] => {
-            let uri = text_in(uri, Malformed::Empty).unwrap_or("");
+            let uri = text_in(uri, MalformedPiece::Empty).unwrap_or("");
             set_link_to(handler, parameters, uri);
         }
         [parameters, uri @ ..] => {
-            join_texts(text, uri, Malformed::Empty);
+            join_texts(text, uri, MalformedPiece::Empty);
             set_link_to(handler, parameters, text.as_str());
         }
     }
@@ -128,7 +128,7 @@ fn set_link_to<H: Handler + ?Sized>(handler: &mut H, parameters: &[u8], uri: &st
     if uri.is_empty() {
         handler.set_hyperlink(None);
     } else {
-        let id = find_link_id(parameters).and_then(|id| text_in(id, Malformed::LeftOut));
+        let id = find_link_id(parameters).and_then(|id| text_in(id, MalformedPiece::LeftOut));
         handler.set_hyperlink(Some(Hyperlink { id, uri }));
     }
 }
@@ -164,7 +164,7 @@ fn set_dynamic_colors<H: Handler + ?Sized>(
 }
 
 /// Sets the icon of the mouse pointer (OSC 22).
-fn set_pointer<H: Handler + ?Sized>(handler: &mut H, texts: &[&[u8]]) {
+fn set_mouse_cursor_icon<H: Handler + ?Sized>(handler: &mut H, texts: &[&[u8]]) {
     if let [name] = texts {
         if let Some(icon) = find_icon(name) {
             handler.set_mouse_cursor_icon(icon);
@@ -174,11 +174,11 @@ fn set_pointer<H: Handler + ?Sized>(handler: &mut H, texts: &[&[u8]]) {
 
 /// Returns the icon of a keyword.
 fn find_icon(name: &[u8]) -> Option<CursorIcon> {
-    CursorIcon::from_str(text_in(name, Malformed::LeftOut)?).ok()
+    CursorIcon::from_str(text_in(name, MalformedPiece::LeftOut)?).ok()
 }
 
 /// Sets the shape of the cursor (OSC 50).
-fn set_shape<H: Handler + ?Sized>(handler: &mut H, texts: &[&[u8]]) {
+fn set_cursor_shape<H: Handler + ?Sized>(handler: &mut H, texts: &[&[u8]]) {
     if let [text, ..] = texts {
         match strip_word(text, b"CursorShape=") {
             Some([b'0', ..]) => handler.set_cursor_shape(CursorShape::Block),
@@ -190,7 +190,11 @@ fn set_shape<H: Handler + ?Sized>(handler: &mut H, texts: &[&[u8]]) {
 }
 
 /// Stores data in a clipboard, or asks for what it holds (OSC 52).
-fn use_clipboard<H: Handler + ?Sized>(handler: &mut H, texts: &[&[u8]], terminator: &str) {
+fn store_or_load_clipboard<H: Handler + ?Sized>(
+    handler: &mut H,
+    texts: &[&[u8]],
+    terminator: &str,
+) {
     if let [name, data, ..] = texts {
         let clipboard = name.first().copied().unwrap_or(b'c');
         if is_question(data) {

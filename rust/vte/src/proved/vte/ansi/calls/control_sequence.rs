@@ -17,7 +17,8 @@ use crate::proved::vte_types::{
 
 /// Makes the calls of a control sequence, other than `ESC [ ? .. h`, which may begin an update.
 #[inline]
-// A guard would read the numbers.
+// Clippy asks for guards in place of an `if` in an arm. A guard that fails would still have taken a
+// number, which the arms below then miss.
 #[allow(clippy::collapsible_match)]
 pub(crate) fn perform_control_sequence<H: InputAs<G> + ?Sized, G>(
     handler: &mut H,
@@ -48,7 +49,7 @@ pub(crate) fn perform_control_sequence<H: InputAs<G> + ?Sized, G>(
         ([b'?'], 'u') => handler.report_keyboard_mode(),
         ([b'>'], 'm') => {
             if numbers.next_or(1) == 4 {
-                set_other_keys(handler, numbers.next_or(0));
+                set_modify_other_keys(handler, numbers.next_or(0));
             }
         }
         ([b'>'], 'u') => handler.push_keyboard_mode(read_keyboard_modes(numbers.next_or(0))),
@@ -173,7 +174,7 @@ fn clear_line<H: Handler + ?Sized>(handler: &mut H, number: u16) {
 }
 
 /// Sets how modified keys are sent.
-fn set_other_keys<H: Handler + ?Sized>(handler: &mut H, number: u16) {
+fn set_modify_other_keys<H: Handler + ?Sized>(handler: &mut H, number: u16) {
     match number {
         0 => handler.set_modify_other_keys(ModifyOtherKeys::Reset),
         1 => handler.set_modify_other_keys(ModifyOtherKeys::EnableExceptWellDefined),

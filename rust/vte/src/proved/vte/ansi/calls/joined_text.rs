@@ -9,7 +9,7 @@ pub(crate) const SEPARATORS: usize = 16;
 
 /// What becomes of a piece that isn't UTF-8.
 #[derive(Clone, Copy)]
-pub(crate) enum Malformed {
+pub(crate) enum MalformedPiece {
     /// It is left out, as in a title.
     LeftOut,
     /// It counts as empty, as in a link.
@@ -17,7 +17,7 @@ pub(crate) enum Malformed {
 }
 
 /// Joins pieces with `;` between them.
-pub(crate) fn join_texts<B: TextBuffer>(text: &mut B, pieces: &[&[u8]], malformed: Malformed) {
+pub(crate) fn join_texts<B: TextBuffer>(text: &mut B, pieces: &[&[u8]], malformed: MalformedPiece) {
     text.clear();
     let mut is_first = true;
     for piece in pieces {
@@ -37,10 +37,10 @@ fn push_part<B: TextBuffer>(text: &mut B, is_first: bool, part: &str) {
 }
 
 /// Returns the text of a piece, or `None` if it is left out.
-pub(crate) fn text_in(piece: &[u8], malformed: Malformed) -> Option<&str> {
+pub(crate) fn text_in(piece: &[u8], malformed: MalformedPiece) -> Option<&str> {
     let text = core::str::from_utf8(piece).ok();
     match malformed {
-        Malformed::LeftOut => text,
-        Malformed::Empty => text.or(Some("")),
+        MalformedPiece::LeftOut => text,
+        MalformedPiece::Empty => text.or(Some("")),
     }
 }

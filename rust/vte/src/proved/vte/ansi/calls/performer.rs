@@ -57,7 +57,7 @@ impl<'s, 'h, H: InputAs<G> + ?Sized, T: Timeout, B: TextBuffer, G> Perform
     fn unhook(&mut self) {}
 
     fn osc_dispatch(&mut self, params: &[&[u8]], bell_terminated: bool) {
-        // Always, for the events of a processor's parser.
+        // The pieces always fit if a processor's parser reports them.
         if pieces_fit(params, self.state.text.capacity()) {
             perform_system_command(self.handler, &mut self.state.text, params, bell_terminated);
         }

@@ -8,7 +8,7 @@ pub(crate) trait TextBuffer {
     /// Returns how many bytes the text may have.
     fn capacity(&self) -> usize;
 
-    /// Makes room for a text of `size` bytes, and returns whether it is there.
+    /// Makes room for a text of `size` bytes. Returns whether it succeeded.
     fn reserve(&mut self, size: usize) -> bool;
 
     /// Empties the text. Its size stays.

@@ -153,7 +153,7 @@ impl<P: EventParser, B: TextBuffer, T: Timeout> Engine<P, B, T> {
         Ok(read)
     }
 
-    /// Takes memory for the held bytes and for this many more, and returns whether it is there.
+    /// Reserves memory for the held bytes and for `more` others. Returns whether it succeeded.
     pub(crate) fn reserve(&mut self, more: usize) -> bool {
         self.parser
             .reserve(&mut self.state.text, self.hold.len(), more)

@@ -11,8 +11,8 @@ use core::marker::PhantomData;
 
 /// A parser whose events a processor interprets.
 pub(crate) trait EventParser {
-    /// Takes memory for held bytes and for more, and for the texts that are joined from them.
-    /// Returns whether it is there.
+    /// Reserves memory for `held` bytes and `more` others, and for the texts that are joined from
+    /// them. Returns whether it succeeded.
     fn reserve<B: TextBuffer>(&mut self, text: &mut B, held: usize, more: usize) -> bool;
 }
 

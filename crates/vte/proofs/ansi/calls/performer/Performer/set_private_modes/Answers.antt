@@ -1,7 +1,7 @@
 -- One mode more is set, and the modes that are left give what all give.
 use Rattle.vte.proofs.ansi.calls.performer.Performer.set_private_modes.Goals as goal
 use Rattle.vte.proofs.Common.{ap, performer_value, sym, timeout_meaning, with_private_mode, with_private_modes, ◌∙◌}
-use Rattle.vte.proofs.lemmas.EventCalls.{modes-more}
+use Rattle.vte.proofs.lemmas.events.EventCalls.{modes-more}
 
 pub loop-group-preserved : goal.loop-group-preserved
 loop-group-preserved g c =

@@ -1,6 +1,6 @@
 -- The parser's contract is the one of turns (`EnoughMemory`).
 use Rattle.vte.proofs.ansi.updates.long_parsing.ByCharacterParseAsLongParser.advance_until_begin.Goals as goal
-use Rattle.vte.proofs.lemmas.EnoughMemory.{long_stops}
+use Rattle.vte.proofs.lemmas.events.EnoughMemory.{long_stops}
 
 pub returns-in-Ok : goal.returns-in-Ok
 returns-in-Ok g c = long_stops _ c.in-Ok.ensures

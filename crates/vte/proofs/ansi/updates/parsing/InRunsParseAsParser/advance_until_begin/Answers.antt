@@ -1,6 +1,6 @@
 -- The parser's contract is the one of turns (`EnoughMemory`).
 use Rattle.vte.proofs.ansi.updates.parsing.InRunsParseAsParser.advance_until_begin.Goals as goal
-use Rattle.vte.proofs.lemmas.EnoughMemory.{short_stops}
+use Rattle.vte.proofs.lemmas.events.EnoughMemory.{short_stops}
 
 pub returns : goal.returns
 returns g c = short_stops c.advance_text_until_terminated.ensures

@@ -39,10 +39,12 @@ short_fits limit size stream bytes memory =
 module _ {N : ℕ} {V W : Type 0} {step : PerformerValue V W → Event → PerformerValue V W}
     {old new : PerformerValue V W} {bytes : List ℕ}
     {parser next : Parser N} where
+  -- With a limit, a text of a fixed size is all the memory that is needed, and it stays.
   pub short_parses : ReadsBytes step old new bytes (parser_facts parser) (parser_facts next)
       → AdvancesAll limited_parser_view (Some N) step parser next old new bytes
   short_parses reads = search (rules, arith, short_fits)
 
+  -- The same up to an early stop.
   pub short_stops : {read : ℕ}
       → ReadsUntilTerminated step (λ performer. performer.terminated) read old new bytes (parser_facts parser)
       (parser_facts next)
@@ -83,6 +85,7 @@ module _ {A : Type 0} {parser : LongParser A} {size : ℕ} (stream bytes : List 
 module _ {A V W : Type 0} {step : PerformerValue V W → Event → PerformerValue V W} {old new : PerformerValue V W}
     {bytes : List ℕ}
     {parser next : LongParser A} where
+  -- A refusal contradicts the memory, so all bytes are read.
   pub long_parses : (result : Result (Unit {0}) Refused)
       → ReadsLong (per_byte 5) step (λ _. false) old new bytes parser next result (λ (_ : Unit {0}). ReadsBytes step)
       → AdvancesAll long_parser_view None step parser next old new bytes
@@ -103,6 +106,7 @@ module _ {A V W : Type 0} {step : PerformerValue V W → Event → PerformerValu
     keeps_memory = λ size. keeps_memory-grown reads_long.keeps_memory (omega arith);
   }
 
+  -- The same up to an early stop.
   pub long_stops : (result : Result ℕ Refused)
       → ReadsLong (per_byte 5) step (λ performer. performer.terminated) old new bytes parser next result
       (ReadsUntilTerminated step (λ performer. performer.terminated))

@@ -1,7 +1,7 @@
 -- A performer's value after the events of bytes. The handler and the state that it was lent come back as they are
 -- after the bytes, and an early stop reads the prefix up to the begin of an update.
 use Rattle.vte.proofs.Common.{added, after, All, All-head, All-tail, ap, arith, begin_count, begin_count_in_event, Bool, calls_from, calls_of, cases_lt, engine_view, Event, events, events_grow, false, false≢true, FitsText, inl, inr, KeepsMemory, last_printed, last_printed_after, last_printed_from, length, List, Meaning, nat_lt, nat_tests, or-false, parse, ParserView, PartsAreAt, PartsAreAtKeepingMemory, performer_value, performer_with_event, PerformerValue, prefix_to_begin, ProcessorState, refl, reported-settled, reported_before, resumed_stream, resumed_stream-settled, starts-settled, State, StopsExactly, sym, take, timeout_set_times, ℕ, [], ◌++◌, ◌+◌, ◌<◌, ◌||◌, ◌∙◌, ◌∷◌, ◌≡◌}
-use Rattle.vte.proofs.lemmas.EventCalls.{added_calls-events, after_calls-append, last_printed-append, timeout_set_times-add}
+use Rattle.vte.proofs.lemmas.events.EventCalls.{added_calls-events, after_calls-append, last_printed-append, timeout_set_times-add}
 use Rattle.vte.proofs.lemmas.updates.Prefixes.{begin_count-reported, breaks_at-prefix, IsPrefix, open_character-prefix, prefix-is}
 use Rattle.vte.specs.declared.ansi.calls.performer.Performer.{Performer}
 use Rattle.vte_core.specs.Event.{after as performed}
@@ -62,6 +62,7 @@ module _ {H T B G V W : Type 0} (handler_of : H → V) (timeout_of : T → W) (t
   pub text_capacity_back : text_capacity_of state.text ≡ old.text_capacity
   text_capacity_back = rw state-is (ap (λ performer. performer.text_capacity) value_is)
 
+  -- What was lent comes back as `parse` leaves it, with the memory that was there.
   pub performer-given_back : {P : Type 0} {view : ParserView P} {parser next : P} {lent : ProcessorState T B}
       {value : V} {handler : H}
       → PartsAreAt (engine_view m.limit view text_capacity_of timeout_of) parser lent value start
@@ -146,6 +147,7 @@ module _ {V W : Type 0} (m : Meaning V W) {old new : PerformerValue V W} (goes_o
       -- But in the prefix an update begins.
       grind (arith, nat_tests, is_prefix.begins within)
 
+  -- An early stop is neither before nor after the end of the prefix that begins an update.
   pub stops_at_prefix : read ≡ length (prefix_to_begin m.limit stream bytes)
   stops_at_prefix = elim (cases_lt read (length (prefix_to_begin m.limit stream bytes))) [
     | inl stops_before ↦ absurd (size-not_before stops_before)
@@ -155,6 +157,7 @@ module _ {V W : Type 0} (m : Meaning V W) {old new : PerformerValue V W} (goes_o
     ]
   ]
 
+  -- So exactly the events of the prefix are performed.
   pub stop_performs : new
       ≡ performed (performer_with_event m.step m.timeout) old
       (added m.limit stream (prefix_to_begin m.limit stream bytes))
@@ -166,12 +169,14 @@ module _ {V W : Type 0} (m : Meaning V W) {old new : PerformerValue V W} (goes_o
         ← reported-settled m.limit stream bytes read (rw stops_at_prefix (breaks_at-prefix is_prefix)),
       ) stop.comes.performed
 
+  -- The performer is terminated if and only if an update begins in the prefix.
   pub stop_terminated : new.terminated
       ≡ nat_lt 0 (begin_count (added m.limit stream (prefix_to_begin m.limit stream bytes)))
   stop_terminated =
       ap (λ performer. performer.terminated) stop_performs
       ∙ terminated_by m old (added m.limit stream (prefix_to_begin m.limit stream bytes)) ∙ rw goes_on
 
+  -- The parser goes on from the prefix.
   pub stop_stream : resumed_stream stream bytes read ≡ stream ++ prefix_to_begin m.limit stream bytes
   stop_stream =
       rw (is_prefix.prefix_is, ← stops_at_prefix)

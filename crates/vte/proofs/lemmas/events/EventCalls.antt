@@ -13,6 +13,7 @@ use Rattle.vte_core.specs.Event.{after as performed}
 -- Those of the whole are those of the parts joined, also of what more bytes add. By induction over the events, with the
 -- last printed character carried along.
 
+-- A handler that receives calls in two lists ends up as with both lists in one.
 pub after_calls-append : {V : Type 0} (step : V → Call → V) (value : V) (front back : List Call)
     → after step value (front ++ back) ≡ after step (after step value front) back
 after_calls-append step value [] back = refl
@@ -26,6 +27,7 @@ calls-append last [] back = refl
 calls-append last (event ∷ front) back =
     rw (calls-append (last_printed_after last event) front back, append_assoc)
 
+-- The last printed character carries over to the events that follow.
 pub last_printed-append : (last : Option ℕ) (front back : List Event)
     → last_printed_from last (front ++ back) ≡ last_printed_from (last_printed_from last front) back
 last_printed-append last [] back = refl
@@ -35,21 +37,25 @@ calls_after-append : (before later : List Event)
     → calls_after before (before ++ later) ≡ calls_from (last_printed before) later
 calls_after-append before later = rw (calls-append None before later) (drop-append_seam (calls before) _)
 
+-- Bytes add the calls of the events that they add, from the last printed character on.
 pub added_calls-events : (limit : Option ℕ) (stream bytes : List ℕ)
     → added_calls limit stream bytes ≡ calls_from (last_printed (events limit stream)) (added limit stream bytes)
 added_calls-events limit stream bytes =
     ap (calls_after (events limit stream)) (events_grow limit stream bytes)
     ∙ calls_after-append (events limit stream) (added limit stream bytes)
 
+-- No bytes add no calls.
 pub added_calls-nothing : (limit : Option ℕ) (stream : List ℕ) → added_calls limit stream [] ≡ []
 added_calls-nothing limit stream = rw (added_calls-events limit stream [], added-nothing limit stream)
 
+-- Bytes in two pieces add what each of them adds, so a call may parse slices.
 pub added_calls-append : (limit : Option ℕ) (stream front bytes : List ℕ)
     → added_calls limit stream (front ++ bytes)
     ≡ added_calls limit stream front ++ added_calls limit (stream ++ front) bytes
 added_calls-append limit stream front bytes =
     search (rules, arith, events_grow, last_printed-append, added_calls-events, added-append, calls-append)
 
+-- The calls of a stream begin with those of its prefix.
 pub calls_whole : (limit : Option ℕ) (stream bytes : List ℕ)
     → calls (events limit (stream ++ bytes)) ≡ calls (events limit stream) ++ added_calls limit stream bytes
 calls_whole limit stream bytes =

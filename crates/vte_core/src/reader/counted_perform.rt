@@ -130,7 +130,13 @@ impl<P: ReceiveAs<G>, G: Granularity> CountedPerform<G> for P {
     }
 
     #[inline(always)]
-    fn hook(&mut self, reader: &mut Reader, collected: &CollectedHead, ignore: bool, final_byte: u8) {
+    fn hook(
+        &mut self,
+        reader: &mut Reader,
+        collected: &CollectedHead,
+        ignore: bool,
+        final_byte: u8,
+    ) {
         reader.count_looks(1);
         let (intermediates, action) = (collected.intermediates.as_slice(), char::from(final_byte));
         Perform::hook(self, &collected.params, intermediates, ignore, action);
@@ -177,7 +183,12 @@ impl<P: ReceiveAs<G>, G: Granularity> CountedPerform<G> for P {
     fn esc_dispatch(&mut self, reader: &mut Reader, collected: &CollectedHead, final_byte: u8) {
         reader.count_looks(1);
         let intermediates = collected.intermediates.as_slice();
-        Perform::esc_dispatch(self, intermediates, collected.too_many_intermediates, final_byte);
+        Perform::esc_dispatch(
+            self,
+            intermediates,
+            collected.too_many_intermediates,
+            final_byte,
+        );
     }
 
     #[inline(always)]

@@ -5,10 +5,10 @@ use Rattle.vte_core.specs.Event.{after, Event}
 use Rattle.vte_core.specs.Parser.{ParserFacts}
 use Rattle.vte_core.specs.Stream.{added}
 
--- `advance` and `advance_text` perform what the bytes add to the stream.
+-- `advance` and `advance_text` report what the bytes add to the stream.
 pub record ReadsBytes {V : Type 0} (step : V → Event → V) (old new : V) (bytes : List ℕ)
     (parser next : ParserFacts) : Type 0 where
-  -- Whatever the parser has read, the performer takes what the bytes add to it.
+  -- Whatever the parser has read, the performer receives what the bytes add to it.
   pub performs : (stream : List ℕ) → parser.has_read stream
       → new ≡ after step old (added parser.limit stream bytes)
   -- The parser has then read the bytes too.

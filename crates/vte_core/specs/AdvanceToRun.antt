@@ -51,10 +51,10 @@ pub record ReturnsRun {V : Type 0} (step : V → Event → V) (is_terminated : V
     (limit : Option ℕ) (HasReadBefore : List ℕ → Type 0)
     (bytes : List ℕ) (run : Run) : Type 0 where
   pub is_run : IsRunIn bytes run
-  -- The performer takes what is reported before the run, and nothing of the run.
+  -- The performer receives what is reported before the run, and nothing of the run.
   pub comes : (stream : List ℕ) → HasReadBefore stream
       → ComesTo step is_terminated old limit stream bytes new run.start
-  -- A call that performs the run would add its events.
+  -- A call that reports the run would add its events.
   pub adds : (stream : List ℕ) → HasReadBefore stream
       → added limit (resumed_stream stream bytes run.start) (run_bytes run) ≡ run_events run
   -- There is a run only if the performer isn't terminated.
@@ -62,7 +62,7 @@ pub record ReturnsRun {V : Type 0} (step : V → Event → V) (is_terminated : V
   -- If there is no run, the performer is terminated or all bytes were read.
   pub stops : run.end ≡ run.start → run.start < length bytes → is_terminated new ≡ true
 
--- `advance_to_run` performs what comes before the first run, and returns this.
+-- `advance_to_run` reports what comes before the first run, and returns the run.
 pub record ReadsToRun {V : Type 0} (step : V → Event → V) (is_terminated : V → Bool)
     (run : Run) (old new : V) (bytes : List ℕ) (parser next : ParserFacts) : Type 0 where
   pub returns : ReturnsRun step is_terminated old new parser.limit parser.has_read bytes run

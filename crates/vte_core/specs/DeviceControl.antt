@@ -14,6 +14,7 @@ use Rattle.vte_core.specs.Text.{text_outcome}
 abbrev pub string_terminator : ℕ
 string_terminator = 0x9c
 
+-- ESC ends the data too, but no body contains it.
 abbrev pub ends_device_data : ℕ → Bool
 ends_device_data b = is_cancel (class_of b) || b == string_terminator
 

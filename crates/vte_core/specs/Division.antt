@@ -4,6 +4,7 @@ use Rattle.std.specs.List.{concat}
 use Rattle.std.specs.Prelude.{length, List, true, ℕ, [], ⊤, ◌++◌, ◌∷◌, ◌≡◌, ◌≤◌, ◌⊎◌}
 use Rattle.vte_core.specs.Utf8.{is_truncated, is_well_formed, segments}
 
+-- Any byte may be a segment by itself. `IsCorrectSegment` says when it is one.
 abbrev pub IsSegment : List ℕ → Type 0
 IsSegment segment =
     (is_well_formed segment ≡ true) ⊎ ((is_truncated segment ≡ true) ⊎ (length segment ≡ 1))

@@ -51,8 +51,8 @@ module _ {V : Type 0} (step : V → Event → V) (is_terminated : V → Bool) (o
     pub performed : value ≡ after step old (added limit stream (take i bytes))
     pub earlier : NeverStopsBefore i
 
-  -- The call came to position n: the performer took what is reported before it, and was terminated
-  -- at no start before it.
+  -- The call came to position n: the performer received what is reported before it, and was
+  -- terminated at no start before it.
   pub record ComesTo (new : V) (n : ℕ) : Type 0 where
     pub within : n ≤ length bytes
     pub performed : new ≡ after step old (reported_before limit stream bytes n)

@@ -174,22 +174,26 @@ buffer_of_two_examples =
     ∷ gives (codes "\u{1b}]a;bc;d\u{7}") (OscDispatch (codes "a" ∷ codes "b" ∷ []) true ∷ [])
     ∷ []
 
+-- A stream that ends in an open command, and what is left to close.
 pub record CommandExample : Type 0 where
   pub stream : List ℕ
   pub to_close : ToClose
 
+-- A command that has lost no data.
 abbrev pub keeps : List ℕ → List (List ℕ) → CommandExample
 keeps items pieces = record {
   stream = codes "\u{1b}]" ++ items;
   to_close = CommandToClose pieces false;
 }
 
+-- A command that has lost data.
 abbrev pub loses : List ℕ → List (List ℕ) → CommandExample
 loses items pieces = record {
   stream = codes "\u{1b}]" ++ items;
   to_close = CommandToClose pieces true;
 }
 
+-- Each stream leaves exactly its command to close, with a buffer of this size.
 abbrev pub LeaveCommands : Option ℕ → List CommandExample → Type 0
 LeaveCommands limit examples =
     map (λ example. (outcome limit example.stream).to_close) examples
@@ -234,6 +238,7 @@ pub record StopExample : Type 0 where
   pub reported : List Event
   pub resumed : List ℕ
 
+-- Each position has exactly its events before it, and its stream from which the parser continues.
 abbrev pub AreStops : Option ℕ → List StopExample → Type 0
 AreStops limit examples =
     (map (λ at. reported_before limit at.stream at.bytes at.position) examples
@@ -284,6 +289,7 @@ pub record OpenExample : Type 0 where
 abbrev pub ends_in : Open → List ℕ → OpenExample
 ends_in kind stream = record { stream = stream; kind = kind }
 
+-- Each stream leaves open what its example says.
 abbrev pub LeaveOpen : List OpenExample → Type 0
 LeaveOpen examples =
     map (λ example. open_at_end example.stream) examples ≡ map (λ example. example.kind) examples
@@ -354,7 +360,7 @@ string_end_examples =
     ∷ ends_in EscapeSequence (codes "\u{1b}_a\u{1b}")
     ∷ []
 
--- A call that returns runs completes the open character, and doesn't perform the next one.
+-- A call that returns runs completes the open character, and doesn't report the next one.
 abbrev pub LeavesTextToRun : Option ℕ → Type 0
 LeavesTextToRun limit =
     ReportsOutsideRuns limit (0xe4 ∷ []) (0xbf ∷ 0x99 ∷ 0xe6 ∷ 0x97 ∷ 0xa5 ∷ []) 5 → ⊥
@@ -368,6 +374,7 @@ pub record PartsExample : Type 0 where
 abbrev pub divides : List ℕ → ℕ → List Example → PartsExample
 divides stream size parts = record { stream = stream; size = size; parts = parts }
 
+-- Each stream has exactly its parts, and each part exactly its events.
 abbrev pub AreDivided : Option ℕ → List PartsExample → Type 0
 AreDivided limit examples =
     map (λ it. map (λ part. gives part (events limit part)) (parts_of it.size it.stream)) examples

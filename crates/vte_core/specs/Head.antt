@@ -21,6 +21,7 @@ head_after marker bytes =
     let cut = cut_before (λ b. not (is_parameter_byte (class_of b))) bytes in
     record { marker = marker; parameter_text = cut.before; tail = cut.rest }
 
+-- Only the first byte can be the marker.
 unfoldable pub head_of : List ℕ → Head
 head_of [] = head_after [] []
 head_of (b ∷ bytes) =

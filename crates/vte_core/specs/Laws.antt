@@ -35,7 +35,7 @@ abbrev pub ResyncsAfter : Option ℕ → ℕ → Type 0
 ResyncsAfter limit byte = (stream more : List ℕ) →
     events limit (stream ++ byte ∷ more) ≡ events limit (stream ++ byte ∷ []) ++ events limit more
 
--- Resynchronisation: a stream starts anew after CAN and SUB, and at each ESC.
+-- Resynchronisation: a stream begins again after CAN and SUB, and at each ESC.
 pub record Resyncs (limit : Option ℕ) : Type 0 where
   pub cancel : ResyncsAfter limit 0x18
   pub substitute : ResyncsAfter limit 0x1a

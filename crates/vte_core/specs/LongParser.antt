@@ -44,6 +44,7 @@ abbrev pub open_data_count : ToClose → ℕ
 open_data_count (CommandToClose pieces lost) = length (concat pieces)
 open_data_count _ = 0
 
+-- The count at the end of a stream: 0 if no command is open.
 abbrev pub open_command_size : List ℕ → ℕ
 open_command_size stream = open_data_count (outcome None stream).to_close
 

@@ -1,9 +1,9 @@
 -- How often input bytes were read and events reported.
 --
 -- A look is the load of one byte of a call. A word or a block counts its bytes, whatever is done
--- with them: bytes after the end of a run count too. A search counts each byte up to and with the
--- one that it finds, and a copy each byte that it copies. A text that is handed over is not loaded
--- for it. Each event counts one look, and those of a run together as many as it has bytes.
+-- with them: bytes after the end of a run count too. A search counts each byte up to and including
+-- the one that it finds, and a copy each byte that it copies. A text that is passed on isn't loaded
+-- for that. Each event counts one look, and those of a run together as many as it has bytes.
 use Rattle.std.specs.Prelude.{ℕ, ◌+◌}
 use Rattle.vte_core.specs.declared.reader.looks.Looks.{Looks}
 use Rattle.vte_core.specs.declared.reader.looks.Tally.{Tally}

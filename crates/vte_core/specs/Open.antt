@@ -5,6 +5,8 @@ use Rattle.vte_core.specs.declared.parser.open.Open.TheVariants.{Character, Cont
 use Rattle.vte_core.specs.Outcome.{CharacterToClose, CommandToClose, ControlSequenceToClose, DeviceDataToClose, DeviceHeadToClose, EscapeToClose, IgnoredStringToClose, NothingToClose, ToClose}
 use Rattle.vte_core.specs.Stream.{IsFinished, IsUnfinished, outcome}
 
+-- What `open` says of what is left to close. It doesn't tell the head and the data of a device
+-- control string apart.
 abbrev pub open_of : ToClose → Open
 open_of NothingToClose = Nothing
 open_of (CharacterToClose bytes) = Character

@@ -17,7 +17,7 @@ PrintsNoAscii (Print c) = 0x80 ≤ c
 PrintsNoAscii (Put byte) = ⊥
 PrintsNoAscii _ = ⊤
 
--- Before position n of a call nothing is reported that belongs into a run: only the character that
+-- Before position n of a call nothing is reported that belongs to a run: only the character that
 -- an earlier call began, if one was open. It is reported first.
 pub record ReportsOutsideRuns (limit : Option ℕ) (stream bytes : List ℕ) (n : ℕ) : Type 0 where
   pub outside_runs : open_character stream ≡ []

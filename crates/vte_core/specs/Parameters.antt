@@ -15,9 +15,11 @@ pub record Number : Type 0 where
   pub joined : Bool
   pub value : ℕ
 
+-- How many numbers of a sequence are kept.
 abbrev pub max_numbers : ℕ
 max_numbers = 32
 
+-- The greatest number of 16 bits, which stands for all greater ones.
 abbrev pub max_value : ℕ
 max_value = 0xffff
 
@@ -50,6 +52,7 @@ with_number (group ∷ []) number =
     if number.joined then (group ++ number.value ∷ []) ∷ [] else group ∷ (number.value ∷ []) ∷ []
 with_number (group ∷ next ∷ groups) number = group ∷ with_number (next ∷ groups) number
 
+-- The numbers in groups, from left to right.
 abbrev pub grouped : List Number → List (List ℕ)
 grouped numbers = fold with_number [] numbers
 
@@ -77,6 +80,7 @@ pub record AreGroups (groups : List (List ℕ)) : Type 0 where
 unfoldable pub groups_of : List ℕ → List (List ℕ)
 groups_of text = grouped (take max_numbers (numbers text))
 
+-- Numbers after the first 32 are dropped, which the event of the sequence says.
 unfoldable pub has_too_many_numbers : List ℕ → Bool
 has_too_many_numbers text = nat_lt max_numbers (length (numbers text))
 

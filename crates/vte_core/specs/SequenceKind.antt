@@ -17,6 +17,7 @@ pub data SequenceKind : Type 0 where
 abbrev pub begins_ignored_string : ℕ → Bool
 begins_ignored_string key = key == 0x58 || key == 0x5e || key == 0x5f
 
+-- The kind that a key selects, unless it is CAN or SUB (`body_rest`).
 unfoldable pub sequence_kind : ℕ → SequenceKind
 sequence_kind b =
     if b == 0x5b then ControlSequence

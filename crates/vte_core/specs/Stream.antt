@@ -30,12 +30,15 @@ with_bodies limit part (body ∷ bodies) =
 abbrev pub default_limit : Option ℕ
 default_limit = Some 1024
 
--- `limit` is how many data bytes of an operating system command are kept.
+-- The outcome of a stream: that of the text before its first ESC, then those of the bodies. `limit`
+-- is how many data bytes of an operating system command are kept, if there is a limit.
 unfoldable pub outcome : Option ℕ → List ℕ → Outcome
 outcome limit stream =
     let cut = cut_at_escape stream in
     with_bodies limit (text_outcome cut.text) cut.bodies
 
+-- The events of a stream: those of the text before its first ESC, then those of each body. An ESC
+-- closes what is open before it. The end of the stream closes nothing.
 unfoldable pub events : Option ℕ → List ℕ → List Event
 events limit stream = (outcome limit stream).reported
 
@@ -44,12 +47,12 @@ events limit stream = (outcome limit stream).reported
 abbrev pub added : Option ℕ → List ℕ → List ℕ → List Event
 added limit stream more = drop (length (events limit stream)) (events limit (stream ++ more))
 
--- Nothing is unfinished at the end of the stream: more bytes give what they give on their own.
+-- Nothing is open at the end of the stream: more bytes give what they give on their own.
 abbrev pub IsFinished : Option ℕ → List ℕ → Type 0
 IsFinished limit stream = (more : List ℕ) → added limit stream more ≡ events limit more
 
--- A character or a sequence is unfinished there: a `0` isn't printed, or not alone. It serves as a
--- probe, because it belongs to whatever is unfinished, or ends it.
+-- A character or a sequence is open there: a `0` isn't printed, or not alone. It serves as a probe,
+-- because it belongs to whatever is open, or ends it.
 abbrev pub IsUnfinished : Option ℕ → List ℕ → Type 0
 IsUnfinished limit stream = added limit stream (0x30 ∷ []) ≢ Print 0x30 ∷ []
 

@@ -11,9 +11,11 @@ use Rattle.vte_core.specs.Text.{text_outcome}
 abbrev pub bell : ℕ
 bell = 0x07
 
+-- How many pieces of a command are kept.
 abbrev pub max_pieces : ℕ
 max_pieces = 16
 
+-- ESC ends a command too, but no body contains it.
 abbrev pub ends_system_command : ℕ → Bool
 ends_system_command b = is_cancel (class_of b) || b == bell
 

@@ -50,6 +50,7 @@ unfoldable pub malformed_event : List ℕ → Event
 malformed_event (b ∷ []) = if is_control_character b then Execute b else Print replacement
 malformed_event _ = Print replacement
 
+-- Each segment gives one event.
 unfoldable pub segment_event : List ℕ → Event
 segment_event segment =
     if is_well_formed segment then character_event (scalar_of segment) else malformed_event segment
@@ -63,6 +64,7 @@ segments_outcome (segment ∷ []) =
 segments_outcome (segment ∷ next ∷ more) =
     report (segment_event segment ∷ []) (segments_outcome (next ∷ more))
 
+-- A text is read segment by segment.
 unfoldable pub text_outcome : List ℕ → Outcome
 text_outcome text = segments_outcome (segments text)
 

@@ -32,8 +32,8 @@ pub(crate) trait Buffer {
     fn is_full(&self) -> bool
         ensures { result ≡ not (has_room limit (length (stored self.now))) };
 
-    /// Takes memory for this many more bytes, and returns whether it is there. With a limit, it
-    /// always is.
+    /// Reserves memory for `more` bytes. Returns whether it succeeded. With a limit, it always
+    /// does.
     fn reserve(&mut self, more: usize) -> bool
         ensures same_bytes { stored self.new ≡ stored self.old }
         ensures reserves { ReservesCapacity limit (length (stored self.new)) more

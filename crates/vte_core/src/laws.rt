@@ -1,4 +1,4 @@
-//! Laws of the definitions. The functions do nothing, but for `replay`, which reads a stream: their
+//! Laws of the definitions. The functions do nothing, except `replay`, which reads a stream: their
 //! contracts are the laws.
 ghost use Rattle.std.specs.Char.{encode_utf8, IsScalar};
 ghost use Rattle.std.specs.List.{concat, flat_map};
@@ -21,7 +21,7 @@ use crate::perform::Perform;
 /// No type in Rust has 2^63 bytes or more, so no parser has a larger buffer.
 pub fn replay<P: Perform, const OSC_RAW_BUF_SIZE: usize>(performer: &mut P, chunks: &[&[u8]])
     requires { OSC_RAW_BUF_SIZE + 512 ≤ 2 ^ 63 }
-    // However the stream is cut, the performer takes exactly its events.
+    // However the stream is cut, the performer receives exactly its events.
     ensures { P.value_of performer.new ≡ after P.step (P.value_of performer.old)
         (events (Some OSC_RAW_BUF_SIZE) (flat_map (λ chunk. chunk.now) chunks.now)) }
 {

@@ -6,7 +6,7 @@
 //! events. [`LongParser`] is a parser without a limit on the text of operating system commands.
 // proof: The meaning of a performer is one function from a value and an event to a value. What the
 // events of a stream are is defined in specs/, without states; the contract of [`Parser::advance`]
-// says that the performer takes exactly these. [`laws`] has what holds of all streams.
+// says that the performer receives exactly these. [`laws`] has what holds of all streams.
 // proof: Comments that begin with `cargo` say what the crate for cargo has there
 // (tools/lib/erasing/marks.py).
 #![tactic(auto)]

@@ -143,7 +143,7 @@ impl<const OSC_RAW_BUF_SIZE: usize> Parser<OSC_RAW_BUF_SIZE> {
         }
     }
 
-    /// Returns what is unfinished, if anything is.
+    /// Returns what is open, if anything is.
     ///
     /// It began at the last ESC, or is at most three bytes of a character.
     pub fn open(&self) -> Open
@@ -152,7 +152,7 @@ impl<const OSC_RAW_BUF_SIZE: usize> Parser<OSC_RAW_BUF_SIZE> {
         self.machine.open()
     }
 
-    /// Returns whether a character or a sequence is unfinished.
+    /// Returns whether a character or a sequence is open.
     pub fn is_open(&self) -> bool
         ensures { SaysWhetherOpen (Some OSC_RAW_BUF_SIZE) (HasRead self.now) result }
     {

@@ -5,8 +5,8 @@
 // proof: The module counts the bytes that it loads and the events that it reports, for contracts
 // alone. Each form of `advance` makes a [`Chunk`] of its bytes, and passes nothing else on. The one
 // [`Reader`] of a chunk is the only way to the bytes of its [`Input`], and a [`CountedPerform`]
-// takes events with a reader alone. No other module can make one of these. Bytes leave this module
-// one by one, in blocks, as a copy in a buffer, or as text or data: for a performer, or in a
+// receives events with a reader alone. No other module can make one of these. Bytes leave this
+// module one by one, in blocks, as a copy in a buffer, or as text or data: for a performer, or in a
 // [`Run`] for the caller.
 ghost use Rattle.std.specs.Prelude.{drop, false, IsUtf8, length, map, MatchOption, slice_index, take, true, vec_capacity, ℕ, [], ◌++◌, ◌+◌, ◌-◌, ◌<◌, ◌∷◌, ◌≡◌, ◌≤◌};
 ghost use Rattle.vte_core.specs.private.Prelude.{after, AreOfKind, ArePositions, ArePut, character_event, from_to, is_in, IsRun, IsTaken, IsWindow, looks_of, malformed_event, PrintsRun, Put, Reports};

@@ -86,7 +86,7 @@ impl<B: Buffer> CommandStore<B> {
         self.lost
     }
 
-    /// Takes memory for this many more data bytes, and returns whether it is there.
+    /// Reserves memory for `more` data bytes. Returns whether it succeeded.
     pub(crate) fn reserve(&mut self, more: usize) -> bool
         ensures same_items { SameItems self.old self.new }
         ensures reserves { ReservesCapacity B.limit
@@ -95,8 +95,8 @@ impl<B: Buffer> CommandStore<B> {
         self.bytes.reserve(more)
     }
 
-    /// Takes memory for this many more data bytes, unless they are dropped because 16 pieces have
-    /// ended. Returns whether it is there.
+    /// Reserves memory for `more` data bytes, unless they are dropped because 16 pieces have ended.
+    /// Returns `false` only if memory is refused.
     pub(crate) fn reserve_if_kept(&mut self, more: usize) -> bool
         ensures same_items { SameItems self.old self.new }
         ensures keeps_memory { self.old.capacity ≤ self.new.capacity }

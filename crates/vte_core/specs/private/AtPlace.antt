@@ -28,6 +28,7 @@ IsPlaceOfState limit SystemCommand parser (InSystemCommand items) =
 IsPlaceOfState limit IgnoredString parser InIgnoredString = ⊤
 IsPlaceOfState limit _ parser _ = ⊥
 
+-- The parser is at the place: its fields hold what the place says.
 pub record IsAtPlace {B : Type 0} (limit : Option ℕ) (parser : Machine B)
     (place : Place) : Type 0 where
   pub fields : IsPlaceOfState limit parser.state parser place

@@ -5,23 +5,34 @@ use Rattle.vte_core.specs.declared.reader.Window.{Window}
 use Rattle.vte_core.specs.Text.{is_layout}
 use Rattle.vte_core.specs.Utf8.{from_to, is_in, Range}
 
--- Between two characters; before one, two or three more bytes 80..BF; after a first byte whose
--- second is bound more closely; and after a byte that fits nowhere, for good.
+-- What may come next.
 pub data AutomatonState : Type 0 where
+  -- A character, since none is open.
   BetweenCharacters : AutomatonState
+  -- One byte 80..BF, which completes the character.
   NeedsOne : AutomatonState
+  -- Two bytes 80..BF.
   NeedsTwo : AutomatonState
+  -- Three bytes 80..BF.
   NeedsThree : AutomatonState
+  -- A0..BF and another byte: a second byte below A0 makes an overlong form.
   AfterE0 : AutomatonState
+  -- 80..9F and another byte: a second byte from A0 on makes a surrogate.
   AfterED : AutomatonState
+  -- 90..BF and two other bytes: a second byte below 90 makes an overlong form.
   AfterF0 : AutomatonState
+  -- 80..8F and two other bytes: a second byte from 90 on makes a number above U+10FFFF.
   AfterF4 : AutomatonState
+  -- A0..BF: a second byte below A0 makes a control, which no run holds.
   AfterC2 : AutomatonState
+  -- Nothing, for good: a byte fitted nowhere.
   Failed : AutomatonState
 
+-- A byte outside the range fits nowhere.
 abbrev pub next_if_in : Range → AutomatonState → ℕ → AutomatonState
 next_if_in range next b = if is_in range b then next else Failed
 
+-- The first byte of a character, which may be HT, LF or CR, but no other control.
 abbrev pub next_between_characters : ℕ → AutomatonState
 next_between_characters b =
     if is_layout b then BetweenCharacters
@@ -52,7 +63,10 @@ abbrev pub state_after : AutomatonState → List ℕ → AutomatonState
 state_after state [] = state
 state_after state (b ∷ bytes) = state_after (next_state state b) bytes
 
--- What the three bytes before a position say of the state there.
+-- The automaton may be in the state after these three bytes. A first byte is C0 or more, E0 or more
+-- if two bytes follow it, and F0 or more if three do. So between characters `one_back < 0xc0`: no
+-- first byte stands there. `two_back < 0xe0` and `three_back < 0xf0`: a first byte there has all
+-- its bytes. In the other states one of the three is the first byte of the open character.
 abbrev pub IsAllowedAfter : AutomatonState → ℕ → ℕ → ℕ → Type 0
 IsAllowedAfter BetweenCharacters three_back two_back one_back =
     (one_back < 0xc0) × (two_back < 0xe0) × (three_back < 0xf0)

@@ -82,6 +82,7 @@ pub record HoldsHead (collected : CollectedHead) (reached : HeadProgress)
 pub record StaysIllShaped (head : List ℕ) : Type 0 where
   pub stays : (more : List ℕ) → is_well_shaped (head_of (head ++ more)) ≡ false
 
+-- What was collected of an ill-shaped head doesn't count.
 abbrev pub HasReadHead : CollectedHead → HeadProgress → List ℕ → Type 0
 HasReadHead collected IllShaped head = StaysIllShaped head
 HasReadHead collected reached head = HoldsHead collected reached head

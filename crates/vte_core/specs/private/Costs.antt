@@ -31,8 +31,8 @@ lookahead looks = looks
 
 -- The bounds of a function that may read nothing, from position i to position j. It takes at least
 -- one look per byte, and at most `rate` and `lookahead` more, at bytes left unread. The caller has
--- taken `caller_looks` of them: those at the first bytes, by which it chose this function. It gives
--- back no memory.
+-- taken `caller_looks` of them: those at the first bytes, by which it chose this function. It frees
+-- no memory.
 pub record SpendsWithin (rate caller_looks lookahead : ℕ) {B : Type 0} (bytes : List ℕ) (i j : ℕ)
     (parser next : Machine B) (old_reader new_reader : Reader) : Type 0 where
   pub in_order : i ≤ j

@@ -32,8 +32,8 @@ pub record TakesByte {V B : Type 0} (step : V → Event → V) (old new : V) (li
   pub is_at : IsAtPlace limit parser next
   pub leads : Leads limit place byte reported next
 
--- The performer received a sequence, as one event. The parser is in a text then, and gave back
--- no memory.
+-- The performer received a sequence, as one event. The parser is in a text then, and freed no
+-- memory.
 pub record Dispatches {V B : Type 0} (step : V → Event → V) (old new : V) (event : Event)
     (parser next : Machine B) (old_reader new_reader : Reader) : Type 0 where
   pub reports : Reports step old new event old_reader new_reader

@@ -82,7 +82,7 @@ pub record ComesToRun {V B : Type 0} (call : ChunkCall V) (old new : V) (range :
   pub stops : range.end ≡ range.start → range.start < length call.bytes
       → call.is_terminated new ≡ true
 
--- How many bytes a call with this result performed.
+-- How many bytes a call with this result read before a run.
 abbrev pub read_before_range : Result RunRange Refused → ℕ
 read_before_range (Ok range) = range.start
 read_before_range (Err refused) = refused.read

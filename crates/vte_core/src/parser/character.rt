@@ -12,7 +12,7 @@ use crate::utf8::{
 
 impl<B: Buffer> Machine<B> {
     /// Reads the character or malformed sequence that begins with a lead byte. A byte that breaks
-    /// it is left unread, and U+FFFD is printed for those before it. If text is taken in runs, a
+    /// it is left unread, and U+FFFD is printed for those before it. If text comes in runs, a
     /// character of four bytes begins a run.
     #[inline(always)]
     pub(crate) fn read_character<P: CountedPerform<G>, G: Granularity, const MAY_STOP: bool>(
@@ -107,7 +107,7 @@ impl<B: Buffer> Machine<B> {
         next + 2
     }
 
-    /// Reads the character of four bytes that begins at `from`. If text is taken in runs, it begins
+    /// Reads the character of four bytes that begins at `from`. If text comes in runs, it begins
     /// a run.
     #[inline(always)]
     // cargo: #[allow(unsafe_code)]

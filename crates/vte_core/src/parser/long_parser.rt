@@ -119,8 +119,8 @@ impl<A: Allocator> LongParser<A> {
         }
     }
 
-    /// Takes memory for this many more data bytes of an operating system command, and returns
-    /// whether it is there. Calls with no more bytes than that are then never refused memory.
+    /// Reserves memory for `more` data bytes of an operating system command. Returns whether it
+    /// succeeded. Calls with no more bytes than that are then never refused memory.
     #[must_use = "the memory may be refused"]
     pub fn reserve(&mut self, more: usize) -> bool
         ensures reads { (stream : List ℕ) → HasReadLong self.old stream
@@ -141,7 +141,7 @@ impl<A: Allocator> LongParser<A> {
         self.machine.command.reserve(more)
     }
 
-    /// Gives back the memory that an open operating system command doesn't need.
+    /// Frees the memory that an open operating system command doesn't need.
     pub fn shrink(&mut self)
         ensures reads { (stream : List ℕ) → HasReadLong self.old stream
             → HasReadLong self.new stream }
@@ -158,7 +158,7 @@ impl<A: Allocator> LongParser<A> {
         self.machine.command.shrink_to_fit();
     }
 
-    /// Returns what is unfinished, if anything is.
+    /// Returns what is open, if anything is.
     ///
     /// It began at the last ESC, or is at most three bytes of a character.
     pub fn open(&self) -> Open
@@ -167,7 +167,7 @@ impl<A: Allocator> LongParser<A> {
         self.machine.open()
     }
 
-    /// Returns whether a character or a sequence is unfinished.
+    /// Returns whether a character or a sequence is open.
     pub fn is_open(&self) -> bool
         ensures { SaysWhetherOpen None (HasReadLong self.now) result }
     {

@@ -43,14 +43,14 @@ impl<B: Buffer> Machine<B> {
         self.command.has_lost_data()
     }
 
-    /// Returns what is unfinished.
+    /// Returns what is open.
     pub(crate) fn open(&self) -> Open
         ensures { SaysOpen B.limit (HasReadWithLimit B.limit self.now) result }
     {
         self.state.open()
     }
 
-    /// Returns whether anything is unfinished.
+    /// Returns whether anything is open.
     pub(crate) fn is_open(&self) -> bool
         ensures { SaysWhetherOpen B.limit (HasReadWithLimit B.limit self.now) result }
     {

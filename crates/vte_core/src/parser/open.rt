@@ -1,10 +1,10 @@
-//! What a parser has left unfinished.
+//! What a parser has left open.
 ghost use Rattle.std.specs.Prelude.{◌≡◌};
 ghost use Rattle.vte_core.specs.private.AtPlace.{open_in};
 
 use crate::parser::{State, Unfinished};
 
-/// What is unfinished at the end of the bytes that were read.
+/// What is open at the end of the bytes that were read.
 ///
 /// It began at the last ESC, or is at most three bytes of a character.
 #[derive(Clone, Copy, Debug, PartialEq, Eq)]
@@ -27,7 +27,7 @@ pub enum Open {
 }
 
 impl State {
-    /// Returns what is unfinished in this state.
+    /// Returns what is open in this state.
     pub(crate) fn open(self) -> Open
         ensures { result ≡ open_in self }
     {

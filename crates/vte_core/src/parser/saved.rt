@@ -173,7 +173,7 @@ impl Parser<MAX_OSC_RAW> {
         }
     }
 
-    /// Saves a parser in which something may be unfinished.
+    /// Saves a parser in which something may be open.
     #[inline(never)]
     fn save_open(&self, saved: &mut Saved)
         ensures { (stream : List ℕ) → HasRead self.now stream → HasReadSaved saved.new stream }
@@ -217,7 +217,7 @@ impl Parser<MAX_OSC_RAW> {
         }
     }
 
-    /// Becomes the parser that was saved, in which something may be unfinished.
+    /// Becomes the parser that was saved, in which something may be open.
     #[inline(never)]
     fn restore_open(&mut self, saved: &Saved)
         ensures { (stream : List ℕ) → HasReadSaved saved.now stream → HasRead self.new stream }

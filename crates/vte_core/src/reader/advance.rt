@@ -9,10 +9,10 @@ use crate::perform::{Perform, PerformText, PerformThroughText};
 use crate::reader::{ByCharacter, Chunk, InRuns, Run, take_run};
 
 impl<const OSC_RAW_BUF_SIZE: usize> Parser<OSC_RAW_BUF_SIZE> {
-    /// Reads the next bytes of the stream, and performs the events that they add to it.
+    /// Reads the next bytes of the stream, and reports the events that they add to it.
     ///
-    /// However calls split the stream, the events are the same. An unfinished character or sequence
-    /// at the end waits for more bytes.
+    /// However calls split the stream, the events are the same. A character or sequence that is
+    /// open at the end waits for more bytes.
     pub fn advance<P: Perform>(&mut self, performer: &mut P, bytes: &[u8])
         ensures { ReadsBytes P.step (P.value_of performer.old) (P.value_of performer.new) bytes.now
             (parser_facts self.old) (parser_facts self.new) }
@@ -62,7 +62,7 @@ impl<const OSC_RAW_BUF_SIZE: usize> Parser<OSC_RAW_BUF_SIZE> {
     }
 
     /// Reads bytes up to and including a run of text, or of the data of a device control string.
-    /// Returns the run instead of performing it.
+    /// Returns the run instead of reporting it.
     ///
     /// Most text comes in the returned runs. A character that was divided between two calls, and
     /// U+FFFD for malformed bytes, come by [`print`](Perform::print), and a performer whose `print`
@@ -73,14 +73,14 @@ impl<const OSC_RAW_BUF_SIZE: usize> Parser<OSC_RAW_BUF_SIZE> {
     /// ```rattle
     /// let mut parser = Parser::new();
     /// let bytes = b"\x1b[1mna\xc3\xafve\r\n";
-    /// let run = parser.advance_to_run(&mut performer, bytes); // performs the sequence
+    /// let run = parser.advance_to_run(&mut performer, bytes); // reports the sequence
     /// assert_eq!((run.start, run.taken, run.end), (4, Taken::Text("naïve"), 10));
-    /// parser.advance(&mut performer, &bytes[run.end..]); // performs CR and LF
+    /// parser.advance(&mut performer, &bytes[run.end..]); // reports CR and LF
     /// ```
     ///
     /// A run begins at a whole character that is printed as it is, if nothing is open before it, or
     /// at a data byte that is put. It ends before the first control, malformed sequence, unfinished
-    /// character or byte that isn't put. What an earlier call began is performed. Without a run,
+    /// character or byte that isn't put. What an earlier call began is reported. Without a run,
     /// the call ends with the bytes, or when the performer is terminated. It is asked as by
     /// [`advance_until_terminated`](Self::advance_until_terminated).
     #[must_use = "the bytes after the run are still to be read"]

@@ -14,8 +14,12 @@ use crate::reader::{ByCharacter, Chunk, InRuns, Run, take_run};
 use std::alloc::Allocator;
 
 impl<A: Allocator> LongParser<A> {
-    /// Reads the next bytes of the stream, all of them or as many as there is memory for, and
-    /// performs the events that they add to it.
+    /// Reads the next bytes of the stream, and reports the events that they add to it.
+    ///
+    /// # Errors
+    ///
+    /// Fails if memory is refused. [`Refused`] says how many bytes were read before, whose events
+    /// were reported: free some memory, and pass in the others.
     pub fn advance<P: Perform>(&mut self, performer: &mut P, bytes: &[u8]) -> Result<(), Refused>
         ensures { ReadsLong (per_byte 5) P.step (λ _. false) (P.value_of performer.old)
             (P.value_of performer.new) bytes.now self.old self.new result
@@ -77,7 +81,7 @@ impl<A: Allocator> LongParser<A> {
     }
 
     /// Reads bytes up to and including a run of text, or of the data of a device control string.
-    /// Returns the run instead of performing it, as
+    /// Returns the run instead of reporting it, as
     /// [`Parser::advance_to_run`](crate::Parser::advance_to_run) does.
     // cargo: #[allow(unsafe_code)]
     pub fn advance_to_run<'a, P: Perform>(

@@ -1,11 +1,11 @@
-//! How performers take text.
+//! How performers receive text.
 ghost use Rattle.std.specs.Prelude.{Bool, chars, false, length, map, true, ◌<◌, ◌≡◌};
 ghost use Rattle.vte_core.specs.private.Prelude.{after, Execute, is_control_character, IsRunText, Print, Put, run_event};
 
 use crate::class::is_layout;
 use crate::perform::{Perform, PerformText};
 
-/// How a performer takes what is printed.
+/// How a performer receives what is printed.
 pub(crate) trait Granularity {
     ghost IN_RUNS: { Bool };
 
@@ -13,10 +13,10 @@ pub(crate) trait Granularity {
     const IN_RUNS: bool;
 }
 
-/// Character by character.
+/// Marks a performer that receives each character and each data byte by itself.
 pub enum ByCharacter {}
 
-/// By the run.
+/// Marks a performer that receives text and data in runs.
 pub enum InRuns {}
 
 impl Granularity for ByCharacter {
@@ -31,7 +31,7 @@ impl Granularity for InRuns {
     const IN_RUNS: bool = true;
 }
 
-/// A performer that takes text and data by the byte or in runs, as `G` says.
+/// A performer that receives text and data one by one or in runs, as `G` says.
 pub(crate) trait ReceiveAs<G: Granularity>: Perform {
     ghost layout: { Bool };
 
@@ -89,7 +89,7 @@ impl<P: Perform> ReceiveAs<ByCharacter> for P {
         Perform::put(self, byte);
     }
 
-    // Never called: texts are reported only to performers that take runs (`in_runs`).
+    // Never called: texts are reported only to performers that receive runs (`IN_RUNS`).
     fn print_text(&mut self, text: &str) {
         for c in text.chars() {
             Perform::print(self, c);

@@ -2,7 +2,7 @@
 //!
 //! Whether a byte fits depends only on the three bytes before it. So no test waits for another, and
 //! compilers turn the tests of a block into vector instructions if they have no `&&` and `||`. But
-//! the block in which a run ends is read in vain, so only long runs come here.
+//! the block in which a run ends is read without use, so only long runs come here.
 ghost use Rattle.std.specs.Prelude.{length, slice_index, true, ℕ, ◌*◌, ◌+◌, ◌-◌, ◌<◌, ◌≡◌, ◌≤◌};
 ghost use Rattle.vte_core.specs.private.Automaton.{Follows, FollowsAt, open_count, StaysBetweenCharacters};
 ghost use Rattle.vte_core.specs.private.Prelude.{Each, IsRun, looks_of, Scans};
@@ -12,8 +12,8 @@ use crate::reader::{Input, Reader, Window};
 use crate::utf8::{is_continuation, is_printed_ascii};
 
 /// How many blocks in a row must be ASCII before larger blocks are tried. In text with a few other
-/// characters, most larger blocks would be read in vain. ASCII without line ends has been read by
-/// words.
+/// characters, most larger blocks would be read without use. ASCII without line ends has been read
+/// by words.
 const ASCII_BLOCKS: usize = 4;
 
 impl Reader {

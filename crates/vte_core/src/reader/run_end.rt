@@ -107,7 +107,8 @@ impl Reader {
         }
     }
 
-    /// After a character that isn't ASCII, returns the end of a run that already reaches `from`.
+    /// Returns the end of a run that already reaches `from`, if a character that isn't ASCII was
+    /// last.
     // The loop is that of `find_run_end_up_to`, but blocks begin later once the run has had ASCII.
     #[inline(never)]
     pub(crate) fn find_run_end_after_non_ascii<P: CountedPerform<G>, G: Granularity>(
@@ -141,8 +142,8 @@ impl Reader {
         self.find_run_end_by_blocks(input, end, layout)
     }
 
-    /// By bytes and words, then by blocks, returns the end of a run that already reaches `from`.
-    /// With `layout`, HT, LF and CR don't end it.
+    /// Returns the end of a run that already reaches `from`, searching bytes and words first, then
+    /// blocks. With `layout`, HT, LF and CR don't end it.
     #[inline(always)]
     pub(crate) fn find_run_end(&mut self, input: Input<'_>, from: usize, layout: bool) -> usize
         requires { from ≤ length input.bytes.now }
@@ -159,8 +160,8 @@ impl Reader {
         }
     }
 
-    /// Up to `to`, by bytes and words alone, returns the end of a run that already reaches `from`.
-    /// The search also stops at the first character of the run that ends at `to` or later.
+    /// Returns the end of a run that already reaches `from`, searching bytes and words alone. The
+    /// search also stops after the first character of the run that ends at `to` or later.
     #[inline(always)]
     fn find_run_end_up_to(
         &mut self,
@@ -192,7 +193,7 @@ impl Reader {
         end
     }
 
-    /// By blocks from the start, returns the end of a long run that already reaches `from`.
+    /// Returns the end of a long run that already reaches `from`, searching blocks first.
     #[inline(never)]
     fn find_run_end_by_blocks(&mut self, input: Input<'_>, from: usize, layout: bool) -> usize
         requires has_three_before { 3 ≤ from }

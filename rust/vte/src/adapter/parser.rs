@@ -39,10 +39,10 @@ impl<const OSC_RAW_BUF_SIZE: usize> Default for Parser<OSC_RAW_BUF_SIZE> {
 }
 
 impl<const OSC_RAW_BUF_SIZE: usize> Parser<OSC_RAW_BUF_SIZE> {
-    /// Reads the next bytes of the stream, and performs the events that they add to it.
+    /// Reads the next bytes of the stream, and reports the events that they add to it.
     ///
-    /// However calls split the stream, the events are the same. An unfinished character or sequence
-    /// at the end waits for more bytes.
+    /// However calls split the stream, the events are the same. A character or sequence that is
+    /// open at the end waits for more bytes.
     pub fn advance<P: Perform + ?Sized>(&mut self, performer: &mut P, bytes: &[u8]) {
         if let Err(Refused { read }) = self.0.advance(performer, bytes) {
             end_without(bytes.len() - read);
@@ -83,7 +83,7 @@ impl<const OSC_RAW_BUF_SIZE: usize> Parser<OSC_RAW_BUF_SIZE> {
     }
 
     /// Reads bytes up to and including a run of text, or of the data of a device control string.
-    /// Returns the run instead of performing it.
+    /// Returns the run instead of reporting it.
     ///
     /// Most text comes in the returned runs. A character that was divided between two calls, and
     /// U+FFFD for malformed bytes, come by [`print`](Perform::print), and a performer whose `print`
@@ -105,7 +105,7 @@ impl<const OSC_RAW_BUF_SIZE: usize> Parser<OSC_RAW_BUF_SIZE> {
     /// let (mut parser, mut text) = (Parser::new(), Text::default());
     /// for mut bytes in [&b"\x1b[1mna\xc3"[..], b"\xafve\r\n"] {
     ///     while !bytes.is_empty() {
-    ///         let run = parser.advance_to_run(&mut text, bytes); // performs what isn't in the run
+    ///         let run = parser.advance_to_run(&mut text, bytes); // reports what isn't in the run
     ///         if let Taken::Text(taken) = run.taken {
     ///             text.0.push_str(taken);
     ///         }
@@ -117,7 +117,7 @@ impl<const OSC_RAW_BUF_SIZE: usize> Parser<OSC_RAW_BUF_SIZE> {
     ///
     /// A run begins at a whole character that is printed as it is, if nothing is open before it, or
     /// at a data byte that is put. It ends before the first control, malformed sequence, unfinished
-    /// character or byte that isn't put. What an earlier call began is performed. Without a run,
+    /// character or byte that isn't put. What an earlier call began is reported. Without a run,
     /// the call ends with the bytes, or when the performer is terminated. It is asked as by
     /// [`advance_until_terminated`](Self::advance_until_terminated).
     #[must_use = "the bytes after the run are still to be read"]
@@ -138,14 +138,14 @@ impl<const OSC_RAW_BUF_SIZE: usize> Parser<OSC_RAW_BUF_SIZE> {
         self.0.command_lost_data()
     }
 
-    /// Returns what is unfinished, if anything is.
+    /// Returns what is open, if anything is.
     ///
     /// It began at the last ESC, or is at most three bytes of a character.
     pub fn open(&self) -> Open {
         self.0.open()
     }
 
-    /// Returns whether a character or a sequence is unfinished.
+    /// Returns whether a character or a sequence is open.
     pub fn is_open(&self) -> bool {
         self.0.is_open()
     }

@@ -1,4 +1,4 @@
--- The headline: by induction over the chunks. A call performs what its bytes add, and what is reported of a longer
+-- The headline: by induction over the chunks. A call reports what its bytes add, and what is reported of a longer
 -- stream is what was reported before and what is added (`events_grow`).
 use Rattle.vte_core.proofs.Common.{append-nil, arith, Bor, events, flat_map, flat_map-append, get_or, List, rules, Some, take, take_all, take_more, ℕ, [], ◌∷◌}
 use Rattle.vte_core.proofs.laws.replay.Goals as goal

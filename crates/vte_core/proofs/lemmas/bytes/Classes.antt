@@ -57,6 +57,7 @@ unfolding sequence_kind
 other_key b no_bracket no_device_control no_command =
     simp (ne_eqb b 0x5b no_bracket, ne_eqb b 0x50 no_device_control, ne_eqb b 0x5d no_command)
 
+-- The keys of all other shapes are final bytes.
 pub below_40_is_escape_sequence : (b : ℕ) → b < 0x40 → sequence_kind b ≡ EscapeSequence
 unfolding sequence_kind
 below_40_is_escape_sequence b below = search (rules, arith)
@@ -109,6 +110,7 @@ ends_not_cancel _ no_end = refl
 
 -- ---- bytes of a head
 
+-- It is neither executed nor the end of the head.
 pub head_is_no_control : (class : Class) → is_head_byte class ≡ true → is_plain_control class ≡ false
 head_is_no_control PlainControl is_head = cc
 head_is_no_control _ is_head = refl
@@ -133,6 +135,7 @@ pub other_is_dropped : (class : Class) → is_head_byte class ≡ false → is_f
     → is_dropped class ≡ true
 other_is_dropped class no_head no_final no_end no_control = search (rules, arith)
 
+-- The same holds after ESC and intermediates, where 30..7E end the sequence.
 pub other_than_intermediate : (class : Class) → is_intermediate class ≡ false → dispatches_escape class ≡ false
     → ends_sequence class ≡ false
     → is_plain_control class ≡ false → is_dropped class ≡ true

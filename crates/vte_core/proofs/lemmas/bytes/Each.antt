@@ -6,6 +6,7 @@ use Rattle.std.specs.Array.{IsFirstChunk}
 use Rattle.vte_core.proofs.Common.{ap, arith, drop, drop-drop, drop_more, get_or, length, List, refl, rules, slice_index, subst, take, take-add, take_rest, ℕ, [], ◌++◌, ◌+◌, ◌-◌, ◌<◌, ◌∙◌, ◌∷◌, ◌≡◌, ◌≤◌}
 use Rattle.vte_core.specs.private.Runs.{Each}
 
+-- A stretch of one byte, as a list.
 pub one_byte : (bytes : List ℕ) (from b : ℕ) → from < length bytes → b ≡ slice_index bytes from
     → take (from + 1 - from) (drop from bytes) ≡ b ∷ []
 one_byte bytes from b before_end byte_is =
@@ -19,6 +20,7 @@ slice-then bytes i j k low high =
     let here : i + (j - i) ≡ j = omega (arith, low) in
     rw (whole, take-add (j - i) (k - j) (drop i bytes), drop-drop (j - i) i bytes, here) refl
 
+-- What holds of a byte holds of its stretch, and what holds of two stretches holds of both together.
 pub each-one : (holds : ℕ → Type 0) (bytes : List ℕ) (from : ℕ) → holds (slice_index bytes from)
     → Each holds bytes from (from + 1)
 each-one holds bytes from one k low high = search (rules, arith)

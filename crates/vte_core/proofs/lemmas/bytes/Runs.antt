@@ -8,7 +8,7 @@ use Rattle.vte_core.proofs.lemmas.bytes.Each.{one_byte, slice-then}
 
 -- ---- which characters stay in a run
 
--- All characters but controls stay in a run, and with `layout` HT, LF and CR do too.
+-- All characters except controls stay in a run, and with `layout` HT, LF and CR do too.
 
 pub no_control-stays : (layout : Bool) (scalar : ℕ) → is_control_character scalar ≡ false → StaysInRun layout scalar
 no_control-stays layout scalar no_control = search (rules, arith)
@@ -16,6 +16,7 @@ no_control-stays layout scalar no_control = search (rules, arith)
 pub layout-stays : (scalar : ℕ) → is_layout scalar ≡ true → StaysInRun true scalar
 layout-stays scalar is_layout_character = rw is_layout_character refl
 
+-- HT, LF and CR are controls, and ASCII.
 pub layout-is_control_character : (scalar : ℕ) → is_layout scalar ≡ true → is_control_character scalar ≡ true
 layout-is_control_character scalar is_layout_character = grind (arith, nat_tests)
 
@@ -25,6 +26,7 @@ layout-is_ascii scalar is_layout_character = grind (arith, nat_tests)
 no_layout : (b : ℕ) → IsPrintedAscii b → is_layout b ≡ false
 no_layout b printed = let low = printed.0 in let high = printed.1 in grind (arith, nat_tests)
 
+-- A byte of printed ASCII gives the same event, whether runs keep HT, LF and CR or not.
 pub run_event-printed : (layout : Bool) (b : ℕ) → IsPrintedAscii b → run_event layout b ≡ Print b
 run_event-printed false b printed = refl
 run_event-printed true b printed = rw (no_layout b printed) refl
@@ -52,6 +54,7 @@ utf8_run-printed layout bytes n are_printed =
     (IsAscii-from_reads (take n bytes) (length (take n bytes)) (omega arith) (λ k l. (printed k l).1))
     (All-from_get_or (StaysInRun layout) (take n bytes) 0 (λ k l. plain-stays layout _ (printed k l)))
 
+-- No bytes are a run too.
 pub utf8_run-nil : (layout : Bool) → IsUtf8Run layout []
 utf8_run-nil layout =
     record {
@@ -75,6 +78,7 @@ chars-encode scalar is_scalar =
     chars_past_char (encode scalar) [] scalar (IsUtf8-encode scalar is_scalar) (sym (append-nil (encode scalar)))
     ∙ ap (λ cs. scalar ∷ cs) chars-nil
 
+-- If a character stays in a run, so do its bytes.
 pub run_one : (layout : Bool) (scalar : ℕ) → IsScalar scalar → StaysInRun layout scalar
     → All (StaysInRun layout) (chars (encode scalar))
 run_one layout scalar is_scalar stays = subst (All (StaysInRun layout)) (sym (chars-encode scalar is_scalar))
@@ -85,15 +89,18 @@ pub after-character : {V : Type 0} (layout : Bool) (step : V → Event → V) (o
 after-character layout step old scalar is_scalar =
     ap (λ cs. after step old (map (run_event layout) cs)) (chars-encode scalar is_scalar)
 
+-- A character that is no control is printed, whatever runs keep.
 pub run_event-no_control : (layout : Bool) {scalar : ℕ} → is_control_character scalar ≡ false
     → run_event layout scalar ≡ Print scalar
 run_event-no_control layout {scalar} no_control = grind (arith, nat_tests, layout-is_control_character scalar)
 
 -- ---- runs from one position of the bytes to another
 
+-- The test that the code makes of a byte.
 pub printed-in_range : (b : ℕ) → is_in (from_to 0x20 0x7f) b ≡ true → IsPrintedAscii b
 printed-in_range b in_range = grind (arith, nat_tests)
 
+-- The slice of a byte of printed ASCII is one character.
 pub chars-one : (bytes : List ℕ) (from b : ℕ) → from < length bytes → b ≡ slice_index bytes from → IsPrintedAscii b
     → chars (take (from + 1 - from) (drop from bytes)) ≡ b ∷ []
 chars-one bytes from b before_end byte_is printed =
@@ -109,6 +116,7 @@ run-layout bytes from b before_end byte_is layout =
     (All-cons (StaysInRun true) b [] (layout-stays b layout)
     (All-nil (StaysInRun true))))
 
+-- No bytes are a run, printed ASCII is one, and so are two runs, one after the other.
 pub run-none : (layout : Bool) (bytes : List ℕ) (from : ℕ) → IsRun layout bytes from from
 run-none layout bytes from =
     subst (λ n. IsUtf8Run layout (take n (drop from bytes))) (let same : 0 ≡ from - from = omega arith in same)

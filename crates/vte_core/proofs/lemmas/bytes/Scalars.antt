@@ -7,6 +7,7 @@ use Rattle.vte_core.specs.declared.utf8.Extension.TheVariants.{Malformed, Trunca
 
 -- ---- the bounds of a byte in a range
 
+-- The bounds of the second byte b of a sequence that begins with a.
 pub record SecondByte (a b : ℕ) : Type 0 where
   pub low : 0x80 ≤ b
   pub high : b ≤ 0xbf
@@ -18,6 +19,7 @@ pub record SecondByte (a b : ℕ) : Type 0 where
 pub in_range-bounds : (range : Range) (b : ℕ) → is_in range b ≡ true → (range.first ≤ b) × (b ≤ range.last)
 in_range-bounds range b fits = search (rules, arith)
 
+-- The third or fourth byte of a sequence.
 abbrev pub IsContinuation : ℕ → Type 0
 IsContinuation b = (0x80 ≤ b) × (b ≤ 0xbf)
 
@@ -96,6 +98,7 @@ by_first first rest (of_three low high) whole =
 by_first first rest (of_four low high) whole =
     fit-four first rest low high (sym (tests-four first low high rest).is_whole ∙ whole)
 
+-- Each well-formed sequence has one of these shapes.
 pub sequence : (bytes : List ℕ) → is_well_formed bytes ≡ true → Sequence bytes
 unfolding is_well_formed utf8_rows
 sequence [] whole = absurd (false≢true whole)
@@ -107,6 +110,7 @@ scalar_of-in_range bytes whole = search (rules, arith, sequence, in_range-two, i
 is_scalar : (c : ℕ) → InScalarRange c → IsScalar c
 is_scalar c in_range = search (rules, arith)
 
+-- Its number is no surrogate, and at most U+10FFFF.
 pub well_formed_is_scalar : (bytes : List ℕ) → is_well_formed bytes ≡ true → IsScalar (scalar_of bytes)
 well_formed_is_scalar bytes well = is_scalar (scalar_of bytes) (scalar_of-in_range bytes well)
 
@@ -135,6 +139,7 @@ pub record Spells (p : List ℕ) (number : ℕ) : Type 0 where
   pub is_whole : is_well_formed p ≡ true
   pub same : number ≡ scalar_of p
 
+-- The number that the code computes of two, three or four bytes is that of their character.
 pub spells-two : {a b : ℕ} → 0xc2 ≤ a → a < 0xe0 → is_in continuation b ≡ true
     → Spells (a ∷ b ∷ []) (a % 32 * 0x40 + b % 64)
 unfolding is_well_formed utf8_rows

@@ -30,6 +30,7 @@ module _ {holds : ℕ → Type 0} {bytes block : List ℕ} {from end n : ℕ} {o
 
 -- ---- a search for the end of a run
 
+-- Two searches, one after the other, are one.
 pub scans-run : {layout : Bool} {bytes : List ℕ} {i j k : ℕ} {old_reader middle new_reader : Reader}
     → Scans (IsRun layout) bytes i j old_reader middle → Scans (IsRun layout) bytes j k middle new_reader
     → Scans (IsRun layout) bytes i k old_reader new_reader

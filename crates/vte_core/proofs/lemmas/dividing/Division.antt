@@ -96,6 +96,7 @@ concat-segments_after (suc skip) (b ∷ bytes) = concat-segments_after skip byte
 concat-segments_after zero (b ∷ bytes) =
     search (rules, arith, (concat-segments_after (trailing_count b bytes) bytes), take-append-drop)
 
+-- The division loses no byte.
 pub all_divided : (text : List ℕ) → SegmentsJoin text
 all_divided text = concat-segments_after 0 text
 
@@ -155,6 +156,7 @@ right_segments (suc n) (b ∷ bytes) short =
           (right_segments n (drop (trailing_count b bytes) bytes) shorter),
     )
 
+-- Each of its segments is the right one.
 pub are_right_segments : (text : List ℕ) → AreCorrectSegments (segments text)
 are_right_segments text = right_segments (length text) text (omega arith)
 
@@ -201,6 +203,7 @@ one_division (p ∷ these) (q ∷ those) are_right others_are_right same =
     let first : p ≡ q = parts.0 in
     cc
 
+-- No other division has right segments alone.
 pub only_division : (all : List (List ℕ)) → AreCorrectSegments all → segments (concat all) ≡ all
 only_division all are_right =
     one_division (segments (concat all)) all (are_right_segments (concat all)) are_right

@@ -32,6 +32,7 @@ encoded-four : (a b c d : ℕ) → 0xf0 ≤ a → a < 0xf5 → SecondByte a b �
 unfolding encode
 encoded-four a b c d low high second third fourth = search (rules, arith)
 
+-- A well-formed sequence is the encoding of its character.
 pub well_formed_is_encoded : (bytes : List ℕ) → is_well_formed bytes ≡ true → encode (scalar_of bytes) ≡ bytes
 well_formed_is_encoded bytes well_formed = elim (sequence bytes well_formed) [
   | whole_one a bytes_are high ↦ rw bytes_are (encode_ascii a high)
@@ -50,6 +51,7 @@ well_formed-encode scalar range below = search (rules, arith)
 in_scalar_range : (scalar : ℕ) → IsScalar scalar → InScalarRange scalar × (scalar < 0x110000)
 in_scalar_range scalar is_scalar = search (rules, arith)
 
+-- The encoding of a character is well formed, and has its number.
 pub encoded_is_well_formed : (scalar : ℕ) → IsScalar scalar → is_well_formed (encode scalar) ≡ true
 encoded_is_well_formed scalar is_scalar =
     let range = in_scalar_range scalar is_scalar in well_formed-encode scalar range.0 range.1
@@ -98,6 +100,7 @@ text_of_segments text are_well_formed = rw (all_divided text) at (concat-well_fo
 
 -- ---- the events of a text of the library
 
+-- Encoded characters at the start of a text give their events, and the text goes on after them.
 pub text_outcome-encodes : (characters rest : List ℕ) → scalars characters ≡ true
     → text_outcome (encodes characters ++ rest) ≡ report (map character_event characters) (text_outcome rest)
 text_outcome-encodes [] rest are_scalars = refl
@@ -111,6 +114,7 @@ text_outcome-encodes (c ∷ characters) rest are_scalars =
     ∙ ap (report (character_event c ∷ [])) (text_outcome-encodes characters rest parts.1)
     ∙ sym (report-append (character_event c ∷ []) (map character_event characters) (text_outcome rest))
 
+-- Bytes without ESC belong to the text before the first ESC.
 pub cut-text : (text more : List ℕ) → All (λ b. b ≢ escape) text
     → cut_at_escape (text ++ more)
     ≡ record { text = text ++ (cut_at_escape more).text; bodies = (cut_at_escape more).bodies }
@@ -163,6 +167,7 @@ past_controls b rest low plain well_formed = elim (sequence (b ∷ rest) well_fo
 no_control : (scalar : ℕ) → 0xa0 ≤ scalar → is_control_character scalar ≡ false
 no_control scalar low = grind (arith, nat_tests)
 
+-- A character of two bytes or more is a run, unless it is a control.
 pub utf8_run-character : {layout : Bool} {b : ℕ} {rest : List ℕ} → 0xc2 ≤ b → (b ≡ 0xc2 → 0xa0 ≤ get_or rest 0 0)
     → is_well_formed (b ∷ rest) ≡ true → IsUtf8Run layout (b ∷ rest)
 utf8_run-character {b} {rest} low plain well_formed =
@@ -197,6 +202,7 @@ run-from_bytes {layout} bytes from b rest before_end is_first are_rest low plain
     (let equal : suc (length rest) ≡ from + suc (length rest) - from = omega arith in equal)
     (subst (IsUtf8Run layout) (sym same) (utf8_run-character low plain well_formed))
 
+-- The same holds of two, three and four bytes at a position, by the tests of the code.
 pub run-two : {layout : Bool} (bytes : List ℕ) (from : ℕ) {first second : ℕ} → from + 2 ≤ length bytes
     → first ≡ slice_index bytes from → second ≡ slice_index bytes (from + 1)
     → 0xc2 ≤ first → first < 0xe0 → is_in (from_to 0x80 0xbf) second ≡ true → (first ≡ 0xc2 → 0xa0 ≤ second)

@@ -85,6 +85,7 @@ pub counts-digit : {old new : CollectedHead} {text : List ℕ} (digit : ℕ) →
 counts-digit {text} digit counts low high params joined number =
     search (rules, arith, append_assoc, is_digit_no_separator, number_of-push)
 
+-- Cleared fields are those of an empty parameter text.
 pub counts-nothing : (new : CollectedHead) → new.params ≡ [] → new.joined ≡ false → new.number ≡ 0
     → CountsNumbers new []
 counts-nothing new params joined number =
@@ -228,6 +229,7 @@ pub head-whole : {old new : CollectedHead} (more : Bool) {ignored : Bool} {reach
 head-whole more stores same_intermediates holds ignored_is =
     search (rules, arith, collected-parts, HoldsIntermediates-kept, collected-well_shaped)
 
+-- Nothing is collected of an empty head.
 pub holds-nothing : (new : CollectedHead) → HoldsIntermediates new [] → CountsNumbers new [] → HoldsHead new Entry []
 holds-nothing new holds counts = search (rules, arith)
 
@@ -255,6 +257,7 @@ pub dispatched-ready : (call : List (List ℕ) → List ℕ → Bool → ℕ →
 unfolding sequence_event
 dispatched-ready call final ready = rw (ready.groups, ready.intermediates, ready.ignore) refl
 
+-- Unless the head is ill-shaped, what was read of it is collected.
 pub head-holds : {collected : CollectedHead} {reached : HeadProgress} {head : List ℕ} → (reached ≡ IllShaped → ⊥)
     → HasReadHead collected reached head → HoldsHead collected reached head
 head-holds {reached = IllShaped} well_shaped has_read = absurd (well_shaped refl)

@@ -39,6 +39,7 @@ pub length-cut_by_lengths : (lengths numbers : List ℕ) → length (cut_by_leng
 length-cut_by_lengths [] numbers = refl
 length-cut_by_lengths (n ∷ lengths) numbers = ap suc (length-cut_by_lengths lengths (drop n numbers))
 
+-- Lengths that cover the numbers lose none of them.
 pub count_of-cut_by_lengths : {lengths numbers : List ℕ} → AreLengths lengths numbers
     → count_of (cut_by_lengths lengths numbers) ≡ length numbers
 count_of-cut_by_lengths {lengths = []} are_lengths = are_lengths.sum_is
@@ -71,6 +72,7 @@ small-cut_by_lengths (n ∷ lengths) numbers small =
     (All-take FitsU16 n numbers small)
     (small-cut_by_lengths lengths (drop n numbers) (All-drop FitsU16 n numbers small))
 
+-- What `Params` may store are groups of a sequence.
 pub AreGroups-cut_by_lengths : (lengths numbers : List ℕ) → AreFlatGroups lengths numbers
     → length numbers ≤ max_numbers
     → AreGroups (cut_by_lengths lengths numbers)
@@ -81,6 +83,7 @@ AreGroups-cut_by_lengths lengths numbers are_flat at_most =
 
 -- A number begins a group, or joins the last one, whose length grows; the groups before it stay.
 
+-- A number begins a group, or joins the last one.
 pub with_number-begins : (groups : List (List ℕ)) (value : ℕ)
     → with_number groups (numbered false value) ≡ groups ++ (value ∷ []) ∷ []
 with_number-begins [] value = refl
@@ -223,6 +226,7 @@ split_numbers joined digits (b ∷ text) none_separates = elim (cases_Bool (is_s
       rw stays (rw (append_assoc digits (b ∷ []) text) at rest)
 ]
 
+-- Numbers read byte by byte are those of the text split at separators.
 pub numbers_are : (text : List ℕ) → numbers text ≡ numbers_from false [] text
 unfolding numbers
 numbers_are text = split_numbers false [] text (All-nil IsNoSeparator)
@@ -263,6 +267,7 @@ numbers_small text = rw (numbers_are text) (numbers_from-small false [] text)
 
 -- Number by number, what holds of every group is kept (`Keeps`).
 
+-- One more number joins the groups of those before.
 pub grouped-push : (numbers : List Number) (number : Number)
     → grouped (numbers ++ number ∷ []) ≡ with_number (grouped numbers) number
 grouped-push numbers number = fold_push with_number [] numbers number
@@ -285,6 +290,7 @@ count_of-fold groups [] = omega arith
 count_of-fold groups (number ∷ numbers) =
     omega (arith, count_of-fold (with_number groups number) numbers, count_of-with_number groups number)
 
+-- Groups lose no number.
 pub count_of-grouped : (numbers : List Number) → count_of (grouped numbers) ≡ length numbers
 count_of-grouped numbers = omega (arith, count_of-fold [] numbers)
 

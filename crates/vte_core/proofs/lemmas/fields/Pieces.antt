@@ -79,6 +79,7 @@ kept-fits limit count (item ∷ items) within =
     let end = kept-fits limit count items within in
     grind (arith, byte, end, ltb-true)
 
+-- A command has at least one piece and at most 16, which fit into the buffer.
 pub pieces_fit : (limit : Option ℕ) (items : List ℕ) → FitsLimit limit (pieces_of limit items)
 unfolding pieces_of kept_items
 pieces_fit None items = tt

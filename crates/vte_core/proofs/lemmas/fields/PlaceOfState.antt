@@ -28,6 +28,7 @@ escape-by_state : {B : Type 0} (limit : Option ℕ) (state : State) (parser : Ma
 escape-by_state limit Escape parser fields = fields
 escape-by_state limit _ parser fields = absurd fields
 
+-- After ESC, no intermediates are collected.
 pub is_at-escape : {B : Type 0} {limit : Option ℕ} (parser : Machine B) → IsAtPlace limit parser AtEscape
     → HoldsIntermediates parser.collected []
 is_at-escape {limit} parser is_at = escape-by_state limit parser.state parser is_at.fields
@@ -42,6 +43,7 @@ command-by_place : {B : Type 0} {limit : Option ℕ} {parser : Machine B} {place
     → IsPlaceOfState limit SystemCommand parser place → InCommandAt limit parser place
 command-by_place fields = search (rules, arith)
 
+-- A parser in a command is at such a place.
 pub in_command : {B : Type 0} {limit : Option ℕ} {parser : Machine B} {place : Place} → parser.state ≡ SystemCommand
     → IsAtPlace limit parser place → InCommandAt limit parser place
 in_command {limit} in_state is_at = command-by_place (is_at-in in_state is_at)
@@ -55,11 +57,13 @@ is_reachable-by_state : {B : Type 0} (limit : Option ℕ) (state : State) (parse
     → IsPlaceOfState limit state parser place → IsReachable place
 is_reachable-by_state limit state parser place fields = search (rules, arith)
 
+-- A parser is only at reachable places.
 pub is_at-place : {B : Type 0} {limit : Option ℕ} {parser : Machine B} {place : Place}
     → IsAtPlace limit parser place
     → IsReachable place
 is_at-place {limit} {parser} {place} is_at = is_reachable-by_state limit parser.state parser place is_at.fields
 
+-- `may_continue` is also true of no bytes: that is all in which it differs.
 pub may_continue-truncated : (opened : List ℕ) → is_truncated opened ≡ true → may_continue opened ≡ true
 may_continue-truncated [] truncated = refl
 may_continue-truncated (a ∷ opened) truncated = truncated
@@ -78,6 +82,7 @@ rest_outcome-nothing limit (InText opened) is_reachable = text_outcome-open limi
 rest_outcome-nothing limit (InSystemCommand items) is_reachable = simp append-nil
 rest_outcome-nothing limit _ is_reachable = refl
 
+-- The same holds of bytes among which ESC is allowed.
 pub outcome_from-nothing : (limit : Option ℕ) (place : Place) → IsReachable place
     → outcome_from limit place [] ≡ leaves (to_close_at limit place)
 unfolding outcome_from
@@ -87,6 +92,7 @@ pub events_from-nothing : (limit : Option ℕ) (place : Place) → IsReachable p
 events_from-nothing limit place is_reachable =
     ap (λ outcome. outcome.reported) (outcome_from-nothing limit place is_reachable)
 
+-- The open character at a place is what is left to close there, whatever the limit.
 pub open_bytes-at : (limit : Option ℕ) (place : Place) → open_bytes (to_close_at limit place) ≡ open_at place
 open_bytes-at limit place = search (rules, arith)
 
@@ -99,6 +105,7 @@ pub is_at-text_begun : {B : Type 0} {limit : Option ℕ} {parser : Machine B} �
     → IsAtPlace limit parser (InText [])
 is_at-text_begun in_state = is_at-by in_state (refl, refl)
 
+-- The capacity of a store has no effect on its items.
 pub holds_items-same : {limit : Option ℕ} {old new : StoredCommand} {items : List ℕ} → SameItems old new
     → HoldsItems limit old items
     → HoldsItems limit new items

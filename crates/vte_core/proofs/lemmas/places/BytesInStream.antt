@@ -11,6 +11,7 @@ pub outcome-after_nothing : (limit : Option ℕ) (stream : List ℕ)
 unfolding outcome outcome_from
 outcome-after_nothing limit stream = refl
 
+-- So its events are those after a text with nothing open.
 pub events-after_nothing : (limit : Option ℕ) (stream : List ℕ)
     → events limit stream ≡ events_from limit (InText []) stream
 unfolding events
@@ -44,6 +45,7 @@ pub outcome_from-escape : (limit : Option ℕ) (place : Place) (more : List ℕ)
 unfolding outcome_from
 outcome_from-escape limit place more is_reachable = search (rules, arith, rest_outcome-nothing)
 
+-- An ESC after any place reports what closes it, and leads to the start of a body.
 pub bytes_lead-escape : {limit : Option ℕ} {place : Place} → IsReachable place
     → BytesLead limit place (escape ∷ []) (closing_events_at limit place) AtEscape
 bytes_lead-escape {limit} {place} is_reachable = record {
@@ -51,6 +53,7 @@ bytes_lead-escape {limit} {place} is_reachable = record {
       λ more. outcome_from-escape limit place more is_reachable;
 }
 
+-- No bytes lead to the same place, and two stretches lead on one after the other.
 pub bytes_lead-nothing : {limit : Option ℕ} {place : Place} → BytesLead limit place [] [] place
 bytes_lead-nothing = record { leads = λ more. refl }
 
@@ -61,6 +64,7 @@ pub bytes_lead-append : {limit : Option ℕ} {place next last : Place} {bytes th
 bytes_lead-append {limit} {place} {last} {bytes} {these} {reported} {more_reported} leads reads_on =
     search (rules, arith, append_assoc, report-append)
 
+-- A byte that ends nothing cuts no stream.
 pub no_escape : (b : ℕ) → ends_sequence (class_of b) ≡ false → eqb b escape ≡ false
 unfolding class_of
 no_escape b no_end = grind (arith, nat_tests)
@@ -74,6 +78,7 @@ cancel_is_no_escape b is_cancel = grind (arith, nat_tests)
 item_is_no_escape : (b : ℕ) → 0x20 ≤ b → eqb b escape ≡ false
 item_is_no_escape b low = grind (arith, nat_tests)
 
+-- It reports nothing, and is the last item of the next place.
 pub bytes_lead-item : {limit : Option ℕ} {items : List ℕ} {b : ℕ} → 0x20 ≤ b
     → BytesLead limit (InSystemCommand items) (b ∷ []) [] (InSystemCommand (items ++ b ∷ []))
 bytes_lead-item {b} low =

@@ -100,6 +100,7 @@ control-head {b} is_head =
           simp (is_head, head_is_no_control (class_of b) is_head, head_is_no_end (class_of b) is_head, append_assoc);
     }
 
+-- A final byte dispatches a well-shaped head, and ends any other without an event.
 pub control-dispatched : {limit : Option ℕ} {head : List ℕ} {b : ℕ} → class_of b ≡ Final
     → is_well_shaped (head_of head) ≡ true
     → Leads limit (InControlSequence head) b (sequence_event CsiDispatch (head_of head) b ∷ []) (InText [])
@@ -123,6 +124,7 @@ pub device-head : {limit : Option ℕ} {head : List ℕ} {b : ℕ} → is_head_b
 unfolding device_control_from
 device-head {b} is_head = record { leads = λ rest. simp (is_head, head_is_no_end (class_of b) is_head, append_assoc) }
 
+-- A final byte hooks the string if its head is well shaped. Otherwise it is ignored.
 pub device-well_shaped : {limit : Option ℕ} {head : List ℕ} {b : ℕ} → class_of b ≡ Final
     → is_well_shaped (head_of head) ≡ true
     → Leads limit (InDeviceControl head) b (sequence_event Hook (head_of head) b ∷ []) InDeviceData
@@ -141,6 +143,7 @@ data_is_no_end : (b : ℕ) → is_device_data (class_of b) ≡ true → ends_dev
 unfolding class_of
 data_is_no_end b is_data = grind (arith, nat_tests)
 
+-- A data byte is put, 9C ends the string, and other bytes that end nothing are dropped.
 pub data-put : {limit : Option ℕ} {b : ℕ} → is_device_data (class_of b) ≡ true
     → Leads limit InDeviceData b (Put b ∷ []) InDeviceData
 unfolding device_data_outcome
@@ -162,6 +165,7 @@ item_is_no_end : (b : ℕ) → 0x20 ≤ b → ends_system_command b ≡ false
 unfolding class_of
 item_is_no_end b low = grind (arith, nat_tests)
 
+-- Whether the item is kept is said at the end of the command.
 pub command-item : {limit : Option ℕ} {items : List ℕ} {b : ℕ} → 0x20 ≤ b
     → Leads limit (InSystemCommand items) b [] (InSystemCommand (items ++ b ∷ []))
 unfolding system_command_from
@@ -189,6 +193,7 @@ ignored-more no_cancel = record { leads = λ rest. simp no_cancel }
 
 -- ---- in a text
 
+-- This holds of any byte: that it belongs to the character is said by `IsReachable` of the next place.
 pub text-unfinished : {limit : Option ℕ} {opened : List ℕ} {b : ℕ}
     → Leads limit (InText opened) b [] (InText (opened ++ b ∷ []))
 text-unfinished {opened} {b} = record { leads = λ rest. ap text_outcome (sym (append_assoc opened (b ∷ []) rest)) }
@@ -234,6 +239,7 @@ is_character_event-chosen : (executed : Bool) (byte scalar : ℕ) → (executed 
 is_character_event-chosen true byte scalar if_executed if_printed = if_executed refl
 is_character_event-chosen false byte scalar if_executed if_printed = if_printed refl
 
+-- A character gives a character event, and so does a malformed byte.
 pub is_character_event-character : (bytes : List ℕ) → is_well_formed bytes ≡ true
     → IsCharacterEvent (character_event (scalar_of bytes))
 unfolding character_event
@@ -246,6 +252,7 @@ is_character_event-malformed b = search (rules, arith)
 pub character_event_bounded : (limit : Option ℕ) (event : Event) → IsCharacterEvent event → IsBounded limit event
 character_event_bounded limit event short = search (rules, arith)
 
+-- A character event is brief, and so are two of them.
 pub one_character-from_one_byte : (limit : Option ℕ) (reported : List Event) → IsAtMostOneCharacter reported
     → AreBrief limit reported
 one_character-from_one_byte limit reported one_character = search (rules, arith)

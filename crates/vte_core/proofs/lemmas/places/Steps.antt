@@ -15,6 +15,7 @@ abbrev pub IsText : Place → Type 0
 IsText (InText opened) = Unit {0}
 IsText _ = ⊥
 
+-- A character is open only in a text.
 pub text_at : (place : Place) → (open_at place ≡ [] → ⊥) → IsText place
 text_at (InText opened) some_open = tt
 text_at _ some_open = absurd (some_open refl)

@@ -67,6 +67,7 @@ pub reported-at : {B : Type 0} {value : List Event} {limit : Option ℕ} {stream
     → value ≡ reported_before limit stream bytes i
 reported-at position = recorded-is position.progress
 
+-- Inside a character, its value is what the bytes before the position add.
 pub added-inside : {B : Type 0} {value : List Event} {limit : Option ℕ} {stream bytes : List ℕ} {i : ℕ}
     {parser : Machine B} → IsInsidePosition (keeping limit bytes) [] value stream i parser
     → value ≡ added limit stream (take i bytes)
@@ -89,6 +90,7 @@ outside_runs-place limit state parser place b outside fields = search (rules, ar
 -- If no byte reports a run, neither does the stretch (`adds-leads`), and stretches compose (`adds-then`).
 
 module _ {limit : Option ℕ} {stream bytes : List ℕ} {i : ℕ} where
+  -- A stretch that adds nothing reports no run.
   pub adds-same : {j : ℕ} → reported_before limit stream bytes i ≡ reported_before limit stream bytes j
       → AddsOutsideRuns limit stream bytes i j
   adds-same same = search (rules, arith)
@@ -135,6 +137,7 @@ module _ {limit : Option ℕ} {stream bytes : List ℕ} {i : ℕ} where
         }
       ]
 
+  -- A byte outside of text and data reports no run.
   pub adds-outside_runs : {b : ℕ} {place : Place} → i < length bytes
       → b ≡ slice_index bytes i → IsAfter limit (resumed_stream stream bytes i) place
       → IsReachable place → IsOutsideRunsAtPlace place b → AddsOutsideRuns limit stream bytes i (i + 1)

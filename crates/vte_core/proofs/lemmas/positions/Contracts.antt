@@ -29,6 +29,7 @@ costs-added {result} {earlier} no_looks sum costs = search (rules, arith)
 -- ---- with any limit, if no memory is refused
 
 module _ {V B : Type 0} {call : ChunkCall V} {old new : V} {before parser : Machine B} {start end : ℕ} where
+  -- A call that has read all bytes ensures `ReadsBytes`.
   pub reads-bytes : {read : ℕ} → read ≡ length call.bytes → ReadsUpTo call old new read before parser
       → Costs (per_byte 5) call.bytes (Ok read) read before parser start end
       → ReadsBytes call.step old new call.bytes (machine_facts call.limit before start)
@@ -40,6 +41,7 @@ module _ {V B : Type 0} {call : ChunkCall V} {old new : V} {before parser : Mach
     looks_at_least = omega (arith, all, costs.looks_at_least);
   }
 
+  -- A call that may stop ensures `ReadsUntilTerminated`, wherever it ended.
   pub reads-until : {read : ℕ} → call.may_stop ≡ true → ReadsUpTo call old new read before parser
       → Costs (per_byte 5) call.bytes (Ok read) read before parser start end
       → ReadsUntilTerminated call.step call.is_terminated read old new call.bytes
@@ -117,7 +119,8 @@ module _ {A V : Type 0} {step : V → Event → V} {is_terminated : V → Bool} 
       (λ stream has_read. (refuses-inside refuses stream has_read).progress.earlier refl)
       (refuses.may_go_on refl)
 
-  -- The next lemmas are for `advance`.
+  -- `advance` ensures `ReadsLong` without a stop: if it is refused memory (`advance-refused`), and if it has read all
+  -- bytes (`advance-read`).
   pub advance-refused : (refused : Refused) {drove : Result ℕ Refused}
       → ReadsUntilRefused (chunk_call false step is_terminated None bytes) old new refused.read parser.machine
       next.machine
@@ -137,7 +140,7 @@ module _ {A V : Type 0} {step : V → Event → V} {is_terminated : V → Bool} 
   advance-read reads costs =
       reads_long-ok (reads-bytes (all_read-unless_asked _ _ reads.within reads.may_stop) reads costs) costs
 
-  -- The next lemmas are for `advance_until_terminated`.
+  -- `advance_until_terminated` ensures `ReadsLong` with a stop, whether it is refused memory or not.
   pub advance-until : (result : Result ℕ Refused)
       → IfOk result
       (λ read. ReadsUpTo (chunk_call true step is_terminated None bytes) old new read parser.machine next.machine)
@@ -151,7 +154,8 @@ module _ {A V : Type 0} {step : V → Event → V} {is_terminated : V → Bool} 
   advance-until (Ok read) reads refuses costs = reads_long-ok (reads-until refl reads costs) costs
   advance-until (Err refused) reads refuses costs = reads_long-refused (is_refused-asked refuses costs) costs
 
-  -- The next lemmas are for `advance_to_run`.
+  -- `advance_to_run` ensures `ReadsLong` with a run: if it is refused memory (`to_run-refused`), and if it returns a
+  -- run or none (`to_run-read`).
   pub to_run-refused : (refused : Refused) {drove : Result RunRange Refused}
       → ReadsUntilRefused (chunk_call true step is_terminated None bytes) old new refused.read parser.machine
       next.machine

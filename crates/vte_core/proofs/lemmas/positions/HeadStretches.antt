@@ -55,6 +55,7 @@ match-none B (Some b) no_byte all = absurd (no_byte b refl)
 
 -- ---- a parameter byte, and the part of the head that it leads to
 
+-- Parameter bytes change how far the head has come, if there are any.
 pub progress_after-none : (reached : HeadProgress) {from to : ℕ} → from ≡ to → progress_after reached from to ≡ reached
 progress_after-none reached {from} {to} same = search (rules, arith)
 
@@ -181,6 +182,7 @@ module _ {V : Type 0} {call : ChunkCall V} where
       }
 
 module _ {V : Type 0} {call : ChunkCall V} where
+  -- A call goes on past a part of a head without an event.
   pub advances-head : {outside B : Type 0} {value : V} {i j : ℕ} {reached reached_then : HeadProgress}
       {parser next : Machine B}
       (shape : Shape) → parser.state ≡ state_of shape reached

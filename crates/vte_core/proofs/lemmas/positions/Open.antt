@@ -81,6 +81,7 @@ open_in-place : {B : Type 0} (limit : Option ℕ) (state : State) (parser : Mach
     → IsPlaceOfState limit state parser place → open_in state ≡ open_of (to_close_at limit place)
 open_in-place limit state parser place fields = search (rules, arith)
 
+-- What `open` returns is what the stream leaves open.
 pub which_is_open : {B : Type 0} {limit : Option ℕ} {stream : List ℕ} {parser : Machine B}
     → HasReadWithLimit limit parser stream → open_in parser.state ≡ open_at_end stream
 which_is_open {limit} {stream} {parser} has_read =
@@ -103,12 +104,14 @@ is_finished-settled {limit} {stream} is_after more =
     ∙ sym (after-events more after-nothing
     ∙ ap (λ events. events ++ events_from limit (InText []) more) (events-empty limit))
 
+-- If that is nothing, the parser goes on as a new one.
 pub closed_is_finished : {B : Type 0} {limit : Option ℕ} {stream : List ℕ} (parser : Machine B)
     → open_in parser.state ≡ kind.Nothing → HasReadWithLimit limit parser stream
     → HasReadWithLimit limit parser [] × IsFinished limit stream
 closed_is_finished {limit} {stream} parser nothing has_read =
     search (rules, arith, settled-open_in, place-settled_text, reads-again, is_finished-settled)
 
+-- Otherwise a `0` shows that something is open.
 pub open_is_unfinished : {B : Type 0} {limit : Option ℕ} {stream : List ℕ} {parser : Machine B}
     → open_in parser.state ≢ kind.Nothing → HasReadWithLimit limit parser stream → IsUnfinished limit stream
 open_is_unfinished {limit} {parser} opened has_read =
@@ -116,6 +119,7 @@ open_is_unfinished {limit} {parser} opened has_read =
 
 -- ---- memory is refused only at a data byte of an open command
 
+-- A parser has read the bytes before its position, even inside a character.
 pub inside-reads : {V B : Type 0} {call : ChunkCall V} {old value : V} {stream : List ℕ} {i : ℕ} {parser : Machine B}
     → IsInsidePosition call old value stream i parser → HasReadWithLimit call.limit parser (stream ++ take i call.bytes)
 inside-reads inside = search (rules, arith)

@@ -254,7 +254,7 @@ module _ {V : Type 0} {call : ChunkCall V} {old : V} {stream : List ℕ} where
             ∙ ap (added call.limit stream) (append-nil call.bytes));
       }
 
-  -- A call that has read all bytes has performed all their events.
+  -- A call that has read all bytes has reported all their events.
   pub progress-all_read : {value : V} {n : ℕ} {place : Place} → n ≡ length call.bytes
       → ProgressAt call old value stream n place → value ≡ after call.step old (added call.limit stream call.bytes)
   progress-all_read {n} all progress =

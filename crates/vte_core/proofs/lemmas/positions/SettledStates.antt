@@ -18,17 +18,21 @@ settled-by_place : {B : Type 0} (limit : Option ℕ) (state : State) (parser : M
     → IsSettled state → IsPlaceOfState limit state parser place → IsSettledPlace place
 settled-by_place limit state parser place settled fields = search (rules, arith)
 
+-- The same holds of the place of a parser.
 pub settled-place : {B : Type 0} {limit : Option ℕ} (parser : Machine B) → IsSettled parser.state → (place : Place)
     → IsAtPlace limit parser place → IsSettledPlace place
 settled-place {limit} parser settled place is_at = settled-by_place limit parser.state parser place settled is_at.fields
 
+-- Contracts give the next state by an equation.
 pub settled-same_state : {state other : State} → state ≡ other → IsSettled other → IsSettled state
 settled-same_state same settled = subst IsSettled (sym same) settled
 
+-- A text in which no byte of a character was read is settled.
 pub settled-nothing : (unfinished : Unfinished) → bytes_of unfinished ≡ [] → IsSettled (Text unfinished)
 settled-nothing Empty empty = tt
 settled-nothing _ empty = cc
 
+-- Each state outside of a text is settled.
 pub settled-outside : (state : State) → ((unfinished : Unfinished) → state ≡ Text unfinished → ⊥) → IsSettled state
 settled-outside (Text u) no_text = absurd (no_text u refl)
 settled-outside _ no_text = tt

@@ -19,10 +19,12 @@ use Rattle.vte_core.proofs.lemmas.positions.SettledStates.{place-settled_text}
 use Rattle.vte_core.specs.private.Prelude.{IsOutsideRunsInState}
 
 module _ {V B : Type 0} {call : ChunkCall V} where
+  -- A call that reads nothing stays, if no character is open there or no bytes are left.
   pub advances-nothing : {outside : Type 0} {value : V} {i : ℕ} {parser : Machine B}
       → (i < length call.bytes → IsSettled parser.state) → Advances outside call value value i i parser parser
   advances-nothing settled = search (rules, arith)
 
+  -- A call goes on from i to j, and then to k. If neither stretch reports a run, both together report none.
   pub advances-then : {outside : Type 0} {old mid new : V} {i j k : ℕ} {parser next last : Machine B}
       → Advances outside call old mid i j parser next → Advances outside call mid new j k next last
       → Advances outside call old new i k parser last
@@ -48,6 +50,7 @@ module _ {V B : Type 0} {call : ChunkCall V} where
         outside_runs = λ outside. advances.outside_runs (knows outside);
       }
 
+  -- A promise whose condition holds may be made under any condition.
   pub advances-given : {outside known : Type 0} {old new : V} {i j : ℕ} {parser next : Machine B} → known
       → Advances known call old new i j parser next → Advances outside call old new i j parser next
   advances-given given advances = advances-weaker (λ _. given) advances

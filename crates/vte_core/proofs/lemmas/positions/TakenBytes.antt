@@ -25,6 +25,7 @@ takes_bytes-begun {step} {old} {new} {limit} {b} {parser} {next} in_state is_no_
 -- ---- a byte in any state
 
 module _ {V B : Type 0} {step : V → Event → V} {old new : V} {limit : Option ℕ} where
+  -- A function has read a byte if it reported its events and the parser is at the place to which it leads.
   pub takes-byte : {place : Place} {byte : ℕ} {parser : Machine B} {reported : List Event} {next : Place}
       → new ≡ after step old reported → IsAtPlace limit parser next → Leads limit place byte reported next
       → TakesByte step old new limit place byte parser
@@ -56,6 +57,7 @@ module _ {V B : Type 0} {step : V → Event → V} {old new : V} {limit : Option
         leads = leads;
       })
 
+-- The call goes on past a byte other than CAN, SUB and ESC, if the function does what each place of its state says.
 pub advances-in : {V B : Type 0} {call : ChunkCall V} {old new : V} {i b : ℕ} {state : State} {parser next : Machine B}
     → parser.state ≡ state → i < length call.bytes → b ≡ slice_index call.bytes i
     → MayGoOn call old → ends_sequence (class_of b) ≡ false

@@ -32,6 +32,7 @@ bytes_lead-characters {limit} {text} is_utf8 no_escapes = record {
       ∙ with_bodies-report limit (map character_event (chars text)) (text_outcome cut.text) cut.bodies;
 }
 
+-- A text of the library without ESC gives one event per character.
 pub reported_as_characters : (limit : Option ℕ) (text : List ℕ) → IsUtf8 text → All (λ b. b ≢ escape) text
     → events limit text ≡ map character_event (chars text)
 reported_as_characters limit text is_utf8 no_escapes =
@@ -68,6 +69,7 @@ no_escape-run : (layout : Bool) (run : List ℕ) → IsUtf8Run layout run → Al
 no_escape-run layout run is_run =
     subst (All (λ b. b ≢ escape)) (encodes-chars run is_run.utf8) (no_escape-encodes layout (chars run) is_run.plain)
 
+-- A run leads from a text with nothing open back there.
 pub bytes_lead-text : {limit : Option ℕ} {layout : Bool} {run : List ℕ} → IsUtf8Run layout run
     → BytesLead limit (InText []) run (map (run_event layout) (chars run)) (InText [])
 bytes_lead-text {limit} {layout} {run} is_run =
@@ -121,6 +123,7 @@ module _ {V : Type 0} (layout : Bool) (call : ChunkCall V)
     | inr unbroken ↦ rw (reported-settled call.limit stream call.bytes k unbroken) goes
   ]
 
+-- No character of a run stops a call.
 pub may_go_on-text : {V : Type 0} {layout : Bool} (call : ChunkCall V) {old new : V} {i j : ℕ}
     → (call.may_stop ≡ true → NoCharacterStops layout call.step call.is_terminated) → MayGoOn call old
     → PrintsRun layout call.step old new call.bytes i j → MayGoOn call new

@@ -81,6 +81,7 @@ bytes_lead-data {limit} bytes (suc n) i within are_put =
     (bytes_lead-data bytes n (i + 1) (omega (arith, within))
     (λ k low high. are_put k (omega (arith, low)) (omega (arith, high)))))
 
+-- The data from one position to another are a run.
 pub has-data : {B : Type 0} {limit : Option ℕ} {bytes : List ℕ} {from end : ℕ} {parser : Machine B}
     → parser.state ≡ DeviceData → from < end → end ≤ length bytes
     → ArePut bytes from end → (end < length bytes → IsDeviceData (slice_index bytes end) → ⊥)
@@ -176,6 +177,7 @@ module _ {V B : Type 0} {call : ChunkCall V} {old new : V} (run : Run) {range : 
         stops = λ empty left. come.stops (omega (arith, empty, starts, ends)) (omega (arith, left, starts));
       }
 
+  -- The parser has read the run too.
   pub reads-run : (stream : List ℕ) → HasReadWithLimit call.limit before stream
       → HasReadWithLimit call.limit parser (resumed_stream stream call.bytes run.start ++ run_bytes run)
   reads-run stream has_read =

@@ -31,6 +31,7 @@ pub breaks-next : (opened : List ℕ) (b : ℕ) (rest other : List ℕ) → brea
 breaks-next [] b rest other = refl
 breaks-next (a ∷ opened) b rest other = refl
 
+-- Whether a byte breaks the open character depends on both alone.
 pub breaks_at-byte : (stream bytes : List ℕ) {opened : List ℕ} (i : ℕ) {b : ℕ} → i < length bytes
     → b ≡ slice_index bytes i
     → open_character (stream ++ take i bytes) ≡ opened

@@ -55,6 +55,7 @@ segments_after-length : (bytes following : List ℕ)
 segments_after-length [] following = refl
 segments_after-length (a ∷ bytes) following = segments_after-length bytes following
 
+-- What follows the first segment is divided by itself.
 pub segments-first : (first : ℕ) (rest following : List ℕ) → trailing_count first (rest ++ following) ≡ length rest
     → segments (first ∷ rest ++ following) ≡ (first ∷ rest) ∷ segments following
 segments-first first rest following counts_rest =
@@ -95,6 +96,7 @@ pub not_well_formed-nothing : is_well_formed [] ≡ false
 unfolding is_well_formed utf8_rows
 not_well_formed-nothing = refl
 
+-- A well-formed sequence at the start of a text gives its event, and the text goes on after it.
 pub text_outcome-well_formed : (bytes following : List ℕ) → is_well_formed bytes ≡ true
     → text_outcome (bytes ++ following) ≡ report (character_event (scalar_of bytes) ∷ []) (text_outcome following)
 unfolding segment_event
@@ -118,6 +120,7 @@ unfolding text_outcome is_truncated
 text_outcome-broken opened b truncated not_well_formed_after not_truncated_after following =
     search (rules, arith, segments-first, trailing_count-broken, segment_event-truncated)
 
+-- A byte that is malformed by itself gives its event, and the text goes on after it.
 pub text_outcome-lone : (following : List ℕ) (b : ℕ) → is_well_formed (b ∷ []) ≡ false → is_truncated (b ∷ []) ≡ false
     → text_outcome (b ∷ following) ≡ report (malformed_event (b ∷ []) ∷ []) (text_outcome following)
 unfolding segment_event

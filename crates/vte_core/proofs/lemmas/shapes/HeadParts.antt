@@ -50,6 +50,7 @@ list_all-AreInClass [] are_intermediates = refl
 list_all-AreInClass (b ∷ bytes) are_intermediates =
     rw are_intermediates.0 (list_all-AreInClass bytes are_intermediates.1)
 
+-- One byte other than an intermediate makes the rest of a head ill-shaped.
 pub list_all-not : (bytes : List ℕ) (b : ℕ) (more : List ℕ) → is_intermediate (class_of b) ≡ false
     → list_all (λ b. is_intermediate (class_of b)) (bytes ++ b ∷ more) ≡ false
 list_all-not [] b more no_intermediate = rw no_intermediate refl
@@ -64,6 +65,7 @@ pub collected-parts : (marker parameters intermediates : List ℕ) → IsMarker 
 collected-parts marker parameters intermediates is_marker are_parameters are_intermediates =
     search (rules, arith, begins-intermediates, head_of-parts, append-nil)
 
+-- A head of these parts is well shaped.
 pub collected-well_shaped : (marker parameters intermediates : List ℕ) → IsMarker marker
     → AreInClass is_parameter_byte parameters
     → AreInClass is_intermediate intermediates

@@ -124,6 +124,7 @@ open_bytes-any : (limit : Option ℕ) (stream : List ℕ)
 unfolding open_character
 open_bytes-any limit stream = view-any open_bytes (λ _ _ _ _. refl) limit stream
 
+-- What is kept of a command has no effect on which kind is open.
 pub open_at_end-any : (limit : Option ℕ) (stream : List ℕ)
     → open_of (outcome limit stream).to_close ≡ open_at_end stream
 unfolding open_at_end
@@ -134,14 +135,17 @@ open_at_end-any limit stream = view-any open_of (λ _ _ _ _. refl) limit stream
 pub added-nothing : (limit : Option ℕ) (stream : List ℕ) → added limit stream [] ≡ []
 added-nothing limit stream = search (rules, arith, append-nil, drop_all)
 
+-- For proofs that don't unfold `events`.
 pub events-reported : (limit : Option ℕ) (stream : List ℕ) → events limit stream ≡ (outcome limit stream).reported
 unfolding events
 events-reported limit stream = refl
 
+-- A new parser is in a text with nothing open.
 pub after-nothing : {limit : Option ℕ} → IsAfter limit [] (InText [])
 unfolding outcome events outcome_from text_outcome
 after-nothing {limit} = search (rules, arith)
 
+-- What follows a stream reports what it reports after the place.
 pub after-events : {limit : Option ℕ} {stream : List ℕ} (more : List ℕ) {place : Place} → IsAfter limit stream place
     → events limit (stream ++ more) ≡ events limit stream ++ events_from limit place more
 unfolding events
@@ -155,6 +159,7 @@ after-to_close {limit} {stream} {place} is_after is_reachable =
     ap (λ s. (outcome limit s).to_close) (sym (append-nil stream)) ∙ ap (λ o. o.to_close) (is_after.same_outcomes [])
     ∙ ap (λ o. o.to_close) (outcome_from-nothing limit place is_reachable)
 
+-- The character that the stream leaves open is the one at the place.
 pub after-open_character : {limit : Option ℕ} {stream : List ℕ} {place : Place} → IsAfter limit stream place
     → IsReachable place
     → open_character stream ≡ open_at place

@@ -37,6 +37,7 @@ ends-after before {last} ends = record {
 
 -- ---- the open character of each part is its last bytes
 
+-- The outcome of these bytes leaves a character open with which they end, or none.
 abbrev EndsOpen : List ℕ → Outcome → Type 0
 EndsOpen bytes o = Ends bytes (open_bytes o.to_close)
 
@@ -95,6 +96,7 @@ ends-command : (limit : Option ℕ) (bytes : List ℕ) → EndsOpen bytes (syste
 unfolding system_command_outcome
 ends-command limit bytes = ends-cut ends_system_command (system_command_rest _ _) bytes refl ends-text_after
 
+-- So it is of each kind of sequence, and of a body.
 ends-sequence : (limit : Option ℕ) (kind : SequenceKind) (key : ℕ) (bytes : List ℕ)
     → EndsOpen (key ∷ bytes) (sequence_outcome limit kind key bytes)
 ends-sequence limit ControlSequence key bytes = ends-after (key ∷ []) (ends-control bytes)
@@ -116,14 +118,17 @@ ends-body limit body = ends-cut (λ b. is_key (class_of b)) (body_rest limit) bo
 
 -- ---- so it is of a stream, whose parts are joined by ESC
 
+-- What follows the first text of a stream: each body after its ESC.
 abbrev joined_bodies : List (List ℕ) → List ℕ
 joined_bodies [] = []
 joined_bodies (body ∷ bodies) = escape ∷ body ++ joined_bodies bodies
 
+-- The cut loses no byte.
 cut-joined : (stream : List ℕ) → (cut_at_escape stream).text ++ joined_bodies (cut_at_escape stream).bodies ≡ stream
 cut-joined [] = refl
 cut-joined (b ∷ stream) = search (rules, arith, (cut-joined stream), eqb-true)
 
+-- Only the last part can leave a character open.
 ends-bodies : (limit : Option ℕ) (text : List ℕ) (part : Outcome) (bodies : List (List ℕ)) → EndsOpen text part
     → EndsOpen (text ++ joined_bodies bodies) (with_bodies limit part bodies)
 ends-bodies limit text part [] ends_open = rw (append-nil text) ends_open
@@ -140,6 +145,7 @@ ends-stream limit stream =
 
 -- ---- nothing before an ESC matters
 
+-- What comes before an ESC has no effect on the bodies after it.
 cut-append : (stream more : List ℕ)
     → cut_at_escape (stream ++ escape ∷ more)
     ≡ record {
@@ -149,6 +155,7 @@ cut-append : (stream more : List ℕ)
 cut-append [] more = refl
 cut-append (b ∷ stream) more = search (rules, arith, (cut-append stream more))
 
+-- What comes before a body has no effect on what is left to close.
 to_close-last : (limit : Option ℕ) (part : Outcome) (before : List (List ℕ)) (body : List ℕ) (bodies : List (List ℕ))
     → (with_bodies limit part (before ++ body ∷ bodies)).to_close
     ≡ (with_bodies limit (body_outcome limit body) bodies).to_close
@@ -180,6 +187,7 @@ opens-text text no_escapes =
 
 -- ---- an open character has at most three bytes, and the law
 
+-- A truncated sequence has at most three bytes.
 open_at-at_most : (place : Place) → IsReachable place → length (open_at place) ≤ 3
 open_at-at_most place is_reachable = search (rules, arith, truncated-long)
 

@@ -20,6 +20,7 @@ use Rattle.vte_core.proofs.lemmas.streams.StreamSteps.{reported_by_stream}
 abbrev pub group_text : List ℕ → List ℕ
 group_text group = join_with_byte colon (map decimal group)
 
+-- What the loops write for a number and a group after the first.
 abbrev pub after_colon : ℕ → List ℕ
 after_colon number = colon ∷ decimal number
 

@@ -45,6 +45,7 @@ parts_from-events limit start (cut ∷ cuts) stream are_cuts =
     ∙ ap (λ n. events limit (take n later) ++ events limit (drop before later)) (omega (arith, are_cuts.0))
     ∙ sym (events-cut limit before later (omega (arith, are_cuts.0, are_cuts.1, length-drop start stream)) is_escape)
 
+-- The law of parts, for all cuts at an ESC.
 pub parts_give_events : (limit : Option ℕ) (stream cuts : List ℕ) → AreCuts stream 0 cuts
     → GiveEvents limit (parts_at cuts stream) stream
 parts_give_events limit stream cuts are_cuts = parts_from-events limit 0 cuts stream are_cuts
@@ -54,6 +55,7 @@ parts_give_events limit stream cuts are_cuts = parts_from-events limit 0 cuts st
 false_if_never_true : (passes : Bool) → (passes ≡ true → ⊥) → passes ≡ false
 false_if_never_true passes never = search (rules, arith)
 
+-- The search of the code finds the ESC of the definition, or none.
 pub escape_found : (from : ℕ) (stream searched : List ℕ) {start distance : ℕ} → start ≡ min from (length stream)
     → searched ≡ drop start stream → NoneBefore (Passes (is_byte escape) searched) 0 (length searched) distance
     → Passes (is_byte escape) searched distance
@@ -126,6 +128,7 @@ parts_after-events limit size zero (b ∷ stream) some_size =
           ∙ ap (λ es. events limit all ++ es) (events-empty limit) ∙ append-nil (events limit all)
     ]
 
+-- The same holds of the parts that the iterator chooses.
 pub parts_of_events : (limit : Option ℕ) (size : ℕ) (stream : List ℕ) → GiveEvents limit (parts_of size stream) stream
 parts_of_events limit size stream = parts_after-events limit _ 0 stream (omega arith)
 
@@ -174,11 +177,13 @@ events-broken : (limit : Option ℕ) (stream unread more : List ℕ) → breaks 
     ≡ (events limit stream ++ Print replacement ∷ []) ++ events limit (unread ++ more)
 events-broken limit stream unread more broken = search (rules, arith, events-reported, outcome-broken)
 
+-- Bytes that break a character add U+FFFD, and then what they add to an empty stream.
 pub added-broken : (limit : Option ℕ) (stream unread more : List ℕ) → breaks (open_character stream) unread ≡ true
     → added limit stream (unread ++ more) ≡ Print replacement ∷ added limit [] (unread ++ more)
 added-broken limit stream unread more broken =
     search (rules, arith, events-broken, append_assoc, drop-append_seam, events-empty)
 
+-- The place after them alone is then the place after the whole stream.
 pub resumes-after : (limit : Option ℕ) (stream unread : List ℕ) (place : Place)
     → breaks (open_character stream) unread ≡ true
     → IsAfter limit unread place

@@ -64,6 +64,7 @@ arrives limit size place (b ∷ bytes) is_reachable fits =
 
 -- ---- the events of a stream from the events that it reports
 
+-- What the bytes of a stream report on their way from its start is all that it reports.
 pub reported_by_stream : {limit : Option ℕ} {next : Place} {stream : List ℕ} {reported : List Event} → IsReachable next
     → BytesLead limit (InText []) stream reported next → events limit stream ≡ reported
 reported_by_stream {limit} {stream} is_reachable leads =
@@ -77,6 +78,7 @@ pub record LeadsTo (limit : Option ℕ) (stream : List ℕ) : Type 0 where
   pub is_after : IsAfter limit stream place
   pub bounded : All (IsBounded limit) (events limit stream)
 
+-- Every stream does.
 pub leads_to : {limit : Option ℕ} {stream : List ℕ} → LeadsTo limit stream
 leads_to {limit} {stream} =
     let arrives_there : Arrives limit limit (InText []) stream =
@@ -132,6 +134,7 @@ resynchronises limit = record {
 
 -- ---- what one byte adds
 
+-- A byte adds what it reports after the place of the stream, and leaves open what the next place does.
 pub record AddedByByte (limit : Option ℕ) (stream : List ℕ) (b : ℕ) : Type 0 where
   pub place : Place
   pub begins : open_character stream ≡ open_at place
@@ -216,5 +219,6 @@ pub outside_runs-control : (scalar : ℕ) → is_control_character scalar ≡ tr
 unfolding character_event
 outside_runs-control scalar is_control = search (rules, arith)
 
+-- U+FFFD, the only character among events outside runs, is no ASCII.
 pub prints_no_ascii-all : (events : List Event) → All IsOutsideRuns events → All PrintsNoAscii events
 prints_no_ascii-all events are_outside_runs = search (rules, arith)

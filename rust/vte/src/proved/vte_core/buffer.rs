@@ -17,8 +17,8 @@ pub(crate) trait Buffer {
     /// Returns whether the limit is reached.
     fn is_full(&self) -> bool;
 
-    /// Takes memory for this many more bytes, and returns whether it is there. With a limit, it
-    /// always is.
+    /// Reserves memory for `more` bytes. Returns whether it succeeded. With a limit, it always
+    /// does.
     fn reserve(&mut self, more: usize) -> bool;
 
     /// Adds the bytes of an input from one position to another, up to the limit.

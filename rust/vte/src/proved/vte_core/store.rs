@@ -48,13 +48,13 @@ impl<B: Buffer> CommandStore<B> {
         self.lost
     }
 
-    /// Takes memory for this many more data bytes, and returns whether it is there.
+    /// Reserves memory for `more` data bytes. Returns whether it succeeded.
     pub(crate) fn reserve(&mut self, more: usize) -> bool {
         self.bytes.reserve(more)
     }
 
-    /// Takes memory for this many more data bytes, unless they are dropped because 16 pieces have
-    /// ended. Returns whether it is there.
+    /// Reserves memory for `more` data bytes, unless they are dropped because 16 pieces have ended.
+    /// Returns `false` only if memory is refused.
     pub(crate) fn reserve_if_kept(&mut self, more: usize) -> bool {
         self.ends.is_full() || self.reserve(more)
     }

@@ -11,7 +11,7 @@ use crate::proved::vte_core::utf8::{
 
 impl<B: Buffer> Machine<B> {
     /// Reads the character or malformed sequence that begins with a lead byte. A byte that breaks
-    /// it is left unread, and U+FFFD is printed for those before it. If text is taken in runs, a
+    /// it is left unread, and U+FFFD is printed for those before it. If text comes in runs, a
     /// character of four bytes begins a run.
     #[inline(always)]
     pub(crate) fn read_character<
@@ -80,7 +80,7 @@ impl<B: Buffer> Machine<B> {
         next + 2
     }
 
-    /// Reads the character of four bytes that begins at `from`. If text is taken in runs, it begins
+    /// Reads the character of four bytes that begins at `from`. If text comes in runs, it begins
     /// a run.
     #[inline(always)]
     #[allow(unsafe_code)]

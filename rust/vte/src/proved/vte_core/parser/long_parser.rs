@@ -69,8 +69,8 @@ impl LongParser {
         }
     }
 
-    /// Takes memory for this many more data bytes of an operating system command, and returns
-    /// whether it is there. Calls with no more bytes than that are then never refused memory.
+    /// Reserves memory for `more` data bytes of an operating system command. Returns whether it
+    /// succeeded. Calls with no more bytes than that are then never refused memory.
     #[inline]
     #[must_use = "the memory may be refused"]
     pub fn reserve(&mut self, more: usize) -> bool {
@@ -78,14 +78,14 @@ impl LongParser {
         self.machine.command.reserve(more)
     }
 
-    /// Gives back the memory that an open operating system command doesn't need.
+    /// Frees the memory that an open operating system command doesn't need.
     #[inline]
     pub fn shrink(&mut self) {
         self.forget_ended_command();
         self.machine.command.shrink_to_fit();
     }
 
-    /// Returns what is unfinished, if anything is.
+    /// Returns what is open, if anything is.
     ///
     /// It began at the last ESC, or is at most three bytes of a character.
     #[inline]
@@ -93,7 +93,7 @@ impl LongParser {
         self.machine.open()
     }
 
-    /// Returns whether a character or a sequence is unfinished.
+    /// Returns whether a character or a sequence is open.
     #[inline]
     pub fn is_open(&self) -> bool {
         self.machine.is_open()

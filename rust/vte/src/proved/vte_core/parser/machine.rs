@@ -30,12 +30,12 @@ impl<B: Buffer> Machine<B> {
         self.command.has_lost_data()
     }
 
-    /// Returns what is unfinished.
+    /// Returns what is open.
     pub(crate) fn open(&self) -> Open {
         self.state.open()
     }
 
-    /// Returns whether anything is unfinished.
+    /// Returns whether anything is open.
     pub(crate) fn is_open(&self) -> bool {
         !matches!(self.open(), Open::Nothing)
     }

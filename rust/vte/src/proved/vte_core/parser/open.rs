@@ -1,9 +1,9 @@
 // Written by tools/erase from crates/vte_core/src/parser/open.rt: edit that one.
-//! What a parser has left unfinished.
+//! What a parser has left open.
 
 use crate::proved::vte_core::parser::{State, Unfinished};
 
-/// What is unfinished at the end of the bytes that were read.
+/// What is open at the end of the bytes that were read.
 ///
 /// It began at the last ESC, or is at most three bytes of a character.
 #[derive(Clone, Copy, Debug, PartialEq, Eq)]
@@ -26,7 +26,7 @@ pub enum Open {
 }
 
 impl State {
-    /// Returns what is unfinished in this state.
+    /// Returns what is open in this state.
     pub(crate) fn open(self) -> Open {
         match self {
             State::Text(Unfinished::Empty) => Open::Nothing,

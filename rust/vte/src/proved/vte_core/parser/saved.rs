@@ -146,7 +146,7 @@ impl Parser<MAX_OSC_RAW> {
         }
     }
 
-    /// Saves a parser in which something may be unfinished.
+    /// Saves a parser in which something may be open.
     #[inline(never)]
     fn save_open(&self, saved: &mut Saved) {
         let machine = &self.machine;
@@ -185,7 +185,7 @@ impl Parser<MAX_OSC_RAW> {
         }
     }
 
-    /// Becomes the parser that was saved, in which something may be unfinished.
+    /// Becomes the parser that was saved, in which something may be open.
     #[inline(never)]
     fn restore_open(&mut self, saved: &Saved) {
         let machine = &mut self.machine;

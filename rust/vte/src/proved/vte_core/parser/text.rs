@@ -50,8 +50,8 @@ fn print_ascii_run<P: CountedPerform<G> + ?Sized, G: Granularity>(
 }
 
 impl<B: Buffer> Machine<B> {
-    /// Reads text up to an ESC, and then the bytes after that. Each way to take text has a loop of
-    /// its own, because shared code took more instructions.
+    /// Reads text up to an ESC, and then the bytes after that. Each granularity has a loop of its
+    /// own, because shared code took more instructions.
     #[inline(always)]
     pub(crate) fn read_text<P: CountedPerform<G> + ?Sized, G: Granularity, const MAY_STOP: bool>(
         &mut self,
@@ -69,7 +69,7 @@ impl<B: Buffer> Machine<B> {
         }
     }
 
-    /// Reads text for a performer that takes runs. It is read by words, which find an ESC too.
+    /// Reads text for a performer that receives runs. It is read by words, which find an ESC too.
     #[inline]
     fn read_runs<P: CountedPerform<G> + ?Sized, G: Granularity, const MAY_STOP: bool>(
         &mut self,
@@ -219,7 +219,7 @@ impl<B: Buffer> Machine<B> {
     }
 
     /// Reads the run, character or malformed sequence that begins with a lead byte, for a performer
-    /// that takes runs.
+    /// that receives runs.
     #[inline(always)]
     #[allow(unsafe_code)]
     fn read_run_at_lead<P: CountedPerform<G> + ?Sized, G: Granularity, const MAY_STOP: bool>(

@@ -6,10 +6,10 @@ use crate::proved::vte_core::perform::{Perform, PerformText};
 use crate::proved::vte_core::reader::{take_run, ByCharacter, InRuns, Run};
 
 impl<const OSC_RAW_BUF_SIZE: usize> Parser<OSC_RAW_BUF_SIZE> {
-    /// Reads the next bytes of the stream, and performs the events that they add to it.
+    /// Reads the next bytes of the stream, and reports the events that they add to it.
     ///
-    /// However calls split the stream, the events are the same. An unfinished character or sequence
-    /// at the end waits for more bytes.
+    /// However calls split the stream, the events are the same. A character or sequence that is
+    /// open at the end waits for more bytes.
     pub fn advance<P: Perform + ?Sized>(&mut self, performer: &mut P, bytes: &[u8]) {
         self.drive::<P, ByCharacter, false>(performer, bytes);
     }
@@ -50,7 +50,7 @@ impl<const OSC_RAW_BUF_SIZE: usize> Parser<OSC_RAW_BUF_SIZE> {
     }
 
     /// Reads bytes up to and including a run of text, or of the data of a device control string.
-    /// Returns the run instead of performing it.
+    /// Returns the run instead of reporting it.
     ///
     /// Most text comes in the returned runs. A character that was divided between two calls, and
     /// U+FFFD for malformed bytes, come by [`print`](Perform::print), and a performer whose `print`
@@ -60,7 +60,7 @@ impl<const OSC_RAW_BUF_SIZE: usize> Parser<OSC_RAW_BUF_SIZE> {
     ///
     /// A run begins at a whole character that is printed as it is, if nothing is open before it, or
     /// at a data byte that is put. It ends before the first control, malformed sequence, unfinished
-    /// character or byte that isn't put. What an earlier call began is performed. Without a run,
+    /// character or byte that isn't put. What an earlier call began is reported. Without a run,
     /// the call ends with the bytes, or when the performer is terminated. It is asked as by
     /// [`advance_until_terminated`](Self::advance_until_terminated).
     #[must_use = "the bytes after the run are still to be read"]

@@ -6,8 +6,12 @@ use crate::proved::vte_core::perform::{Perform, PerformText};
 use crate::proved::vte_core::reader::{take_run, ByCharacter, InRuns, Run};
 
 impl LongParser {
-    /// Reads the next bytes of the stream, all of them or as many as there is memory for, and
-    /// performs the events that they add to it.
+    /// Reads the next bytes of the stream, and reports the events that they add to it.
+    ///
+    /// # Errors
+    ///
+    /// Fails if memory is refused. [`Refused`] says how many bytes were read before, whose events
+    /// were reported: free some memory, and pass in the others.
     pub fn advance<P: Perform + ?Sized>(
         &mut self,
         performer: &mut P,
@@ -56,7 +60,7 @@ impl LongParser {
     }
 
     /// Reads bytes up to and including a run of text, or of the data of a device control string.
-    /// Returns the run instead of performing it, as
+    /// Returns the run instead of reporting it, as
     /// [`Parser::advance_to_run`](crate::Parser::advance_to_run) does.
     #[allow(unsafe_code)]
     pub fn advance_to_run<'a, P: Perform + ?Sized>(

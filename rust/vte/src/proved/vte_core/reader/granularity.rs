@@ -1,19 +1,19 @@
 // Written by tools/erase from crates/vte_core/src/reader/granularity.rt: edit that one.
-//! How performers take text.
+//! How performers receive text.
 
 use crate::proved::vte_core::class::is_layout;
 use crate::proved::vte_core::perform::{Perform, PerformText};
 
-/// How a performer takes what is printed.
+/// How a performer receives what is printed.
 pub(crate) trait Granularity {
     /// Whether text and data come in runs, and not by the character and the byte.
     const IN_RUNS: bool;
 }
 
-/// Character by character.
+/// Marks a performer that receives each character and each data byte by itself.
 pub enum ByCharacter {}
 
-/// By the run.
+/// Marks a performer that receives text and data in runs.
 pub enum InRuns {}
 
 impl Granularity for ByCharacter {
@@ -24,7 +24,7 @@ impl Granularity for InRuns {
     const IN_RUNS: bool = true;
 }
 
-/// A performer that takes text and data by the byte or in runs, as `G` says.
+/// A performer that receives text and data one by one or in runs, as `G` says.
 pub(crate) trait ReceiveAs<G: Granularity>: Perform {
     /// Returns whether HT, LF and CR come as text.
     fn keeps_layout(&self) -> bool;
@@ -66,7 +66,7 @@ impl<P: Perform + ?Sized> ReceiveAs<ByCharacter> for P {
         Perform::put(self, byte);
     }
 
-    // Never called: texts are reported only to performers that take runs (`in_runs`).
+    // Never called: texts are reported only to performers that receive runs (`IN_RUNS`).
     fn print_text(&mut self, text: &str) {
         for c in text.chars() {
             Perform::print(self, c);

@@ -2,7 +2,7 @@
 //! Runs of text and data, which a caller takes from its own input.
 
 /// What a call of [`advance_to_run`](crate::Parser::advance_to_run) read: bytes whose events it
-/// performed, and the run after them, if there is one.
+/// reported, and the run after them, if there is one.
 #[derive(Clone, Copy, Debug, PartialEq, Eq)]
 pub struct Run<'a> {
     /// How many bytes were read before the run: its position in the bytes of the call.
@@ -24,7 +24,7 @@ pub enum Taken<'a> {
     Nothing,
 }
 
-/// What follows the bytes that a call performed.
+/// What follows the bytes whose events a call reported.
 #[derive(Clone, Copy)]
 pub(crate) enum RunKind {
     /// Text to print.

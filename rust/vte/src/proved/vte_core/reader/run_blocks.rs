@@ -3,15 +3,15 @@
 //!
 //! Whether a byte fits depends only on the three bytes before it. So no test waits for another, and
 //! compilers turn the tests of a block into vector instructions if they have no `&&` and `||`. But
-//! the block in which a run ends is read in vain, so only long runs come here.
+//! the block in which a run ends is read without use, so only long runs come here.
 
 use crate::proved::vte_core::class::is_layout;
 use crate::proved::vte_core::reader::{Reader, Window};
 use crate::proved::vte_core::utf8::{is_continuation, is_printed_ascii};
 
 /// How many blocks in a row must be ASCII before larger blocks are tried. In text with a few other
-/// characters, most larger blocks would be read in vain. ASCII without line ends has been read by
-/// words.
+/// characters, most larger blocks would be read without use. ASCII without line ends has been read
+/// by words.
 const ASCII_BLOCKS: usize = 4;
 
 impl Reader {

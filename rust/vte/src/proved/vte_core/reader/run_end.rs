@@ -75,7 +75,8 @@ impl Reader {
         }
     }
 
-    /// After a character that isn't ASCII, returns the end of a run that already reaches `from`.
+    /// Returns the end of a run that already reaches `from`, if a character that isn't ASCII was
+    /// last.
     // The loop is that of `find_run_end_up_to`, but blocks begin later once the run has had ASCII.
     #[inline(never)]
     pub(crate) fn find_run_end_after_non_ascii<P: CountedPerform<G> + ?Sized, G: Granularity>(
@@ -105,8 +106,8 @@ impl Reader {
         self.find_run_end_by_blocks(input, end, layout)
     }
 
-    /// By bytes and words, then by blocks, returns the end of a run that already reaches `from`.
-    /// With `layout`, HT, LF and CR don't end it.
+    /// Returns the end of a run that already reaches `from`, searching bytes and words first, then
+    /// blocks. With `layout`, HT, LF and CR don't end it.
     #[inline(always)]
     pub(crate) fn find_run_end(self, input: &[u8], from: usize, layout: bool) -> usize {
         let to = input.len().min(from + SHORT_RUN);
@@ -118,8 +119,8 @@ impl Reader {
         }
     }
 
-    /// Up to `to`, by bytes and words alone, returns the end of a run that already reaches `from`.
-    /// The search also stops at the first character of the run that ends at `to` or later.
+    /// Returns the end of a run that already reaches `from`, searching bytes and words alone. The
+    /// search also stops after the first character of the run that ends at `to` or later.
     #[inline(always)]
     fn find_run_end_up_to(self, input: &[u8], from: usize, to: usize, layout: bool) -> usize {
         let mut end = from;
@@ -137,7 +138,7 @@ impl Reader {
         end
     }
 
-    /// By blocks from the start, returns the end of a long run that already reaches `from`.
+    /// Returns the end of a long run that already reaches `from`, searching blocks first.
     #[inline(never)]
     fn find_run_end_by_blocks(self, input: &[u8], from: usize, layout: bool) -> usize {
         let end = self.skip_run_blocks(input, from, layout);

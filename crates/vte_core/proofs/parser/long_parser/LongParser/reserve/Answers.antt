@@ -1,4 +1,4 @@
--- The bytes that are stored are those of the open command (`forget_ended_command`), and taking memory leaves them.
+-- The bytes that are stored are those of the open command (`forget_ended_command`), and reserving memory leaves them.
 use Rattle.vte_core.proofs.Common.{arith, rules}
 use Rattle.vte_core.proofs.lemmas.fields.PlaceOfState.{reads_cloned}
 use Rattle.vte_core.proofs.lemmas.positions.Open.{open_is_stored}

@@ -1,4 +1,4 @@
--- A lead byte opens a character, since the call ends after it. Any other byte but ESC is a control or malformed.
+-- A lead byte opens a character, since the call ends after it. Any other byte except ESC is a control or malformed.
 use Rattle.vte_core.proofs.Common.{arith, from_to, is_in, nat_tests, refl, sym, true, ◌<◌, ◌∙◌, ◌≡◌, ◌≤◌}
 use Rattle.vte_core.proofs.lemmas.positions.BetweenCharacters.{advances-first, advances-lone}
 use Rattle.vte_core.proofs.lemmas.positions.Characters.{completes-all, goes_on-nowhere, unfinished-some}

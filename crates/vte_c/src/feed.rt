@@ -61,6 +61,8 @@ pub(crate) fn feed(
     let bytes = &bytes[..end];
     let mut writer = EventWriter::new(events, data_area, kinds, stop_kinds);
     let read = read_into(parser, bytes, &mut writer);
+    // proof: neither limit bites, but `read_into` says so only if the parser has read a stream, and
+    // the counts fit whatever its bytes are.
     *counts = VteCounts {
         events: writer.record_count().min(record_capacity),
         bytes: writer.data_used().min(data_capacity),

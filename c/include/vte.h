@@ -106,14 +106,14 @@ typedef struct {
  * bytes were read, or VTE_NO_ROOM.
  *
  * It stops early when the buffers are nearly full, after 4 GiB, and after the first event of the
- * kinds `stops` that it writes: call it again with the rest, or with the rest and more. At most one
- * event follows that which stops, and only if the same byte gives both. If texts stop, it may write
- * one and return 0, because the first byte breaks a character.
+ * kinds `stop_kinds` that it writes: call it again with the rest, or with the rest and more. At
+ * most one event follows that which stops, and only if the same byte gives both. If texts stop, it
+ * may write one and return 0, because the first byte breaks a character.
  *
  * A sequence or a character that is unfinished at the end of the bytes continues in the next call.
  * Texts and data stay in the bytes: keep these until you have read the events. */
 size_t vte_feed(vte_parser *parser, const uint8_t *bytes, size_t length, uint32_t kinds,
-                uint32_t stops, vte_event *events, size_t event_room, uint8_t *data,
+                uint32_t stop_kinds, vte_event *events, size_t event_room, uint8_t *data_area,
                 size_t data_room, vte_counts *counts);
 
 /* Reads bytes, and writes the text that is left without the sequences: characters in UTF-8, HT, LF
@@ -153,8 +153,8 @@ size_t vte_min_text(void);
  * of them a control; or the data of a VTE_DATA. `bytes` are those of the call that wrote the
  * event. */
 static inline const uint8_t *vte_text_of(const vte_event *event, const uint8_t *bytes,
-                                         const uint8_t *data) {
-    return (event->flag ? data : bytes) + event->start;
+                                         const uint8_t *data_area) {
+    return (event->flag ? data_area : bytes) + event->start;
 }
 
 /* Iterates over the groups of a VTE_CSI or a VTE_HOOK, or over the pieces of a VTE_OSC:
@@ -174,9 +174,9 @@ typedef struct {
     size_t left;         /* how many follow */
 } vte_items;
 
-static inline vte_items vte_items_of(const vte_event *event, const uint8_t *data) {
+static inline vte_items vte_items_of(const vte_event *event, const uint8_t *data_area) {
     vte_items items;
-    items.at = items.next = data + event->start;
+    items.at = items.next = data_area + event->start;
     items.length = 0;
     items.left = event->count;
     return items;

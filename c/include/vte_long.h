@@ -49,11 +49,11 @@ void vte_long_parser_free(vte_long_parser *parser);
  * there is room for fewer than VTE_MIN_EVENTS events, or VTE_REFUSED, also for a command of 4
  * GiB.
  *
- * Of the data area it says where it is: it is valid until the next call with the parser. If only
+ * Sets `*data_area` to the data area, which is valid until the next call with the parser. If only
  * VTE_OSC is wanted, what can't be a part of one is skipped at the speed of memchr. */
 size_t vte_long_feed(vte_long_parser *parser, const uint8_t *bytes, size_t length, uint32_t kinds,
-                     uint32_t stops, vte_event *events, size_t event_room, const uint8_t **data,
-                     vte_counts *counts);
+                     uint32_t stop_kinds, vte_event *events, size_t event_room,
+                     const uint8_t **data_area, vte_counts *counts);
 
 /* Returns what is unfinished, as vte_is_open does. */
 uint8_t vte_long_is_open(const vte_long_parser *parser);

@@ -47,7 +47,7 @@ def test_a_call_is_added_to_all_lists_and_removed(calls):
     tool, texts = calls
     trait, *files = texts
     method = "/// Rings.\n    /// Twice.\n    fn ring_bells(&mut self, top: u16, text: &str)"
-    write(trait, texts[trait].replace("/// BEL", f"{method}\n\n    /// BEL", 1))
+    write(trait, texts[trait].replace("/// Rings", f"{method}\n\n    /// Rings", 1))
     update(tool, *files)
     assert [end for file in files for end in ENDS[file] if end not in Path(file).read_text()] == []
     write(trait, texts[trait])

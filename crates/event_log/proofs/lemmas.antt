@@ -6,5 +6,5 @@ pub mod Fields
 pub mod CollectedTexts
 -- From an event to the length of its text, so that what is collected is never too long.
 pub mod Lengths
--- From what is collected to what a run has written.
+-- From what is collected to what a log has written.
 pub mod Progress

@@ -8,6 +8,7 @@ pub record CollectedText : Type 0 where
   pub bytes : List ℕ
   pub lost : Bool
 
+-- What a collector holds at first, and after it is cleared.
 abbrev pub empty_text : CollectedText
 empty_text = record { bytes = []; lost = false }
 
@@ -26,6 +27,7 @@ with_text collected text =
     then record { bytes = collected.bytes ++ text; lost = collected.lost }
     else record { bytes = collected.bytes; lost = true }
 
+-- An event adds its text.
 abbrev pub with_event : (Event → List ℕ) → CollectedText → Event → CollectedText
 with_event text_of collected event = with_text collected (text_of event)
 

@@ -11,6 +11,7 @@ KeepsWhereKnown _ _ = ⊤
 abbrev pub device_inner : {D : Type 0} → Device D → D
 device_inner device = device.inner
 
+-- A device has failed once it keeps an error.
 abbrev pub device_failed : {D : Type 0} → Device D → Bool
 device_failed device = is_some device.error
 

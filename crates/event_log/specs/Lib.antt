@@ -5,7 +5,7 @@ pub mod Lines
 pub mod Plain
 -- What a collector holds.
 pub mod CollectedText
--- Devices that may fail, and a run from one to another.
+-- Devices that may fail, and a log from one to another.
 pub mod Device
 pub mod Run
 -- For the proof alone.

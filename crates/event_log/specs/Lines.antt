@@ -77,5 +77,6 @@ line_of (EscDispatch intermediates ignore byte) =
     codes "esc" ++ hex_field intermediates ++ flag_field ignore ++ blank
     ++ hex_byte byte ++ line_feed
 
+-- One line per event, in order.
 abbrev pub lines_of : List Event → List ℕ
 lines_of events = flat_map line_of events

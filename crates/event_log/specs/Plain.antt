@@ -11,5 +11,6 @@ plain_text_of (Print c) = encode_utf8 c
 plain_text_of (Execute byte) = if is_layout byte then byte ∷ [] else []
 plain_text_of _ = []
 
+-- The texts of events, in order.
 abbrev pub plain_text : List Event → List ℕ
 plain_text events = flat_map plain_text_of events

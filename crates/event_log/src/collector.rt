@@ -6,8 +6,8 @@ ghost use Rattle.vte_core.specs.Event.{Event};
 
 use vte_core::Parser;
 
-/// The parser of a run, with the usual room for operating system commands.
-pub(crate) type RunParser = Parser<1024>;
+/// The parser of a log, with the usual room for operating system commands.
+pub(crate) type LogParser = Parser<1024>;
 
 /// Collects a text for each event.
 // proof: the text of an event, and what it holds, define its meaning.
@@ -18,7 +18,7 @@ pub(crate) trait Collector {
 
     /// Parses bytes and collects their text until it is time to write it. Nothing is lost. Returns
     /// the unread bytes.
-    fn collect<'a>(&mut self, parser: &mut RunParser, bytes: &'a [u8]) -> &'a [u8]
+    fn collect<'a>(&mut self, parser: &mut LogParser, bytes: &'a [u8]) -> &'a [u8]
         requires parsed { HasReadStream parser.old }
         requires holds_nothing { collected_text_of self.old ≡ empty_text }
         ensures reads_some { 0 < length bytes.now → length result.now < length bytes.now }

@@ -1,4 +1,4 @@
-//! Runs from a reader to a writer.
+//! Logs from a reader to a writer.
 ghost use Rattle.std.specs.Io.KnownBytes.{Appends};
 ghost use Rattle.std.specs.List.{flat_map};
 ghost use Rattle.std.specs.Prelude.{Err, false, IfOk, is_err, length, List, OnOk, Some, true, ℕ, [], ◌++◌, ◌<◌, ◌≡◌};
@@ -7,7 +7,7 @@ ghost use Rattle.event_log.specs.private.Progress.{HasReadStream, HasWritten};
 ghost use Rattle.event_log.specs.Run.{LogsExactly, StripsExactly, WritesExactly};
 ghost use Rattle.vte_core.specs.Stream.{default_limit, events};
 
-use crate::collector::{Collector, RunParser};
+use crate::collector::{Collector, LogParser};
 use crate::device::{Sink, Source};
 use crate::fault::Fault;
 use crate::plain::Plain;
@@ -66,7 +66,7 @@ fn run_with<C: Collector, R: Source, W: Sink>(
     ensures write_failed { result ≡ Err Fault.Write → W.has_failed writer.new ≡ true }
 {
     laws::empty_stream();
-    let mut parser = RunParser::new();
+    let mut parser = LogParser::new();
     let mut buffer = [0; CHUNK_SIZE];
     for _ in 0..u64::MAX {
         let Ok(count) = reader.read(&mut buffer) else {
@@ -84,7 +84,7 @@ fn run_with<C: Collector, R: Source, W: Sink>(
 
 /// Parses a chunk, and writes and flushes what the collector collects.
 fn write_chunk<C: Collector, W: Sink>(
-    parser: &mut RunParser,
+    parser: &mut LogParser,
     collector: &mut C,
     writer: &mut W,
     chunk: &[u8],
@@ -102,14 +102,14 @@ fn write_chunk<C: Collector, W: Sink>(
 {
     let mut unread = chunk;
     while !unread.is_empty() {
-        unread = write_some(parser, collector, writer, unread)?;
+        unread = parse_and_write(parser, collector, writer, unread)?;
     }
     writer.flush()
 }
 
 /// Parses until it is time to write, and writes what the collector holds. Returns the unread bytes.
-fn write_some<'a, C: Collector, W: Sink>(
-    parser: &mut RunParser,
+fn parse_and_write<'a, C: Collector, W: Sink>(
+    parser: &mut LogParser,
     collector: &mut C,
     writer: &mut W,
     bytes: &'a [u8],
@@ -127,12 +127,12 @@ fn write_some<'a, C: Collector, W: Sink>(
     ensures fails { is_err result ≡ true → W.has_failed writer.new ≡ true }
 {
     let unread = collector.collect(parser, bytes);
-    write_out(collector, writer)?;
+    write_collected(collector, writer)?;
     Ok(unread)
 }
 
 /// Writes and clears the collected text.
-fn write_out<C: Collector, W: Sink>(collector: &mut C, writer: &mut W) -> Result<(), ()>
+fn write_collected<C: Collector, W: Sink>(collector: &mut C, writer: &mut W) -> Result<(), ()>
     ensures empties { OnOk result (C.collected_text_of collector.new ≡ empty_text) }
     ensures appends { OnOk result (Appends (W.contents writer.old) (W.contents writer.new)
         (C.collected_text_of collector.old).bytes) }

@@ -3,7 +3,7 @@ ghost use Rattle.std.specs.Prelude.{true, ◌≡◌};
 ghost use Rattle.event_log.specs.CollectedText.{collected_text_of, CollectedText, empty_text, is_to_be_written, with_event};
 ghost use Rattle.event_log.specs.Plain.{plain_text_of};
 
-use crate::collector::{Collector, RunParser};
+use crate::collector::{Collector, LogParser};
 use crate::lines::Lines;
 use std::marker::Model;
 use vte_core::{Params, Perform, PerformText, laws};
@@ -149,7 +149,7 @@ impl Collector for Plain {
     ghost collected_text_of = { λ plain. plain };
 
     // The text of a chunk fits whatever its bytes are, so no character needs a stop.
-    fn collect<'a>(&mut self, parser: &mut RunParser, bytes: &'a [u8]) -> &'a [u8] {
+    fn collect<'a>(&mut self, parser: &mut LogParser, bytes: &'a [u8]) -> &'a [u8] {
         laws::bytes_are_brief();
         let mut unread = bytes;
         while !unread.is_empty() && !self.terminated() {

@@ -3,7 +3,7 @@ ghost use Rattle.std.specs.Prelude.{◌++◌, ◌≡◌};
 ghost use Rattle.event_log.specs.CollectedText.{collected_text_of, CollectedText, empty_text, is_to_be_written, with_event, with_text};
 ghost use Rattle.event_log.specs.Lines.{line_feed, line_of, sequence_fields};
 
-use crate::collector::{Collector, RunParser};
+use crate::collector::{Collector, LogParser};
 use crate::lines::{Lines, line_of_execute, line_of_put};
 use std::marker::Model;
 use vte_core::{Params, Perform, laws};
@@ -148,7 +148,7 @@ impl Collector for Recorder {
 
     ghost collected_text_of = { λ recorder. recorder };
 
-    fn collect<'a>(&mut self, parser: &mut RunParser, bytes: &'a [u8]) -> &'a [u8] {
+    fn collect<'a>(&mut self, parser: &mut LogParser, bytes: &'a [u8]) -> &'a [u8] {
         laws::early_stops();
         let read = parser.advance_until_terminated(self, bytes);
         &bytes[read..]

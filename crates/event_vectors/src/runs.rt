@@ -1,4 +1,4 @@
-//! All text comes in runs: one character or more, and none of them a control, but for line ends and
+//! All text comes in runs: one character or more, and none of them a control, except line ends and
 //! tabs if these are kept.
 
 use crate::vectors::{LinesVector, tables};

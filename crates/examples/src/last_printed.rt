@@ -59,7 +59,7 @@ pub struct Watcher {
 }
 
 impl Watcher {
-    /// A watcher of a stream that has not begun.
+    /// Creates a watcher of a stream that has not begun.
     pub fn new() -> Self
         ensures { Watches result [] }
     {

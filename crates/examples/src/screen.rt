@@ -35,7 +35,7 @@ pub struct Screen {
 }
 
 impl Screen {
-    /// A blank screen, with the cursor in the upper left corner.
+    /// Creates a blank screen, with the cursor in the upper left corner.
     pub fn new() -> Self {
         let (character, style) = (' ', Style::PLAIN);
         Screen {

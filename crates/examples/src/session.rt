@@ -20,7 +20,7 @@ pub struct Session {
 }
 
 impl Session {
-    /// A session of a stream that has not begun.
+    /// Creates a session of a stream that has not begun.
     ///
     /// # Errors
     ///

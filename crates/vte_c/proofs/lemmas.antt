@@ -12,3 +12,5 @@ pub mod CallSteps
 pub mod ReadBack
 -- From the parser's calls to the text of `vte_strip`.
 pub mod Stripping
+-- From what is open to its number.
+pub mod OpenCodes

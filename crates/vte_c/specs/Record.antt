@@ -47,6 +47,7 @@ max_piece_bytes = 1024
 abbrev pub is_at_limit : ℕ → ℕ → Bool
 is_at_limit pieces size = nat_le max_pieces pieces || nat_le max_piece_bytes size
 
+-- Only a command at a limit may have lost data.
 abbrev pub may_have_lost : Event → Bool
 may_have_lost (OscDispatch pieces bell) =
     is_at_limit (length pieces) (length (flat_map piece_bytes pieces))
@@ -69,6 +70,7 @@ min_events = 4
 abbrev pub min_data : ℕ
 min_data = 2112
 
+-- Each of two bytes adds at most two characters, of at most four bytes each.
 abbrev pub min_text : ℕ
 min_text = 16
 
@@ -99,9 +101,11 @@ csi_kind = 6
 abbrev pub esc_kind : ℕ
 esc_kind = 7
 
+-- A flag as a byte.
 abbrev pub flag_byte : Bool → ℕ
 flag_byte flag = if flag then 1 else 0
 
+-- The fields other than kind and code are 0 until they are set.
 abbrev pub blank_record : ℕ → ℕ → VteEvent
 blank_record kind code = record {
   kind = kind;
@@ -115,7 +119,7 @@ blank_record kind code = record {
   start = 0;
 }
 
--- How many intermediates are reported; each has a field, which is 0 if there is none.
+-- At most two intermediates are reported. Each has a field, which is 0 if there is none.
 abbrev pub kept_count : List ℕ → ℕ
 kept_count [] = 0
 kept_count (a ∷ []) = 1
@@ -129,6 +133,7 @@ abbrev pub second_kept : List ℕ → ℕ
 second_kept (a ∷ b ∷ more) = b
 second_kept _ = 0
 
+-- The record of a sequence has the first two intermediates.
 abbrev pub with_intermediates : VteEvent → List ℕ → VteEvent
 with_intermediates vte_record intermediates = record vte_record {
   intermediate_count = kept_count intermediates;
@@ -136,6 +141,8 @@ with_intermediates vte_record intermediates = record vte_record {
   second_intermediate = second_kept intermediates;
 }
 
+-- The flag of a sequence is `ignore`, of a command whether BEL ended it, and of a text or of data
+-- whether it is in the data area.
 abbrev pub with_flag : VteEvent → Bool → VteEvent
 with_flag vte_record flag = record vte_record { flag = flag_byte flag }
 
@@ -149,9 +156,11 @@ without_loss vte_record =
     if vte_record.kind == osc_kind
     then record vte_record { flag = vte_record.flag % 2 } else vte_record
 
+-- The count says how many groups or pieces begin at `start`.
 abbrev pub with_count : VteEvent → ℕ → VteEvent
 with_count vte_record count = record vte_record { count = count_byte count }
 
+-- The record of a sequence with parameters, whose code is the final byte.
 abbrev pub sequence_record : ℕ → List (List ℕ) → List ℕ → Bool → ℕ → VteEvent
 sequence_record kind groups intermediates ignore final =
     with_count (with_flag (with_intermediates (blank_record kind final) intermediates) ignore)
@@ -180,6 +189,7 @@ event_kind event = (record_of event).kind
 unfoldable pub contains_kind : ℕ → ℕ → Bool
 contains_kind kinds kind = (kinds / 2 ^ (kind % 32)) % 2 == 1
 
+-- The bits of all eight kinds (`VTE_ALL_KINDS` of vte.h).
 abbrev pub all_kinds : ℕ
 all_kinds = 255
 
@@ -192,6 +202,7 @@ pub data InputRunKind : Type 0 where
   TextRun : InputRunKind
   DataRun : InputRunKind
 
+-- A run has the kind of its events.
 abbrev pub run_kind : InputRunKind → ℕ
 run_kind TextRun = text_kind
 run_kind DataRun = data_kind
@@ -210,6 +221,7 @@ pub data Entry : Type 0 where
   Single : Event → Entry
   InInput : InputRunKind → ℕ → ℕ → Entry
 
+-- A run in the input has no data in the area.
 abbrev pub entry_data : Entry → List ℕ
 entry_data (Single event) = data_of event
 entry_data (InInput run start size) = []
@@ -249,6 +261,7 @@ pieces_in (suc n) (a ∷ b ∷ c ∷ d ∷ area) =
     take size area ∷ pieces_in n (drop size area)
 pieces_in _ _ = []
 
+-- As many of both fields as the record says.
 abbrev pub intermediates_in : VteEvent → List ℕ
 intermediates_in vte_record =
     take vte_record.intermediate_count
@@ -282,6 +295,7 @@ events_of input area vte_record =
     else if vte_record.kind == data_kind then events_of_run DataRun (run_in input area vte_record)
     else event_in area vte_record ∷ []
 
+-- The kinds of records, in order.
 abbrev pub kinds_of : List VteEvent → List ℕ
 kinds_of records = map (λ vte_record. vte_record.kind) records
 

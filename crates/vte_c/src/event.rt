@@ -2,33 +2,49 @@
 ghost use Rattle.std.specs.Prelude.{◌≡◌};
 ghost use Rattle.vte_c.specs.Record.{blank_record, contains_kind, count_byte, run_record, with_count, with_flag, with_intermediates, with_loss};
 
-/// The kinds of events, by the numbers of `vte.h`.
+// The kinds of events, by the numbers of `vte.h`.
+
+/// The kind of characters to show, one or more.
 pub const TEXT: u8 = 0;
 
+/// The kind of a control function of one byte.
 pub const EXECUTE: u8 = 1;
 
+/// The kind of the beginning of a device control string.
 pub const HOOK: u8 = 2;
 
+/// The kind of data bytes of a device control string, one or more.
 pub const DATA: u8 = 3;
 
+/// The kind of the end of a device control string.
 pub const UNHOOK: u8 = 4;
 
+/// The kind of an operating system command.
 pub const OSC: u8 = 5;
 
+/// The kind of a control sequence.
 pub const CSI: u8 = 6;
 
+/// The kind of an escape sequence.
 pub const ESC: u8 = 7;
 
-/// An event, or the events of a text or of data. Groups of numbers and pieces of an operating
-/// system command are in the data area, from `start` on. A text or data is in the data area if
-/// `flag` is 1, and otherwise in the input of the call.
+/// An event, or the events of a text or of data.
+///
+/// | `kind` | `flag` | `code` |
+/// |---|---|---|
+/// | `TEXT`, `DATA` | 1 if its bytes are in the data area, 0 if in the input | how many these are |
+/// | `EXECUTE` | 0 | the byte |
+/// | `HOOK`, `CSI`, `ESC` | whether `ignore` is true | the final byte |
+/// | `UNHOOK` | 0 | 0 |
+/// | `OSC` | 1 if BEL ended it, and 2 more if it lost data bytes | 0 |
+///
+/// Groups of numbers and pieces are in the data area.
 #[repr(C)]
 #[derive(Clone, Copy)]
 pub struct VteEvent {
     /// One of the kinds above.
     pub kind: u8,
-    /// `ignore` of a sequence. Of a command, 1 if BEL ended it, and 2 if it lost data bytes.
-    /// Whether a text or data is in the data area.
+    /// Depends on the kind, as the table says.
     pub flag: u8,
     /// How many intermediates there are, at most 2.
     pub intermediate_count: u8,
@@ -40,7 +56,7 @@ pub struct VteEvent {
     pub second_intermediate: u8,
     /// Always 0.
     pub unused: u16,
-    /// How many bytes a text or data has. A byte, or a final byte.
+    /// Depends on the kind, as the table says.
     pub code: u32,
     /// Where its groups, pieces, text or data start.
     pub start: u32,

@@ -141,6 +141,8 @@ pub(crate) fn strip(parser: &mut Saved, bytes: &[u8], text: &mut [u8], written: 
         fits: true,
     };
     let read = read_into(parser, bytes, &mut writer);
+    // proof: the limit doesn't bite, but `read_into` says so only if the parser has read a stream,
+    // and the count fits whatever its bytes are.
     *written = writer.used.min(size);
     read
 }

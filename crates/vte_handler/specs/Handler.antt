@@ -5,6 +5,7 @@ use Rattle.std.specs.Prelude.{Bool, false, List, nat_le, nat_lt, ℕ, [], ◌&&�
 use Rattle.std.specs.Str.{chars}
 use Rattle.vte_handler.specs.Call.{Call}
 
+-- Each call makes a step, in order.
 abbrev pub after : {V : Type 0} → (V → Call → V) → V → List Call → V
 after step value [] = value
 after step value (call ∷ calls) = after step (step value call) calls

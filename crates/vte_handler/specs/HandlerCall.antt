@@ -6,6 +6,7 @@ use Rattle.vte_handler.specs.declared.by_call.HandlerCall.{HandlerCall}
 use Rattle.vte_handler.specs.declared.by_call.HandlerCall.TheVariants as passed
 use Rattle.vte_handler.specs.Link.{link_of}
 
+-- A text that is lent counts as what it holds.
 abbrev pub call_of : HandlerCall → Call
 -- ---- Characters and format effectors
 call_of (passed.Input c) = call.Input c

@@ -8,6 +8,7 @@ pub record TimeoutMeaning (W : Type 0) : Type 1 where
   pub clear : W → W
   pub allows : W → Bool → Type 0
 
+-- The meaning that the ghost members of a `Timeout` give.
 abbrev pub timeout_meaning : {W : Type 0} → (W → ℕ → W) → (W → W) → (W → Bool → Type 0)
     → TimeoutMeaning W
 timeout_meaning set clear allows = record { set = set; clear = clear; allows = allows }

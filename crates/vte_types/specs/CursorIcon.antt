@@ -4,6 +4,7 @@ use Rattle.vte_types.specs.declared.cursor_icon.CursorIcon.{CursorIcon}
 use Rattle.vte_types.specs.declared.cursor_icon.CursorIcon.TheVariants.{Alias, AllScroll, Cell, ColResize, ContextMenu, Copy, Crosshair, Default, EResize, EwResize, Grab, Grabbing, Help, Move, NeResize, NeswResize, NoDrop, NotAllowed, NResize, NsResize, NwResize, NwseResize, Pointer, Progress, RowResize, SeResize, SResize, SwResize, Text, VerticalText, Wait, WResize, ZoomIn, ZoomOut}
 use Rattle.vte_types.specs.Words.{entry_of_word}
 
+-- Each keyword, and its icon.
 abbrev pub icons : List (List ℕ × CursorIcon)
 icons =
     (codes "default", Default) ∷

@@ -3,9 +3,11 @@ use Rattle.std.specs.Int.RustNames.{bit_and}
 use Rattle.std.specs.Prelude.{codes, List, ℕ, [], ◌-◌, ◌∷◌}
 use Rattle.vte_types.specs.declared.keyboard.KeyboardModes.{KeyboardModes}
 
+-- A set of modes is a byte of flags.
 abbrev pub bits_of : KeyboardModes → ℕ
 bits_of modes = modes.0
 
+-- Bits that belong to no flag are kept, too.
 abbrev pub modes_of_bits : ℕ → KeyboardModes
 modes_of_bits bits = record { 0 = bits }
 

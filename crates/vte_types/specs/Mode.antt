@@ -15,6 +15,7 @@ abbrev pub number_of_named : NamedMode → ℕ
 number_of_named Insert = 4
 number_of_named LineFeedNewLine = 20
 
+-- The number of each named private mode.
 abbrev pub number_of_private_named : NamedPrivateMode → ℕ
 number_of_private_named CursorKeys = 1
 number_of_private_named ColumnMode = 3
@@ -70,6 +71,7 @@ abbrev pub number_of_mode : Mode → ℕ
 number_of_mode (mode.Named named) = number_of_named named
 number_of_mode (mode.Unknown number) = number
 
+-- The result of `raw`, of a private mode.
 abbrev pub number_of_private_mode : PrivateMode → ℕ
 number_of_private_mode (private.Named named) = number_of_private_named named
 number_of_private_mode (private.Unknown number) = number
@@ -78,5 +80,6 @@ number_of_private_mode (private.Unknown number) = number
 abbrev pub named_mode : NamedMode → Mode
 named_mode named = mode.Named named
 
+-- The result of `From`, of a private mode.
 abbrev pub named_private_mode : NamedPrivateMode → PrivateMode
 named_private_mode named = private.Named named

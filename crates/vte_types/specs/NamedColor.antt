@@ -6,6 +6,7 @@ use Rattle.vte_types.specs.declared.color.NamedColor.TheVariants.{Background, Bl
 
 -- ---- numbers
 
+-- The number that `as` gives, by which colours are equal and ordered.
 unfoldable pub number_of_color : NamedColor → ℕ
 number_of_color Black = 0
 number_of_color Red = 1
@@ -43,6 +44,7 @@ number_of_color DimForeground = 268
 abbrev pub Shades : Type 0
 Shades = NamedColor × NamedColor × NamedColor
 
+-- Background and cursor have no other shade.
 abbrev pub shades : List Shades
 shades =
     (DimBlack, Black, BrightBlack) ∷
@@ -56,6 +58,7 @@ shades =
     (DimForeground, Foreground, BrightForeground) ∷
     []
 
+-- Colours are the same if their numbers are.
 abbrev pub is_color : NamedColor → NamedColor → Bool
 is_color a b = number_of_color a == number_of_color b
 
@@ -73,9 +76,11 @@ dimmer (row ∷ rows) color =
     if is_color color row.2 then row.1 else if is_color color row.1 then row.0
     else dimmer rows color
 
+-- The result of `to_bright`.
 abbrev pub bright_of : NamedColor → NamedColor
 bright_of color = brighter shades color
 
+-- The result of `to_dim`.
 abbrev pub dim_of : NamedColor → NamedColor
 dim_of color = dimmer shades color
 

@@ -67,10 +67,14 @@ impl Sub<Rgb> for Rgb {
 
 /// A named colour. `as usize` gives its number: its index in a palette, or 256 and up for a colour
 /// that isn't in it.
+///
+/// SGR 30 to 37 and 40 to 47 select `Black` to `White` (ECMA-48), and SGR 90 to 97 and 100 to 107
+/// select `BrightBlack` to `BrightWhite` (aixterm). A terminal may show faint text in `DimBlack` to
+/// `DimWhite` (ECMA-48, SGR 2).
 #[derive(Debug, Copy, Clone, Serialize, Deserialize)]
 // cargo: #[derive(PartialEq, Eq, PartialOrd, Ord)]
 pub enum NamedColor {
-    /// SGR 30 to 37 and 40 to 47 select this colour and the next seven (ECMA-48).
+    /// Black.
     Black = 0,
     /// Red.
     Red,
@@ -86,7 +90,7 @@ pub enum NamedColor {
     Cyan,
     /// White.
     White,
-    /// SGR 90 to 97 and 100 to 107 select the bright colours (aixterm).
+    /// Bright black.
     BrightBlack,
     /// Bright red.
     BrightRed,
@@ -108,7 +112,7 @@ pub enum NamedColor {
     Background,
     /// The cursor's colour (xterm, OSC 12).
     Cursor,
-    /// A terminal may show faint text in the dim colours (ECMA-48, SGR 2).
+    /// Dim black.
     DimBlack,
     /// Dim red.
     DimRed,

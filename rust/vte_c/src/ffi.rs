@@ -39,10 +39,10 @@ pub unsafe extern "C" fn vte_feed(
     bytes: *const u8,
     length: usize,
     kinds: u32,
-    stops: u32,
+    stop_kinds: u32,
     events: *mut VteEvent,
     event_room: usize,
-    data: *mut u8,
+    data_area: *mut u8,
     data_room: usize,
     counts: *mut VteCounts,
 ) -> usize {
@@ -52,9 +52,9 @@ pub unsafe extern "C" fn vte_feed(
             &mut *parser,
             slice(bytes, length),
             kinds,
-            stops,
+            stop_kinds,
             slice_mut(events, event_room),
-            slice_mut(data, data_room),
+            slice_mut(data_area, data_room),
             &mut *counts,
         )
     }

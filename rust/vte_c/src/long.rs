@@ -120,19 +120,19 @@ pub unsafe extern "C" fn vte_long_feed(
     bytes: *const u8,
     length: usize,
     kinds: u32,
-    stops: u32,
+    stop_kinds: u32,
     events: *mut VteEvent,
     event_room: usize,
-    data: *mut *const u8,
+    data_area: *mut *const u8,
     counts: *mut VteCounts,
 ) -> usize {
     // SAFETY: the callers' rules above
-    let (VteLongParser { parser, data: area }, bytes, events, data, counts) = unsafe {
+    let (VteLongParser { parser, data }, bytes, events, data_area, counts) = unsafe {
         (
             &mut *parser,
             slice(bytes, length.min(SLICE_SIZE)),
             slice_mut(events, event_room),
-            &mut *data,
+            &mut *data_area,
             &mut *counts,
         )
     };
@@ -140,16 +140,16 @@ pub unsafe extern "C" fn vte_long_feed(
         events: 0,
         bytes: 0,
     };
-    *data = area.as_ptr();
+    *data_area = data.as_ptr();
     if events.len() < MIN_EVENTS {
         return NO_ROOM;
     }
     let size = parser.stored() + DATA_PER_BYTE * bytes.len() + DATA_BEFORE;
-    if reserve(area, size).is_err() {
+    if reserve(data, size).is_err() {
         return REFUSED;
     }
-    *data = area.as_ptr();
-    let mut writer = EventWriter::new(events, area, kinds, stops);
+    *data_area = data.as_ptr();
+    let mut writer = EventWriter::new(events, data, kinds, stop_kinds);
     let (read, is_refused) = read_until_full(parser, bytes, kinds, &mut writer);
     *counts = VteCounts {
         events: writer.record_count(),

@@ -192,11 +192,11 @@ class StepReader:
         final = self.find_final(escape, key + 1, "@-~")
         if final:
             rules, lines = self.read_head("csi", "control-sequence", key + 1, final)
-            self.add(rules or ["malformed-head"], escape, final + 1, *lines)
+            self.add(rules or ["ill-shaped-head"], escape, final + 1, *lines)
 
     def read_head(self, method, rule, start, final):
         """Returns the rules and the line of a head, without what is dropped or executed in it; none
-        if it is malformed."""
+        if it is ill-shaped."""
         house, text = self.house, re.sub("[^ -?]", "", self.text[start:final])
         shape = WELL_SHAPED.fullmatch(text)
         if not shape or house.colon == "refuses" and ":" in text:
@@ -221,7 +221,7 @@ class StepReader:
         if final:
             rules, lines = self.read_head("hook", "device-control", key + 1, final)
             if not rules:
-                return self.read_dropped_string(escape, final + 1, "malformed-device-head")
+                return self.read_dropped_string(escape, final + 1, "ill-shaped-device-head")
             self.add(rules, escape, final + 1, *lines)
             self.is_hooked = True
 

@@ -81,6 +81,7 @@ max_of_character_line = 13
 abbrev max_of_unit : ℕ
 max_of_unit = max_of_line + max_of_character_line
 
+-- This holds of lines, and it is all that a collector needs to know of its texts.
 abbrev pub UnitsFit : (Event → List ℕ) → Type 0
 UnitsFit text_of = (events : List Event) → AreBrief default_limit events
     → length (flat_map text_of events) ≤ max_of_unit
@@ -89,6 +90,7 @@ UnitsFit text_of = (events : List Event) → AreBrief default_limit events
 abbrev HasRoomForUnit : CollectedText → Type 0
 HasRoomForUnit collected = length collected.bytes + max_of_unit ≤ capacity
 
+-- A collector is to be written once it is more than half full, so before that a unit fits.
 pub room-for_unit : (collected : CollectedText) → is_to_be_written collected ≡ false → HasRoomForUnit collected
 room-for_unit collected not_to_be_written = grind (arith, nat_tests)
 

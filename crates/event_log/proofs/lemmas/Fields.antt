@@ -21,6 +21,7 @@ texts-first_fits : (between both has_room : Bool) → both ≡ (between && has_r
 texts-first_fits true both has_room both_fit fit = refl
 texts-first_fits false both has_room both_fit fit = sym both_fit ∙ fit
 
+-- A line that is extended by a text and then by another is extended by both together.
 pub extends_then : {old mid new : Lines} {first second : List ℕ} → ExtendsLine old first mid
     → ExtendsLine mid second new → ExtendsLine old (first ++ second) new
 extends_then {old} {mid} {new} {first} {second} first_extends second_extends = record {
@@ -42,6 +43,7 @@ extends_then {old} {mid} {new} {first} {second} first_extends second_extends = r
 
 -- ---- decimal digits
 
+-- The digits of a small number, by how many it has.
 pub decimal-one_digit : (n : ℕ) → n < 10 → decimal n ≡ (0x30 + n % 10) ∷ []
 decimal-one_digit n low = grind (arith, decimal_digit)
 
@@ -79,6 +81,7 @@ entries_checked : entries_match 256 ≡ true
 unfolding hex_byte hex_digit
 entries_checked = refl
 
+-- The table has the digits of the definition at each byte.
 pub entry-of_byte : (b : ℕ) → b < 256
     → get_or HEX_PAIRS.now (2 * b) 0 ∷ get_or HEX_PAIRS.now (2 * b + 1) 0 ∷ [] ≡ hex_byte b
 entry-of_byte =

@@ -246,6 +246,7 @@ text_of-character c = by_layout (is_layout c) refl
     by_layout true decided = rw (decided, decided) (sym (encode_ascii c (layout-is_ascii c decided)))
     by_layout false decided = rw decided refl
 
+-- All characters of a run add its bytes.
 pub text_of-run : (cs : List ℕ) → flat_map plain_text_of (map (run_event true) cs) ≡ encodes cs
 text_of-run [] = refl
 text_of-run (c ∷ cs) =

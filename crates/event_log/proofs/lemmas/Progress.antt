@@ -1,4 +1,4 @@
--- From what a collector holds to what a run has written: what was collected is appended, and each read that gives
+-- From what a collector holds to what a log has written: what was collected is appended, and each read that gives
 -- something takes a chunk off the input (`HasReadPart`), until one fails or gives nothing.
 use Rattle.std.specs.Io.KnownBytes.{Appends, Consumes, IsAtEnd, Keeps}
 use Rattle.event_log.proofs.Common.{AddsUpTo, ap, append-nil, append_assoc, arith, Bool, default_limit, Event, events, flat_map, HasRead, HasWritten, IfSome, inl, inr, length, length-append, List, None, Option, Parser, refl, Some, sym, true, ℕ, [], ◌++◌, ◌+◌, ◌<◌, ◌∙◌, ◌≡◌, ◌≤◌, ◌⊎◌}
@@ -36,7 +36,7 @@ known-kept_where_known (Some bytes_after) known keeps = keeps
 
 -- ---- a chunk
 
--- What was collected is written, and the run goes on with the unread bytes.
+-- What was collected is written, and the log goes on with the unread bytes.
 pub written-more : {text_of : Event → List ℕ} {total_text : List ℕ → List ℕ} {unread next_unread collected : List ℕ}
     {parser next_parser : Parser 1024}
     {contents next_contents : Option (List ℕ)} → HasWritten text_of total_text contents parser unread
@@ -79,6 +79,7 @@ written-before_chunk chunk has_written = record {
   };
 }
 
+-- A flush keeps what was written.
 pub written-kept : {text_of : Event → List ℕ} {total_text : List ℕ → List ℕ} {parser : Parser 1024}
     {contents next_contents : Option (List ℕ)} {unread : List ℕ}
     → HasWritten text_of total_text contents parser unread → Keeps contents next_contents
@@ -90,12 +91,12 @@ written-kept {next_contents} has_written keeps =
       adds_up = has_written.adds_up;
     }
 
--- ---- a run
+-- ---- a log
 
 abbrev output_of : (Event → List ℕ) → List ℕ → List ℕ
 output_of text_of stream = flat_map text_of (events default_limit stream)
 
--- A run has made this many reads, and each gave something.
+-- A log has taken this many reads, and each gave something.
 pub record HasReadPart (text_of : Event → List ℕ) (input old_contents : List ℕ) (reads : ℕ) (parser : Parser 1024)
     (remaining contents : Option (List ℕ)) : Type 0 where
   pub stream : List ℕ
@@ -109,6 +110,7 @@ pub record HasReadPart (text_of : Event → List ℕ) (input old_contents : List
 
 module _ {text_of : Event
     → List ℕ} {input old_contents : List ℕ} {parser : Parser 1024} {remaining contents : Option (List ℕ)} where
+  -- Before the first read the whole input is to come.
   pub run-begins : events default_limit [] ≡ [] → remaining ≡ Some input → contents ≡ Some old_contents
       → HasRead parser []
       → HasReadPart text_of input old_contents 0 parser remaining contents
@@ -127,6 +129,7 @@ module _ {text_of : Event
     each_gave = omega arith;
   }
 
+  -- A chunk that was read and written is taken off the input.
   pub run-reads_more : {reads : ℕ} {next_parser : Parser 1024} {next_remaining next_contents : Option (List ℕ)}
       (chunk : List ℕ)
       → HasReadPart text_of input old_contents reads parser remaining contents → Consumes remaining next_remaining chunk
@@ -158,7 +161,7 @@ module _ {text_of : Event
       ∙ has_written.adds_up.total_is [] ∙ has_read.total_text_is []
       ∙ rw append-nil refl)
 
-  -- A read that fails ends a run, and so do as many reads as there may be.
+  -- A read that fails ends a log, and so do as many reads as there may be.
   pub run_ends-at_prefix : {reads : ℕ} {next_remaining : Option (List ℕ)} {failed : Bool}
       → HasReadPart text_of input old_contents reads parser remaining contents
       → KeepsWhereKnown remaining next_remaining → (failed ≡ true) ⊎ (max_reads ≤ reads)
@@ -175,7 +178,7 @@ module _ {text_of : Event
     ];
   }
 
-  -- A read that gives nothing ends a run.
+  -- A read that gives nothing ends a log.
   pub run_ends-with_all : {reads : ℕ} {next_remaining : Option (List ℕ)}
       → HasReadPart text_of input old_contents reads parser remaining contents
       → Consumes remaining next_remaining [] → IsAtEnd next_remaining

@@ -1,4 +1,4 @@
--- The state of a run between two calls of the parser.
+-- The state of a log between two calls of the parser.
 use Rattle.std.specs.List.{flat_map}
 use Rattle.std.specs.Prelude.{false, List, Option, Some, ℕ, ◌++◌, ◌≡◌}
 use Rattle.event_log.specs.CollectedText.{CollectedText}
@@ -7,6 +7,7 @@ use Rattle.vte_core.specs.Event.{Event}
 use Rattle.vte_core.specs.Parser.{HasRead}
 use Rattle.vte_core.specs.Stream.{added, default_limit}
 
+-- The parser has read some stream.
 pub record HasReadStream (parser : Parser 1024) : Type 0 where
   pub already_read : List ℕ
   pub parsed : HasRead parser already_read

@@ -21,6 +21,7 @@ records-append offset (entry ∷ front) back =
     omega (arith, length-append (entry_data entry) (flat_map entry_data front)) in
     rw (← size, records-append (offset + length (entry_data entry)) front back) refl
 
+-- Each entry has one record.
 pub length-records : (offset : ℕ) (entries : List Entry) → length (records_from offset entries) ≡ length entries
 length-records offset [] = refl
 length-records offset (entry ∷ entries) = omega (arith, length-records (offset + length (entry_data entry)) entries)
@@ -67,6 +68,7 @@ follows_stop-two stop_kinds offset entries at_most =
       at_most_two = omega (arith, count, length-records offset entries);
     }
 
+-- Buffers to which nothing was added have no entries.
 pub entries-nothing : (buffers : Buffers) (input : List ℕ) → HasEntries buffers buffers input []
 entries-nothing buffers input =
     record {
@@ -75,6 +77,7 @@ entries-nothing buffers input =
       at_most_one_follows = follows_stop-two buffers.stop_kinds buffers.data_used [] (omega arith);
     }
 
+-- Entries that were written into buffers that weren't full may be followed by others.
 pub entries-then : {old mid new : Buffers} {input : List ℕ} {front back : List Entry} → HasEntries old mid input front
     → must_return mid ≡ false
     → HasEntries mid new input back → HasEntries old new input (front ++ back)
@@ -104,6 +107,7 @@ entries-then {old} {mid} {new} {input} {front} {back} has_front not_returning ha
 
 -- ---- before a write the area holds no data of the event
 
+-- What was written ends where the next event begins.
 pub holds-nothing : (writer : EventWriter) → AreaHolds (buffers_of writer) writer writer.data_used []
 holds-nothing writer = record {
   same_buffers = refl;
@@ -136,6 +140,7 @@ single-without_loss offset Unhook = refl
 single-without_loss offset (CsiDispatch groups intermediates ignore final) = refl
 single-without_loss offset (EscDispatch intermediates ignore final) = refl
 
+-- Buffers that aren't full have room for the record of a run.
 pub entries-run : {old new : Buffers} (input : List ℕ) (run : InputRunKind) (start size : ℕ) → must_return old ≡ false
     → IsRunAt input run start size
     → new ≡ with_record_alone old (run_record (run_kind run) start size)
@@ -151,12 +156,15 @@ entries-run {old} {new} input run start size not_returning is_run recorded =
 
 -- ---- a pause, apart from which an event is written the same (`resumed`)
 
+-- Buffers without a pause have nothing to resume.
 pub resumed-same : (buffers : Buffers) → buffers.is_paused ≡ false → resumed buffers ≡ buffers
 resumed-same buffers not_paused = ap (λ (is_paused : Bool). record buffers { is_paused = is_paused }) (sym not_paused)
 
+-- A call that goes on isn't paused.
 pub not_returning-not_paused : (buffers : Buffers) → must_return buffers ≡ false → buffers.is_paused ≡ false
 not_returning-not_paused buffers not_returning = grind (arith, nat_tests)
 
+-- A call that goes on would go on after a pause.
 pub resumed-not_returning : (buffers : Buffers) → must_return buffers ≡ false → must_return (resumed buffers) ≡ false
 resumed-not_returning buffers not_returning =
     ap must_return (resumed-same buffers (not_returning-not_paused buffers not_returning)) ∙ not_returning
@@ -182,6 +190,7 @@ event-resumed buffers event =
     (choice-resumed (has_room_for_record buffers (length (data_of event))) _ _ _ _
     (choice-resumed (nat_lt buffers.record_count buffers.record_capacity) _ _ _ _ refl refl) refl) refl
 
+-- Only a command that may have lost data pauses a call.
 pub paused-after_event : (buffers : Buffers) (event : Event) → may_have_lost event ≡ false
     → (buffers_with_event buffers event).is_paused ≡ buffers.is_paused
 unfolding with_record_alone with_record
@@ -205,6 +214,7 @@ not_returning-has_room buffers not_returning = record {
   data_fits = grind (arith, nat_tests);
 }
 
+-- An event of the kinds is written as one entry, if there is room for it.
 pub event-written : (buffers : Buffers) (event : Event) → buffers.is_paused ≡ false
     → HasRoomFor buffers 1 (length (data_of event))
     → contains_kind buffers.kinds (event_kind event) ≡ true
@@ -318,6 +328,7 @@ entries-unit input buffers (event ∷ last ∷ []) brief not_returning =
     })
 entries-unit input buffers (event ∷ last ∷ third ∷ events) brief not_returning = absurd brief
 
+-- What is reported up to the next start is written, since the buffers weren't full at this one.
 pub entries-unit_more : {old : Buffers} (input : List ℕ) (buffers : Buffers) (before unit : List Event)
     → HasEntries old (resumed (after buffers_with_event buffers before)) input (entries_of old before)
     → must_return (after buffers_with_event buffers before) ≡ false → AreBrief default_limit unit

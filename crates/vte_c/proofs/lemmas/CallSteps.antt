@@ -199,11 +199,13 @@ reads_on-then {old} {mid} {already_read} {bytes} {from} {n} {m} reads not_return
       ];
     }
 
+-- A call that has read nothing is at its first byte.
 pub has_read_on-nothing : {old : Buffers} {parser : Parser 1024} {already_read bytes : List ℕ}
     → HasRead parser already_read
     → HasReadOn old old parser already_read bytes 0 0
 has_read_on-nothing {already_read} reads = record { next = already_read; reads = reads; reads_on = reads_on-nothing }
 
+-- A round goes on from where the one before it stopped, if the buffers weren't full there.
 pub has_read_on-then : {old mid new : Buffers} {parser last : Parser 1024} {already_read bytes : List ℕ} {n m : ℕ}
     (has_read : HasReadOn old mid parser already_read bytes 0 n)
     → must_return mid ≡ false → n + m ≤ length bytes → HasReadOn mid new last has_read.next bytes n m
@@ -271,6 +273,7 @@ module _ (old mid new : Buffers) (already_read bytes : List ℕ) (from : ℕ) (r
       let end : run.end ≡ run.start = omega (arith, returned.is_run.end, ap length no_bytes) in
       rw (no_bytes, append-nil after_call, end, written) reads_on-to_run_start
 
+  -- A call of the parser reads up to its run and over it, and the run is recorded.
   pub reads_on-to_run : AreCharacters run.taken → new ≡ with_run mid from run
       → ReadsOn old new already_read (after_call ++ run_bytes run) bytes from run.end
   reads_on-to_run utf8 recorded = reads_on-taken run.taken refl utf8 returned.is_run.longest recorded

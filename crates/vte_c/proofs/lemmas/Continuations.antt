@@ -27,6 +27,7 @@ prefix-after {events} before first = record {
 
 -- ---- one part after another
 
+-- Nothing was read or given at first.
 pub continues-nothing : (already_read bytes : List ℕ) → Continues already_read already_read bytes 0 []
 continues-nothing already_read bytes = record {
   added_parts = λ more. refl;
@@ -34,6 +35,7 @@ continues-nothing already_read bytes = record {
       λ k within. prefix-same (rw zero-add refl);
 }
 
+-- Two parts of the bytes, one after another, give the events of both.
 pub continues-then : {already_read next last bytes : List ℕ} {n m : ℕ} {given given_next : List Event}
     → Continues already_read next bytes n given → Continues next last (drop n bytes) m given_next
     → n ≤ length bytes → Continues already_read last bytes (n + m) (given ++ given_next)
@@ -50,6 +52,7 @@ continues-then {bytes} {n} {m} {given} {given_next} continues continues_on withi
 
 -- ---- bytes that report what they add
 
+-- A part that was read as it is gives what it adds.
 pub continues-added : (already_read bytes : List ℕ) (n : ℕ)
     → Continues already_read (already_read ++ take n bytes) bytes n (added default_limit already_read (take n bytes))
 continues-added already_read bytes n = record {
@@ -87,6 +90,7 @@ broken-prefix goes_on stream (byte ∷ unread) (suc k) broken =
     (rw (append-nil front, reported_before, resumed_stream, breaks_it, added-nothing default_limit stream) at
     (goes_on stream front [] 0)))
 
+-- A call gives what is reported before its position, and goes on from the stream that it resumes.
 pub continues-call : GoesOnFromPositions default_limit → (already_read bytes : List ℕ) (n : ℕ)
     → Continues already_read (resumed_stream already_read bytes n) bytes n
     (reported_before default_limit already_read bytes n)
@@ -105,6 +109,7 @@ continues-call goes_on already_read bytes n = elim (cases_Bool (breaks_at alread
 
 -- ---- records of kinds that do not stop
 
+-- If no record is of the kinds, none stops.
 pub no_kind_stops-none : (stop_kinds : ℕ) (records : List VteEvent) → any_of_kinds stop_kinds records ≡ false
     → NoRecordStops stop_kinds records
 no_kind_stops-none stop_kinds [] none_of_kinds = tt
@@ -112,6 +117,7 @@ no_kind_stops-none stop_kinds (vte_record ∷ records) none_of_kinds =
     let apart = or_parts (contains_kind stop_kinds vte_record.kind) (any_of_kinds stop_kinds records) none_of_kinds in
     (apart.0, no_kind_stops-none stop_kinds records apart.1)
 
+-- If none stops in either of two lists, none stops in both together.
 pub no_kind_stops-append : (stop_kinds : ℕ) (front back : List ℕ) → NoKindStops stop_kinds front
     → NoKindStops stop_kinds back
     → NoKindStops stop_kinds (front ++ back)
@@ -121,12 +127,14 @@ no_kind_stops-append stop_kinds (kind ∷ front) back none_stops none_after =
 
 -- ---- events that do not stop (`NoEventStops`): of lists, runs and entries, and of fewer bytes
 
+-- If none stops in a list, none stops at its front.
 pub no_event_stops-front : (does_stop : ℕ → Bool) (front back : List Event) → NoEventStops does_stop (front ++ back)
     → NoEventStops does_stop front
 no_event_stops-front does_stop [] back none_stops = tt
 no_event_stops-front does_stop (event ∷ front) back none_stops =
     (none_stops.0, no_event_stops-front does_stop front back none_stops.1)
 
+-- If none stops in either of two lists, none stops in both together.
 pub no_event_stops-append : (does_stop : ℕ → Bool) (front back : List Event) → NoEventStops does_stop front
     → NoEventStops does_stop back → NoEventStops does_stop (front ++ back)
 no_event_stops-append does_stop [] back none_stops none_after = none_after
@@ -138,6 +146,7 @@ no_event_stops-each : (does_stop : ℕ → Bool) (call : ℕ → Event) → ((n 
 no_event_stops-each does_stop call no_stop [] = tt
 no_event_stops-each does_stop call no_stop (n ∷ ns) = (no_stop n, no_event_stops-each does_stop call no_stop ns)
 
+-- All events of a run have its kind.
 pub no_event_stops-run : (does_stop : ℕ → Bool) (run : InputRunKind) (bytes : List ℕ) → does_stop (run_kind run) ≡ false
     → NoEventStops does_stop (events_of_run run bytes)
 no_event_stops-run does_stop TextRun bytes no_stop = no_event_stops-each does_stop Print (λ c. no_stop) (chars bytes)

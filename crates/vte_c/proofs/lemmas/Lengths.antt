@@ -2,6 +2,7 @@
 -- second one that a byte adds at most four (`data_of-character_event`).
 use Rattle.vte_c.proofs.Common.{All, All-head, All-tail, AreGroups, arith, concat, count_of, CsiDispatch, data_of, default_limit, Event, Execute, flat_map, group_bytes, Hook, IsBounded, IsCharacterEvent, IsNonEmpty, len_utf8_bounds, length, length-append, length-encode, List, OscDispatch, piece_bytes, Print, refl, sum_by-cons, two_bytes, ℕ, [], ◌*◌, ◌+◌, ◌<◌, ◌∷◌, ◌≡◌, ◌≤◌}
 
+-- Each number has two bytes.
 pub length-two_bytes : (numbers : List ℕ) → length (flat_map two_bytes numbers) ≡ 2 * length numbers
 length-two_bytes [] = refl
 length-two_bytes (n ∷ numbers) = omega (arith, length-two_bytes numbers)
@@ -27,6 +28,7 @@ length-filled (group ∷ groups) filled =
     let not_empty : 0 < length group = All-head IsNonEmpty group groups filled in
     omega (arith, sum_by-cons length group groups, length-filled groups (All-tail IsNonEmpty group groups filled))
 
+-- Each group has a number, and there are at most 32 numbers.
 pub length-groups : (groups : List (List ℕ)) → AreGroups groups → length groups ≤ 32
 length-groups groups groups_are = omega (arith, length-filled groups groups_are.filled, groups_are.at_most)
 
@@ -39,6 +41,7 @@ group_bytes-at_most groups groups_are =
 abbrev pub max_event_data : ℕ
 max_event_data = 1088
 
+-- A command has the most, and a character at most four.
 pub data_of-at_most : (event : Event) → IsBounded default_limit event → length (data_of event) ≤ max_event_data
 data_of-at_most (Print c) bounded = omega (arith, length-encode c, (len_utf8_bounds c).1)
 data_of-at_most (Hook groups intermediates ignore final) bounded =

@@ -199,11 +199,13 @@ event-reported (OscDispatch pieces bell) = refl
 event-reported (CsiDispatch groups intermediates ignore final) = refl
 event-reported (EscDispatch intermediates ignore final) = refl
 
+-- A caller that wants all kinds gets all events.
 pub events-reported : (events : List Event) → wanted_events all_kinds events ≡ events
 events-reported [] = refl
 events-reported (event ∷ events) = rw (event-reported event, events-reported events) refl
 
 module _ {A : Type 0} {of : List Event → List A} where
+  -- A new parser has read nothing, and nothing was given.
   pub given-nothing : {parser : Saved} → events default_limit [] ≡ [] → HasReadSaved parser []
       → HasGiven of parser [] [] []
   given-nothing no_events has_read = record {
@@ -212,6 +214,7 @@ module _ {A : Type 0} {of : List Event → List A} where
     total_is = λ more. rw no_events refl;
   }
 
+  -- Bytes that come later are unread, too.
   pub given-before : (parser : Saved) (given : List A) (stream unread bytes : List ℕ)
       → HasGiven of parser given stream unread
       → HasGiven of parser given (stream ++ bytes) (unread ++ bytes)
@@ -237,6 +240,7 @@ module _ {A : Type 0} {of : List Event → List A} where
         (has_given.total_is more);
   }
 
+  -- Once nothing is unread, what was given is what is given of the whole stream.
   pub given-all : of [] ≡ [] → (parser : Saved) (given : List A) (stream : List ℕ) → HasGiven of parser given stream []
       → given ≡ of (events default_limit stream)
   given-all none_of_none parser given stream has_given =
@@ -308,6 +312,7 @@ module _ (old new : EventWriter) (input : List ℕ) (entries : List Entry) (are_
 
 -- ---- what a call ensures, and the counts that its caller gets
 
+-- A call that began with empty buffers has fed its caller what it read.
 pub call-fed : {old new : EventWriter} {parser : Parser 1024} {saved : Saved} {given : List Event}
     {stream bytes rest : List ℕ}
     {n : ℕ} → AreEmptyBuffers (buffers_of old)

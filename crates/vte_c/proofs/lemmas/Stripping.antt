@@ -70,6 +70,7 @@ pub record HasTextOf (old new : WrittenText) (stream bytes : List ℕ) (n : ℕ)
   pub parsed : HasRead parser (stream ++ take n bytes)
   pub holds : new ≡ with_all old (plain_text (added default_limit stream (take n bytes)))
 
+-- The buffer has the text that it had until a byte is read.
 pub has_text-nothing : {stream : List ℕ} {parser : Parser 1024} (buffer : WrittenText) (bytes : List ℕ)
     → HasRead parser stream
     → HasTextOf buffer buffer stream bytes 0 parser
@@ -79,6 +80,7 @@ has_text-nothing {stream} buffer bytes parsed =
       holds = rw (added-nothing default_limit stream) (simp (append-nil, add-zero));
     }
 
+-- A chunk for whose text there is room adds this text.
 pub has_text-more : {old new later : WrittenText} {stream bytes : List ℕ} {n : ℕ} {parser parser_later : Parser 1024}
     (chunk : List ℕ) → old.fits ≡ true
     → length (plain_text (added default_limit (stream ++ take n bytes) chunk)) ≤ 8 * length chunk

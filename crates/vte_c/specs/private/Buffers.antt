@@ -25,6 +25,7 @@ pub record Buffers : Type 0 where
   pub records_name : ℕ
   pub area_name : ℕ
 
+-- The used part of both slices. Whether a command lost data is left out: it is written later.
 abbrev pub buffers_of : EventWriter → Buffers
 buffers_of writer = record {
   records = map without_loss (take writer.record_count writer.records.now);
@@ -41,7 +42,8 @@ buffers_of writer = record {
   area_name = writer.area.ghost_name;
 }
 
--- A record is written if there is room for it.
+-- A record is appended if there is room for one more, and dropped otherwise. One that is appended
+-- stops the call if its kind is among the stops.
 unfoldable pub with_record_alone : Buffers → VteEvent → Buffers
 with_record_alone buffers vte_record =
     if nat_lt buffers.record_count buffers.record_capacity then record buffers {
@@ -57,7 +59,8 @@ has_room_for_record buffers more =
     nat_lt buffers.record_count buffers.record_capacity
     && nat_le (buffers.data_used + more) buffers.data_capacity
 
--- A record is written with its data, which follows that of the others, if there is room for both.
+-- A record and its data are appended if there is room for both, and dropped otherwise. The record
+-- starts where the data of the others ends.
 unfoldable pub with_record : Buffers → VteEvent → List ℕ → Buffers
 with_record buffers vte_record bytes =
     let written = record buffers {
@@ -68,18 +71,22 @@ with_record buffers vte_record bytes =
     then with_record_alone written (record vte_record { start = buffers.data_used })
     else buffers
 
--- A record of the kinds is written, with its data.
+-- A record and its data are appended, as above, only if its kind is among those to write.
 abbrev pub with_wanted_record : Buffers → VteEvent → List ℕ → Buffers
 with_wanted_record buffers vte_record bytes =
     if contains_kind buffers.kinds vte_record.kind
     then with_record buffers vte_record bytes else buffers
 
+-- A pause lasts, whatever follows, until the call is resumed.
 abbrev pub paused_if : Bool → Buffers → Buffers
 paused_if pauses buffers = record buffers { is_paused = pauses || buffers.is_paused }
 
+-- A pause ends once the parser has said whether the command lost data.
 abbrev pub resumed : Buffers → Buffers
 resumed buffers = record buffers { is_paused = false }
 
+-- An event of the kinds is appended, as above. A command that may have lost data pauses the call,
+-- even if there was no room for it.
 abbrev pub buffers_with_event : Buffers → Event → Buffers
 buffers_with_event buffers event =
     if contains_kind buffers.kinds (event_kind event)
@@ -93,14 +100,15 @@ pub record AreaHolds (buffers : Buffers) (writer : EventWriter) (end : ℕ)
   pub end_is : end ≡ min (buffers.data_used + length text) (2 ^ 64 - 1)
   pub data_is : end ≤ buffers.data_capacity → take end writer.area.now ≡ buffers.area ++ text
 
--- A run of the kinds is written.
+-- The record of a run is appended only if its kind is among those to write. Its bytes are in the
+-- input, so it takes no room in the area.
 abbrev pub with_run_record : Buffers → VteEvent → Buffers
 with_run_record buffers vte_record =
     if contains_kind buffers.kinds vte_record.kind
     then with_record_alone buffers vte_record else buffers
 
--- The record of a run that the parser returned for the bytes from an offset on. Without a run a
--- pause ends.
+-- The record of a run that the parser returned is appended, with the offset of its first byte.
+-- Without a run a pause ends.
 abbrev pub with_taken : Buffers → ℕ → Taken → Buffers
 with_taken buffers start (Text text) =
     with_run_record buffers (run_record text_kind start (length text.now))
@@ -108,6 +116,7 @@ with_taken buffers start (Data slice) =
     with_run_record buffers (run_record data_kind start (length slice.now))
 with_taken buffers start Nothing = resumed buffers
 
+-- The parser counts the run's start from `from` on, and its record from the start of the input.
 abbrev pub with_run : Buffers → ℕ → Run → Buffers
 with_run buffers from run = with_taken buffers (from + run.start) run.taken
 

@@ -16,6 +16,7 @@ pub record WrittenText : Type 0 where
   pub fits : Bool
   pub name : ℕ
 
+-- The used part of the slice.
 abbrev pub written_text_of : TextWriter → WrittenText
 written_text_of writer = record {
   text = take writer.used writer.bytes.now;
@@ -32,6 +33,7 @@ text_with buffer text =
     then record buffer { text = buffer.text ++ text; used = buffer.used + length text }
     else record buffer { text = []; used = 0; fits = false }
 
+-- An event adds its plain text, which may be none.
 abbrev pub text_with_event : WrittenText → Event → WrittenText
 text_with_event buffer event = text_with buffer (plain_text_of event)
 

@@ -13,6 +13,7 @@ bits-parts bits fits = (λ i. and_comm bits 0xe0 i + and_comm bits 0x1f i) ∙ a
 pub all_set : (bits : ℕ) → bit_or 0x1f bits ≡ bits → bit_and bits 0x1f ≡ 0x1f
 all_set bits unchanged = ap (λ n. bit_and n 0x1f) (sym unchanged ∙ or_comm 0x1f bits) ∙ and_or_self 0x1f bits
 
+-- If all flags are set, setting them changes nothing.
 pub set_all : (bits : ℕ) → bit_and bits 0x1f ≡ 0x1f → bit_or 0x1f bits ≡ bits
 set_all bits are_set =
     let sum = or_add_and 0x1f bits in let turned = and_comm 0x1f bits in omega arith

@@ -32,6 +32,7 @@ hex_number-shown byte fits =
     (hex_number-digits (byte / 16) (byte % 16) byte (omega (arith, fits)) (omega (arith, fits))
     (omega (arith, fits)))
 
+-- A colour is read back from what is shown of it.
 pub hex_color_of-shown : (color : Rgb) → color.r < 256 → color.g < 256 → color.b < 256
     → hex_color_of (shown_color color) ≡ Some color
 hex_color_of-shown color red_fits green_fits blue_fits =
@@ -45,6 +46,7 @@ hex_color_of-shown color red_fits green_fits blue_fits =
 
 -- The proofs are by cases of the colour.
 
+-- A colour that isn't the brightest of its shades comes back.
 pub dim_of-bright : (color : NamedColor) → is_bright color ≡ false → dim_of (bright_of color) ≡ color
 unfolding number_of_color
 dim_of-bright BrightBlack other = cc
@@ -58,6 +60,7 @@ dim_of-bright BrightWhite other = cc
 dim_of-bright BrightForeground other = cc
 dim_of-bright color other = refl
 
+-- A colour that isn't the dimmest of its shades comes back.
 pub bright_of-dim : (color : NamedColor) → is_dim color ≡ false → bright_of (dim_of color) ≡ color
 unfolding number_of_color
 bright_of-dim DimBlack other = cc
@@ -87,6 +90,7 @@ unfolding number_of_color color_table
 row_of Black = refl
 row_of color = refl
 
+-- No two colours have one number.
 pub number_decides : (a b : NamedColor) → number_of_color a ≡ number_of_color b → a ≡ b
 number_decides a b same_number =
     let row_a = row_of a in let row_b = row_of b in let same_row = ap (entry_of color_table) same_number in cc

@@ -10,9 +10,11 @@ use Rattle.std.specs.Str.{is_utf8, IsAscii}
 use Rattle.vte_types.specs.CursorIcon.{icon_of, icons}
 use Rattle.vte_types.specs.Words.{after_word, entry_of_word}
 
+-- Texts that differ aren't equal byte by byte.
 pub bytes_eq-other : (text word : List ℕ) → (text ≡ word → ⊥) → bytes_eq text word ≡ false
 bytes_eq-other text word differ = false_from_ne_true _ (λ equal. differ ((bytes_eq-Decides text word).0 equal))
 
+-- A text that is shorter or longer differs.
 pub bytes_eq-shorter : (text word : List ℕ) → length text < length word → bytes_eq text word ≡ false
 bytes_eq-shorter text word shorter =
     bytes_eq-other text word (λ same. let same_length = ap length same in omega arith)
@@ -26,6 +28,7 @@ after_word-same_first : (a : ℕ) (word text : List ℕ) (t : Bool) → eqb a a 
 after_word-same_first a word text true test = refl
 after_word-same_first a word text false test = absurd (grind (arith, nat_tests))
 
+-- What follows a word is found after it.
 pub after_word-append : (word rest : List ℕ) → after_word word (word ++ rest) ≡ Some rest
 after_word-append [] rest = refl
 after_word-append (a ∷ word) rest =
@@ -38,12 +41,14 @@ after_word-other_first a b word text further true test differ =
     further (λ rest same. differ rest (let same_first : a ≡ b = grind (arith, nat_tests) in cc))
 after_word-other_first a b word text further false test differ = refl
 
+-- A text that doesn't begin with a word has nothing after it.
 pub after_word-other : (word text : List ℕ) → ((rest : List ℕ) → text ≢ word ++ rest) → after_word word text ≡ None
 after_word-other [] text differ = absurd (differ text refl)
 after_word-other (a ∷ word) [] differ = refl
 after_word-other (a ∷ word) (b ∷ text) differ =
     after_word-other_first a b word text (after_word-other word text) (eqb a b) refl differ
 
+-- `strip_prefix` of the code finds what the definition has after a word.
 pub after_word-is : (word text : List ℕ) (found : Option (Bor (List ℕ)))
     → MatchOption found ((rest : List ℕ) → text ≢ word ++ rest) (λ rest. text ≡ word ++ rest.now)
     → option_map (λ rest. rest.now) found ≡ after_word word text

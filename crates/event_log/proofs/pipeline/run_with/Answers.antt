@@ -1,4 +1,4 @@
--- All that was read is written (`HasReadPart`), so a run that ends has written the text of a prefix of the input, or of
+-- All that was read is written (`HasReadPart`), so a log that ends has written the text of a prefix of the input, or of
 -- all of it (`Progress`).
 use Rattle.event_log.proofs.Common.{arith, default_limit, Err, false, inl, inr, is_err, length, length-take-le, Ok, OnOk, refl, Result, sym, take, ◌<◌, ◌∙◌, ◌≡◌}
 use Rattle.event_log.proofs.lemmas.Progress.{run-begins, run-reads_more, run_ends-at_prefix, run_ends-with_all}

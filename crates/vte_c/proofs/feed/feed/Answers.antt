@@ -30,10 +30,10 @@ returns c =
     (has_reported : HasReported c.args.kinds c.args.parser.now given stream (bytes ++ rest)).
     let fed = feeds given stream rest has_reported in
     counts-of_writer writer c.min.result c.min-2.result (fed.encodes [])
-    (c.records-1.given.1.1 (sym (fed.same_records_name ∙ c.new-writer.ensures.same_records_name)))
-    (c.area-1.given.1.1 (sym (fed.same_area_name ∙ c.new-writer.ensures.same_area_name)))
-    (omega (arith, c.min.ensures, c.record_count.ensures, c.records-1.given.1.0))
-    (omega (arith, c.min-2.ensures, c.data_used.ensures, c.area-1.given.1.0)) in
+    (c.events-1.given.1.1 (sym (fed.same_records_name ∙ c.new-writer.ensures.same_records_name)))
+    (c.data_area-1.given.1.1 (sym (fed.same_area_name ∙ c.new-writer.ensures.same_area_name)))
+    (omega (arith, c.min.ensures, c.record_count.ensures, c.events-1.given.1.0))
+    (omega (arith, c.min-2.ensures, c.data_used.ensures, c.data_area-1.given.1.0)) in
     record {
       returns_bytes_read = λ most size. sym count;
       within = omega (arith, count, within, length-take minimum bytes);
@@ -48,7 +48,10 @@ returns c =
           let same = of_writer given stream rest has_reported in
           rw (same.same_count, same.same_used, same.same_records, same.same_area)
           (rw parts at ((feeds given stream rest has_reported).encodes (drop minimum bytes)));
-      fits = (omega (arith, c.min.ensures, c.records-1.given.1.0), omega (arith, c.min-2.ensures, c.area-1.given.1.0));
+      fits = (
+        omega (arith, c.min.ensures, c.events-1.given.1.0),
+        omega (arith, c.min-2.ensures, c.data_area-1.given.1.0),
+      );
       -- On this path there is enough room, so neither of these two cases is possible.
       too_few = λ few. record {
         returns_no_room = search rules;

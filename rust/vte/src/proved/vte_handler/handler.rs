@@ -30,164 +30,168 @@ handlers! {
 
     // ---- Characters and format effectors
 
-    /// A character to show: neither U+0000..U+001F nor U+0080..U+009F. REP, `CSI b`, repeats the
-    /// last one (ECMA-48 8.3.103).
+    /// Shows a character: neither U+0000..U+001F nor U+0080..U+009F. REP, `CSI b`, repeats the last
+    /// one (ECMA-48 8.3.103).
     fn input(&mut self, c: char) {}
 
-    /// BEL, 07, outside an operating system command: ring or blink (ECMA-48 8.3.3).
+    /// Rings or blinks (BEL, 07, outside an operating system command; ECMA-48 8.3.3).
     fn bell(&mut self) {}
 
-    /// BS, 08: one column to the left, not past the first (ECMA-48 8.3.5).
+    /// Moves the cursor one column to the left, not past the first (BS, 08; ECMA-48 8.3.5).
     fn backspace(&mut self) {}
 
-    /// HT, 09: to the next tab stop, with `count` 1 (ECMA-48 8.3.60).
+    /// Moves the cursor to the next tab stop, with `count` 1 (HT, 09; ECMA-48 8.3.60).
     fn put_tab(&mut self, count: u16) {}
 
-    /// LF, VT and FF, 0A to 0C, and IND, `ESC D`: one line down, and at the bottom of the scrolling
-    /// region the text scrolls up (ECMA-48 8.3.74; DEC VT510, IND). With
-    /// `NamedMode::LineFeedNewLine` set it goes to the first column too.
+    /// Moves the cursor one line down, or scrolls the text up at the bottom of the scrolling region
+    /// (LF, VT and FF, 0A to 0C, and IND, `ESC D`; ECMA-48 8.3.74; DEC VT510, IND). With
+    /// `NamedMode::LineFeedNewLine` set, it goes to the first column too.
     fn linefeed(&mut self) {}
 
-    /// CR, 0D, and a part of NEL, `ESC E`: to the first column of the line (ECMA-48 8.3.15).
+    /// Moves the cursor to the first column of the line (CR, 0D, and a part of NEL, `ESC E`;
+    /// ECMA-48 8.3.15).
     fn carriage_return(&mut self) {}
 
-    /// A line feed and a carriage return in one. No sequence calls it: NEL calls `linefeed` and
-    /// `carriage_return`.
+    /// Makes a line feed and a carriage return in one. No sequence calls it: NEL calls `linefeed`
+    /// and `carriage_return`.
     fn newline(&mut self) {}
 
-    /// SUB, 1A: a character that was lost. It also cancels the sequence that it interrupts (ECMA-48
-    /// 8.3.148).
+    /// Stands for a character that was lost (SUB, 1A; ECMA-48 8.3.148). SUB also cancels the
+    /// sequence that it interrupts.
     fn substitute(&mut self) {}
 
     // ---- Cursor position
 
-    /// CUP, `CSI H`, and HVP, `CSI f`: to a line and a column, both counted from 0, up to 65,534
-    /// (ECMA-48 8.3.21, 8.3.63).
+    /// Moves the cursor to a line and a column, both counted from 0, up to 65,534 (CUP, `CSI H`,
+    /// and HVP, `CSI f`; ECMA-48 8.3.21, 8.3.63).
     fn goto(&mut self, line: i32, column: usize) {}
 
-    /// VPA, `CSI d`: to a line, counted from 0, up to 65,534 (ECMA-48 8.3.158).
+    /// Moves the cursor to a line, counted from 0, up to 65,534 (VPA, `CSI d`; ECMA-48 8.3.158).
     fn goto_line(&mut self, line: i32) {}
 
-    /// CHA, `CSI G`, and HPA, `` CSI ` ``: to a column of the line, counted from 0, up to 65,534
-    /// (ECMA-48 8.3.9, 8.3.57).
+    /// Moves the cursor to a column of the line, counted from 0, up to 65,534 (CHA, `CSI G`, and
+    /// HPA, `` CSI ` ``; ECMA-48 8.3.9, 8.3.57).
     fn goto_col(&mut self, column: usize) {}
 
-    /// CUU, `CSI A`: `count` lines up, 1 to 65,535 (ECMA-48 8.3.22).
+    /// Moves the cursor `count` lines up, 1 to 65,535 (CUU, `CSI A`; ECMA-48 8.3.22).
     fn move_up(&mut self, count: usize) {}
 
-    /// CUD, `CSI B`, and VPR, `CSI e`: `count` lines down, 1 to 65,535 (ECMA-48 8.3.19, 8.3.160).
+    /// Moves the cursor `count` lines down, 1 to 65,535 (CUD, `CSI B`, and VPR, `CSI e`; ECMA-48
+    /// 8.3.19, 8.3.160).
     fn move_down(&mut self, count: usize) {}
 
-    /// CUF, `CSI C`, and HPR, `CSI a`: `count` columns to the right, 1 to 65,535 (ECMA-48 8.3.20,
-    /// 8.3.59).
+    /// Moves the cursor `count` columns to the right, 1 to 65,535 (CUF, `CSI C`, and HPR, `CSI a`;
+    /// ECMA-48 8.3.20, 8.3.59).
     fn move_forward(&mut self, count: usize) {}
 
-    /// CUB, `CSI D`: `count` columns to the left, 1 to 65,535 (ECMA-48 8.3.18).
+    /// Moves the cursor `count` columns to the left, 1 to 65,535 (CUB, `CSI D`; ECMA-48 8.3.18).
     fn move_backward(&mut self, count: usize) {}
 
-    /// CNL, `CSI E`: to the first column, `count` lines down, 1 to 65,535 (ECMA-48 8.3.12).
+    /// Moves the cursor to the first column, `count` lines down, 1 to 65,535 (CNL, `CSI E`; ECMA-48
+    /// 8.3.12).
     fn move_down_and_cr(&mut self, count: usize) {}
 
-    /// CPL, `CSI F`: to the first column, `count` lines up, 1 to 65,535 (ECMA-48 8.3.13).
+    /// Moves the cursor to the first column, `count` lines up, 1 to 65,535 (CPL, `CSI F`; ECMA-48
+    /// 8.3.13).
     fn move_up_and_cr(&mut self, count: usize) {}
 
-    /// DECSC, `ESC 7`, and SCOSC, `CSI s`: save the cursor's position, rendition and character sets
-    /// (DEC VT510; xterm).
+    /// Saves the cursor's position, rendition and character sets (DECSC, `ESC 7`, and SCOSC,
+    /// `CSI s`; DEC VT510; xterm).
     fn save_cursor_position(&mut self) {}
 
-    /// DECRC, `ESC 8`, and SCORC, `CSI u`: restore what was saved last (DEC VT510; xterm).
+    /// Restores what was saved last (DECRC, `ESC 8`, and SCORC, `CSI u`; DEC VT510; xterm).
     fn restore_cursor_position(&mut self) {}
 
     // ---- Scrolling
 
-    /// RI, `ESC M`: one line up, and at the top of the scrolling region the text scrolls down
-    /// (ECMA-48 8.3.104).
+    /// Moves the cursor one line up, or scrolls the text down at the top of the scrolling region
+    /// (RI, `ESC M`; ECMA-48 8.3.104).
     fn reverse_index(&mut self) {}
 
-    /// SU, `CSI S`: the text of the scrolling region moves up `count` lines, 1 to 65,535 (ECMA-48
+    /// Moves the text of the scrolling region up `count` lines, 1 to 65,535 (SU, `CSI S`; ECMA-48
     /// 8.3.147).
     fn scroll_up(&mut self, count: usize) {}
 
-    /// SD, `CSI T`: the text of the scrolling region moves down `count` lines, 1 to 65,535 (ECMA-48
+    /// Moves the text of the scrolling region down `count` lines, 1 to 65,535 (SD, `CSI T`; ECMA-48
     /// 8.3.113).
     fn scroll_down(&mut self, count: usize) {}
 
-    /// DECSTBM, `CSI Pt ; Pb r`: the lines that scroll, counted from 1, up to 65,535 (DEC VT510).
-    /// Without a bottom they reach to the last. The bottom may be above the top.
+    /// Sets the lines that scroll, counted from 1, up to 65,535 (DECSTBM, `CSI Pt ; Pb r`; DEC
+    /// VT510). Without a bottom they reach to the last. The bottom may be above the top.
     fn set_scrolling_region(&mut self, top: usize, bottom: Option<usize>) {}
 
     // ---- Tab stops
 
-    /// HTS, `ESC H`: a tab stop in the cursor's column (ECMA-48 8.3.62).
+    /// Sets a tab stop in the cursor's column (HTS, `ESC H`; ECMA-48 8.3.62).
     fn set_horizontal_tabstop(&mut self) {}
 
-    /// TBC, `CSI g`: clear the tab stop in the cursor's column, or all tab stops (ECMA-48 8.3.154).
+    /// Clears the tab stop in the cursor's column, or all tab stops (TBC, `CSI g`; ECMA-48
+    /// 8.3.154).
     fn clear_tabs(&mut self, which: TabulationClearMode) {}
 
-    /// DECST8C, `CSI ? 5 W`: a tab stop at each eighth column; `interval` is 8 (DEC VT510).
+    /// Sets a tab stop at each eighth column; `interval` is 8 (DECST8C, `CSI ? 5 W`; DEC VT510).
     fn set_tabs(&mut self, interval: u16) {}
 
-    /// CHT, `CSI I`: `count` tab stops forward, 1 to 65,535 (ECMA-48 8.3.10).
+    /// Moves the cursor `count` tab stops forward, 1 to 65,535 (CHT, `CSI I`; ECMA-48 8.3.10).
     fn move_forward_tabs(&mut self, count: u16) {}
 
-    /// CBT, `CSI Z`: `count` tab stops back, 1 to 65,535 (ECMA-48 8.3.7).
+    /// Moves the cursor `count` tab stops back, 1 to 65,535 (CBT, `CSI Z`; ECMA-48 8.3.7).
     fn move_backward_tabs(&mut self, count: u16) {}
 
     // ---- Editing
 
-    /// ICH, `CSI @`: `count` blanks at the cursor, 1 to 65,535; the rest of the line moves right
-    /// (ECMA-48 8.3.64).
+    /// Inserts `count` blanks at the cursor, 1 to 65,535; the rest of the line moves right (ICH,
+    /// `CSI @`; ECMA-48 8.3.64).
     fn insert_blank(&mut self, count: usize) {}
 
-    /// IL, `CSI L`: `count` blank lines at the cursor's line, 1 to 65,535; those below move down
-    /// (ECMA-48 8.3.67).
+    /// Inserts `count` blank lines at the cursor's line, 1 to 65,535; those below move down (IL,
+    /// `CSI L`; ECMA-48 8.3.67).
     fn insert_blank_lines(&mut self, count: usize) {}
 
-    /// DCH, `CSI P`: `count` characters from the cursor on are deleted, 1 to 65,535; the rest moves
-    /// left (ECMA-48 8.3.26).
+    /// Deletes `count` characters from the cursor on, 1 to 65,535; the rest moves left (DCH,
+    /// `CSI P`; ECMA-48 8.3.26).
     fn delete_chars(&mut self, count: usize) {}
 
-    /// DL, `CSI M`: `count` lines from the cursor's on are deleted, 1 to 65,535; those below move
-    /// up (ECMA-48 8.3.32).
+    /// Deletes `count` lines from the cursor's on, 1 to 65,535; those below move up (DL, `CSI M`;
+    /// ECMA-48 8.3.32).
     fn delete_lines(&mut self, count: usize) {}
 
-    /// ECH, `CSI X`: `count` characters from the cursor on become blank, 1 to 65,535; none moves
-    /// (ECMA-48 8.3.38).
+    /// Blanks `count` characters from the cursor on, 1 to 65,535; none moves (ECH, `CSI X`; ECMA-48
+    /// 8.3.38).
     fn erase_chars(&mut self, count: usize) {}
 
-    /// EL, `CSI K`: a part of the line becomes blank (ECMA-48 8.3.41).
+    /// Blanks a part of the line (EL, `CSI K`; ECMA-48 8.3.41).
     fn clear_line(&mut self, part: LineClearMode) {}
 
-    /// ED, `CSI J`: a part of the screen becomes blank, or the scrollback is cleared (ECMA-48
-    /// 8.3.39; xterm).
+    /// Blanks a part of the screen, or clears the scrollback (ED, `CSI J`; ECMA-48 8.3.39; xterm).
     fn clear_screen(&mut self, part: ClearMode) {}
 
-    /// DECALN, `ESC # 8`: fill the screen with `E` (DEC VT510).
+    /// Fills the screen with `E` (DECALN, `ESC # 8`; DEC VT510).
     fn decaln(&mut self) {}
 
     // ---- Appearance
 
-    /// SGR, `CSI m`: one attribute of the characters that follow; one call per attribute (ECMA-48
-    /// 8.3.117; xterm).
+    /// Sets one attribute of the characters that follow; one call per attribute (SGR, `CSI m`;
+    /// ECMA-48 8.3.117; xterm).
     fn terminal_attribute(&mut self, attribute: Attr) {}
 
-    /// OSC 4, 10, 11, 12: the colour of an index (xterm). 0 to 255 are the palette, 256 the
+    /// Sets the colour of an index (OSC 4, 10, 11, 12; xterm). 0 to 255 are the palette, 256 the
     /// foreground, 257 the background, 258 the cursor.
     fn set_color(&mut self, index: usize, color: Rgb) {}
 
-    /// OSC 104, 110, 111, 112: the colour of an index is reset to its first value (xterm). 0 to 255
+    /// Resets the colour of an index to its first value (OSC 104, 110, 111, 112; xterm). 0 to 255
     /// are the palette, 256 the foreground, 257 the background, 258 the cursor.
     fn reset_color(&mut self, index: usize) {}
 
-    /// OSC 4, 10, 11, 12 with `?`: report the colour of an index, 0 to 258 as those of `set_color`
-    /// (xterm). The answer is `ESC ]`, the prefix, `;`, the colour and the terminator: `4;7` or
+    /// Reports the colour of an index, 0 to 258 as those of `set_color` (OSC 4, 10, 11, 12 with
+    /// `?`; xterm). The answer is `ESC ]`, the prefix, `;`, the colour and the terminator: `4;7` or
     /// `11`, and BEL or `ESC \\` as the question ended.
     fn dynamic_color_sequence(
         &mut self,
         prefix: &str as String = prefix.into(), index: usize, terminator: &str) {}
 
-    /// OSC 8: the characters that follow are a link; `None` ends it (the hyperlinks proposal of VTE
-    /// and iTerm2).
+    /// Makes the characters that follow a link; `None` ends it (OSC 8; the hyperlinks proposal of
+    /// VTE and iTerm2).
     ///
     /// The URI is cut at its 14th `;`.
     /// Without the feature `std` it has at most 1,023 bytes, with the parameters
@@ -198,85 +202,85 @@ handlers! {
         link: Option<Hyperlink<'_>> as Option<Hyperlink>
             = link.map(|link| link.owned())) {}
 
-    /// DECSCUSR, `CSI Ps SP q`: the cursor's shape, and whether it blinks (DEC VT510; xterm).
+    /// Sets the cursor's shape, and whether it blinks (DECSCUSR, `CSI Ps SP q`; DEC VT510; xterm).
     /// `None`, for 0, is the terminal's own style.
     fn set_cursor_style(&mut self, style: Option<CursorStyle>) {}
 
-    /// OSC 50, `CursorShape=`: the cursor's shape alone (Konsole): block, beam or underline.
+    /// Sets the cursor's shape alone: block, beam or underline (OSC 50, `CursorShape=`; Konsole).
     fn set_cursor_shape(&mut self, shape: CursorShape) {}
 
-    /// OSC 22: the mouse pointer's shape (xterm; the keywords of CSS).
+    /// Sets the mouse pointer's shape (OSC 22; xterm; the keywords of CSS).
     fn set_mouse_cursor_icon(&mut self, icon: CursorIcon) {}
 
     // ---- Character sets and the direction of text
 
-    /// SI, 0F, and SO, 0E: characters come from the set G0 or G1 (ECMA-48 8.3.119, 8.3.126).
+    /// Takes characters from the set G0 or G1 (SI, 0F, and SO, 0E; ECMA-48 8.3.119, 8.3.126).
     fn set_active_charset(&mut self, index: CharsetIndex) {}
 
-    /// SCS, `ESC (`, `)`, `*` or `+` and then `B` or `0`: what the set G0, G1, G2 or G3 is
-    /// (ECMA-35; DEC VT510).
+    /// Chooses what the set G0, G1, G2 or G3 is (SCS, `ESC (`, `)`, `*` or `+` and then `B` or `0`;
+    /// ECMA-35; DEC VT510).
     fn configure_charset(&mut self, index: CharsetIndex, charset: StandardCharset) {}
 
-    /// SCP, `CSI Ps1 ; Ps2 SP k`: the direction of characters, and how what is shown follows it
-    /// (ECMA-48 8.3.111).
+    /// Sets the direction of characters, and how what is shown follows it (SCP,
+    /// `CSI Ps1 ; Ps2 SP k`; ECMA-48 8.3.111).
     fn set_scp(&mut self, path: ScpCharPath, update: ScpUpdateMode) {}
 
     // ---- Modes
 
-    /// SM, `CSI h`: a mode is set; one call per mode (ECMA-48 8.3.125).
+    /// Sets a mode; one call per mode (SM, `CSI h`; ECMA-48 8.3.125).
     fn set_mode(&mut self, mode: Mode) {}
 
-    /// RM, `CSI l`: a mode is reset; one call per mode (ECMA-48 8.3.106).
+    /// Resets a mode; one call per mode (RM, `CSI l`; ECMA-48 8.3.106).
     fn unset_mode(&mut self, mode: Mode) {}
 
-    /// DECRQM, `CSI Ps $ p`: report whether a mode is set (DEC VT510).
+    /// Reports whether a mode is set (DECRQM, `CSI Ps $ p`; DEC VT510).
     fn report_mode(&mut self, mode: Mode) {}
 
-    /// DECSET, `CSI ? h`: a private mode is set; one call per mode (xterm).
+    /// Sets a private mode; one call per mode (DECSET, `CSI ? h`; xterm).
     fn set_private_mode(&mut self, mode: PrivateMode) {}
 
-    /// DECRST, `CSI ? l`: a private mode is reset; one call per mode (xterm).
+    /// Resets a private mode; one call per mode (DECRST, `CSI ? l`; xterm).
     fn unset_private_mode(&mut self, mode: PrivateMode) {}
 
-    /// DECRQM, `CSI ? Ps $ p`: report whether a private mode is set (DEC VT510).
+    /// Reports whether a private mode is set (DECRQM, `CSI ? Ps $ p`; DEC VT510).
     fn report_private_mode(&mut self, mode: PrivateMode) {}
 
-    /// RIS, `ESC c`: reset everything to its state when the terminal was switched on (ECMA-48
+    /// Resets everything to its state when the terminal was switched on (RIS, `ESC c`; ECMA-48
     /// 8.3.105).
     fn reset_state(&mut self) {}
 
     // ---- Keyboard
 
-    /// DECKPAM, `ESC =`: the keypad's keys send sequences (DEC VT510).
+    /// Makes the keypad's keys send sequences (DECKPAM, `ESC =`; DEC VT510).
     fn set_keypad_application_mode(&mut self) {}
 
-    /// DECKPNM, `ESC >`: the keypad's keys send digits (DEC VT510).
+    /// Makes the keypad's keys send digits (DECKPNM, `ESC >`; DEC VT510).
     fn unset_keypad_application_mode(&mut self) {}
 
-    /// `CSI > u`: push these keyboard modes onto their stack, and set them (kitty's keyboard
+    /// Pushes these keyboard modes onto their stack, and sets them (`CSI > u`; kitty's keyboard
     /// protocol). All 32 values are possible.
     fn push_keyboard_mode(&mut self, mode: KeyboardModes) {}
 
-    /// `CSI < u`: pop this many keyboard modes off their stack, 1 to 65,535 (kitty's keyboard
+    /// Pops this many keyboard modes off their stack, 1 to 65,535 (`CSI < u`; kitty's keyboard
     /// protocol).
     fn pop_keyboard_modes(&mut self, count: u16) {}
 
-    /// `CSI = u`: replace the keyboard modes, add to them, or remove some (kitty's keyboard
+    /// Replaces the keyboard modes, adds to them, or removes some (`CSI = u`; kitty's keyboard
     /// protocol). All 32 values are possible.
     fn set_keyboard_mode(&mut self, mode: KeyboardModes, behavior: KeyboardModesApplyBehavior) {}
 
-    /// `CSI ? u`: report the keyboard modes that are set (kitty's keyboard protocol).
+    /// Reports the keyboard modes that are set (`CSI ? u`; kitty's keyboard protocol).
     fn report_keyboard_mode(&mut self) {}
 
-    /// XTMODKEYS, `CSI > 4 ; Pv m`: how modified keys are sent (xterm).
+    /// Sets how modified keys are sent (XTMODKEYS, `CSI > 4 ; Pv m`; xterm).
     fn set_modify_other_keys(&mut self, keys: ModifyOtherKeys) {}
 
-    /// XTQMODKEYS, `CSI ? 4 m`: report how modified keys are sent (xterm).
+    /// Reports how modified keys are sent (XTQMODKEYS, `CSI ? 4 m`; xterm).
     fn report_modify_other_keys(&mut self) {}
 
     // ---- Titles, clipboards and reports
 
-    /// OSC 0 and 2: the window's title (xterm). It may be empty.
+    /// Sets the window's title (OSC 0 and 2; xterm). It may be empty.
     /// Without the feature `std` it has at most 1,023 bytes.
     /// White space at both ends is trimmed. `None`, the terminal's own title, never arrives.
     ///
@@ -285,38 +289,38 @@ handlers! {
     fn set_title(
         &mut self, title: Option<&str> as Option<String> = title.map(Into::into)) {}
 
-    /// XTWINOPS 22, `CSI 22 t`: push the title onto a stack (xterm).
+    /// Pushes the title onto a stack (XTWINOPS 22, `CSI 22 t`; xterm).
     fn push_title(&mut self) {}
 
-    /// XTWINOPS 23, `CSI 23 t`: pop the title off the stack (xterm).
+    /// Pops the title off the stack (XTWINOPS 23, `CSI 23 t`; xterm).
     fn pop_title(&mut self) {}
 
-    /// OSC 52: store data in a clipboard (xterm). Its letter is the first byte of the selection, or
-    /// `c` if that is empty. The data are passed on as they came: they should be base64, and may be
-    /// anything.
+    /// Stores data in a clipboard (OSC 52; xterm). Its letter is the first byte of the selection,
+    /// or `c` if that is empty. The data are passed on as they came: they should be base64, and may
+    /// be anything.
     /// Without the feature `std` they have at most 1,022 bytes.
     ///
     /// The data end at their first `;`. A cancelled command makes this call too
     /// ([why](Handler#operating-system-commands)): they may be a part of what was to be stored.
     fn clipboard_store(&mut self, clipboard: u8, bytes: &[u8]) {}
 
-    /// OSC 52 with `?`: report what a clipboard holds, by its letter as in `clipboard_store`
-    /// (xterm). The answer ends with the terminator, BEL or `ESC \\` as the question did.
+    /// Reports what a clipboard holds, by its letter as in `clipboard_store` (OSC 52 with `?`;
+    /// xterm). The answer ends with the terminator, BEL or `ESC \\` as the question did.
     fn clipboard_load(&mut self, clipboard: u8, terminator: &str) {}
 
-    /// DSR, `CSI n`: a report by its number, up to 65,535. 5 asks for the status, 6 for the
-    /// cursor's position (ECMA-48 8.3.35).
+    /// Makes a report by its number, up to 65,535 (DSR, `CSI n`; ECMA-48 8.3.35). 5 asks for the
+    /// status, 6 for the cursor's position.
     fn device_status(&mut self, kind: usize) {}
 
-    /// DA, `CSI c` and `ESC Z`: report what terminal this is, by the intermediate: `None` for the
-    /// primary, `Some('>')` for the secondary, `Some('=')` for the tertiary attributes (ECMA-48
+    /// Reports what terminal this is, by the intermediate: `None` for the primary, `Some('>')` for
+    /// the secondary, `Some('=')` for the tertiary attributes (DA, `CSI c` and `ESC Z`; ECMA-48
     /// 8.3.24; DEC VT510; xterm).
     fn identify_terminal(&mut self, intermediate: Option<char>) {}
 
-    /// XTWINOPS 14, `CSI 14 t`: report the text area's size in pixels (xterm).
+    /// Reports the text area's size in pixels (XTWINOPS 14, `CSI 14 t`; xterm).
     fn text_area_size_pixels(&mut self) {}
 
-    /// XTWINOPS 18, `CSI 18 t`: report the text area's size in characters (xterm).
+    /// Reports the text area's size in characters (XTWINOPS 18, `CSI 18 t`; xterm).
     fn text_area_size_chars(&mut self) {}
 }
 
@@ -329,7 +333,7 @@ handlers! {
 /// How a text is cut into runs may change from version to version.
 #[doc = include_str!("../../docs/handler_text.md")]
 pub trait HandlerText: Handler {
-    /// Characters to show, at least one, in order. None is a control: neither U+0000..U+001F nor
+    /// Shows characters, at least one, in order. None is a control: neither U+0000..U+001F nor
     /// U+0080..U+009F.
     fn input_text(&mut self, text: &str);
 }

@@ -33,22 +33,22 @@ pub(crate) fn feed(
     bytes: &[u8],
     kinds: u32,
     stop_kinds: u32,
-    records: &mut [VteEvent],
-    area: &mut [u8],
+    events: &mut [VteEvent],
+    data_area: &mut [u8],
     counts: &mut VteCounts,
 ) -> usize {
     *counts = VteCounts {
         events: 0,
         bytes: 0,
     };
-    if records.len() < MIN_EVENTS || area.len() < MIN_DATA {
+    if events.len() < MIN_EVENTS || data_area.len() < MIN_DATA {
         return NO_ROOM;
     }
-    let (record_capacity, data_capacity) = (records.len(), area.len());
+    let (record_capacity, data_capacity) = (events.len(), data_area.len());
     // Records have 32 bits for positions in the input.
     let end = bytes.len().min(u32::MAX as usize);
     let bytes = &bytes[..end];
-    let mut writer = EventWriter::new(records, area, kinds, stop_kinds);
+    let mut writer = EventWriter::new(events, data_area, kinds, stop_kinds);
     let read = read_into(parser, bytes, &mut writer);
     *counts = VteCounts {
         events: writer.record_count().min(record_capacity),

@@ -29,20 +29,20 @@ const EVENT_SIZE: usize = size_of::<VteEvent>();
 /// Text is in runs, and so is the data of device control strings: a record says where a run is in
 /// the bytes, or in the data area.
 ///
-/// It stops early when the buffers are nearly full, and after an event of the kinds `stops`, which
-/// at most one more event follows. Call it again with the rest. If there is room for fewer than
-/// `vte_min_events` events or `vte_min_data` data bytes, it reads nothing and returns
+/// It stops early when the buffers are nearly full, and after an event of the kinds `stop_kinds`,
+/// which at most one more event follows. Call it again with the rest. If there is room for fewer
+/// than `vte_min_events` events or `vte_min_data` data bytes, it reads nothing and returns
 /// `usize::MAX`.
 pub fn vte_feed(
     parser: &mut Saved,
     bytes: &[u8],
     kinds: u32,
-    stops: u32,
+    stop_kinds: u32,
     events: &mut [VteEvent],
-    area: &mut [u8],
+    data_area: &mut [u8],
     counts: &mut VteCounts,
 ) -> usize {
-    feed::feed(parser, bytes, kinds, stops, events, area, counts)
+    feed::feed(parser, bytes, kinds, stop_kinds, events, data_area, counts)
 }
 
 /// Reads bytes, and writes the text that is left without the sequences. Returns how many bytes were

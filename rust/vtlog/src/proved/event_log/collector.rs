@@ -3,14 +3,14 @@
 
 use vte::Parser;
 
-/// The parser of a run, with the usual room for operating system commands.
-pub(crate) type RunParser = Parser<1024>;
+/// The parser of a log, with the usual room for operating system commands.
+pub(crate) type LogParser = Parser<1024>;
 
 /// Collects a text for each event.
 pub(crate) trait Collector {
     /// Parses bytes and collects their text until it is time to write it. Nothing is lost. Returns
     /// the unread bytes.
-    fn collect<'a>(&mut self, parser: &mut RunParser, bytes: &'a [u8]) -> &'a [u8];
+    fn collect<'a>(&mut self, parser: &mut LogParser, bytes: &'a [u8]) -> &'a [u8];
 
     /// Returns the collected text.
     fn collected_text(&self) -> &[u8];

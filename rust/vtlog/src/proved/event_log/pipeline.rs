@@ -1,7 +1,7 @@
 // Written by tools/erase from crates/event_log/src/pipeline.rt: edit that one.
-//! Runs from a reader to a writer.
+//! Logs from a reader to a writer.
 
-use crate::proved::event_log::collector::{Collector, RunParser};
+use crate::proved::event_log::collector::{Collector, LogParser};
 use crate::proved::event_log::device::{Sink, Source};
 use crate::proved::event_log::fault::Fault;
 use crate::proved::event_log::plain::Plain;
@@ -36,7 +36,7 @@ fn run_with<C: Collector, R: Source, W: Sink>(
     reader: &mut R,
     writer: &mut W,
 ) -> Result<(), Fault> {
-    let mut parser = RunParser::new();
+    let mut parser = LogParser::new();
     let mut buffer = [0; CHUNK_SIZE];
     for _ in 0..u64::MAX {
         let count = match reader.read(&mut buffer) {
@@ -55,32 +55,32 @@ fn run_with<C: Collector, R: Source, W: Sink>(
 
 /// Parses a chunk, and writes and flushes what the collector collects.
 fn write_chunk<C: Collector, W: Sink>(
-    parser: &mut RunParser,
+    parser: &mut LogParser,
     collector: &mut C,
     writer: &mut W,
     chunk: &[u8],
 ) -> Result<(), ()> {
     let mut unread = chunk;
     while !unread.is_empty() {
-        unread = write_some(parser, collector, writer, unread)?;
+        unread = parse_and_write(parser, collector, writer, unread)?;
     }
     writer.flush()
 }
 
 /// Parses until it is time to write, and writes what the collector holds. Returns the unread bytes.
-fn write_some<'a, C: Collector, W: Sink>(
-    parser: &mut RunParser,
+fn parse_and_write<'a, C: Collector, W: Sink>(
+    parser: &mut LogParser,
     collector: &mut C,
     writer: &mut W,
     bytes: &'a [u8],
 ) -> Result<&'a [u8], ()> {
     let unread = collector.collect(parser, bytes);
-    write_out(collector, writer)?;
+    write_collected(collector, writer)?;
     Ok(unread)
 }
 
 /// Writes and clears the collected text.
-fn write_out<C: Collector, W: Sink>(collector: &mut C, writer: &mut W) -> Result<(), ()> {
+fn write_collected<C: Collector, W: Sink>(collector: &mut C, writer: &mut W) -> Result<(), ()> {
     writer.write_all(collector.collected_text())?;
     collector.clear();
     Ok(())

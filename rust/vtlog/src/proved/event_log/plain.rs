@@ -1,7 +1,7 @@
 // Written by tools/erase from crates/event_log/src/plain.rt: edit that one.
 //! The performer that keeps only text.
 
-use crate::proved::event_log::collector::{Collector, RunParser};
+use crate::proved::event_log::collector::{Collector, LogParser};
 use crate::proved::event_log::lines::Lines;
 use vte::{Params, Perform, PerformText};
 
@@ -100,7 +100,7 @@ impl PerformText for Plain {
 
 impl Collector for Plain {
     // The text of a chunk fits whatever its bytes are, so no character needs a stop.
-    fn collect<'a>(&mut self, parser: &mut RunParser, bytes: &'a [u8]) -> &'a [u8] {
+    fn collect<'a>(&mut self, parser: &mut LogParser, bytes: &'a [u8]) -> &'a [u8] {
         let mut unread = bytes;
         while !unread.is_empty() && !self.terminated() {
             let size = self.texts.remaining_capacity() / MAX_TEXT_PER_BYTE;

@@ -1,7 +1,7 @@
 // Written by tools/erase from crates/event_log/src/recorder.rt: edit that one.
 //! The performer that writes lines.
 
-use crate::proved::event_log::collector::{Collector, RunParser};
+use crate::proved::event_log::collector::{Collector, LogParser};
 use crate::proved::event_log::lines::{line_of_execute, line_of_put, Lines};
 use vte::{Params, Perform};
 
@@ -103,7 +103,7 @@ impl Perform for Recorder {
 }
 
 impl Collector for Recorder {
-    fn collect<'a>(&mut self, parser: &mut RunParser, bytes: &'a [u8]) -> &'a [u8] {
+    fn collect<'a>(&mut self, parser: &mut LogParser, bytes: &'a [u8]) -> &'a [u8] {
         let read = parser.advance_until_terminated(self, bytes);
         &bytes[read..]
     }

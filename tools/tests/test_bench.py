@@ -85,8 +85,9 @@ def test_each_option_of_run_changes_one_thing(monkeypatch, words, changes):
 
     def make_programs(folder, placements):
         found["placements"] = placements
-        return SimpleNamespace(build=lambda _: None, write_stream=lambda _, size: sizes.append(size),
-                               build_commands=lambda _: {"ours_best": [["ours"]]})
+        return SimpleNamespace(build=lambda _: None,
+                               build_commands=lambda _: {"ours_best": [["ours"]]},
+                               write_stream=lambda _, size: sizes.append(size))
 
     monkeypatch.setattr(measuring, "Programs", make_programs)
     monkeypatch.setattr(measuring, "compare_checksums", lambda *_: None)

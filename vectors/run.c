@@ -17,7 +17,7 @@ typedef struct {
     size_t length, room;
 } Text;
 
-static Text row, wanted, got, shown, stream;
+static Text vector_line, wanted, got, shown, stream;
 static char id[200];
 
 static void fail(const char *message) {
@@ -95,11 +95,11 @@ static const char *write_value(Text *to, const char *at, const char *end) {
 }
 
 static void give(size_t from, size_t to) {
+    if (shown.length > 0) add(&shown, " ", 1);
     for (size_t i = from; i < to; i++) {
         char hex[3];
         add(&shown, hex, (size_t)sprintf(hex, "%02x", (unsigned char)stream.text[i]));
     }
-    add(&shown, " ", 1);
     parse((unsigned char *)stream.text + from, to - from);
 }
 
@@ -126,47 +126,90 @@ static int answers(const char *chunk, int way) {
 }
 
 static void crashed(int number) {
-    printf("wrong: %s: signal %d\n", id, number);
+    printf("%s: signal %d\n", id, number);
     fflush(stdout);
     _Exit(1);
 }
 
-static int read_row(void) {
-    row.length = 0;
-    add(&row, "", 0);
+static int read_vector_line(void) {
+    vector_line.length = 0;
+    add(&vector_line, "", 0);
     for (int byte = getchar(); byte != '\n'; byte = getchar()) {
         if (byte == EOF) return 0;
-        add(&row, &(char){(char)byte}, 1);
+        add(&vector_line, &(char){(char)byte}, 1);
+    }
+    return 1;
+}
+
+// Whether a line is none of the vectors to try, or has one of the words. The file keeps this order
+// of keys and this spacing: words stand from its level to its limit, the strongest level after.
+static int is_left_out(char **words) {
+    static const char level_key[] = "\"kind\": \"events\", \"level\": ";
+    static const char limit_key[] = "\"limit\": 1024, \"chunks\": ", strongest[] = "strongest=";
+    const char *level = strstr(vector_line.text, level_key);
+    const char *limit = strstr(vector_line.text, limit_key);
+    if (level == NULL || limit == NULL) return 1;
+    for (; *words != NULL; words++) {
+        char quoted[100];
+        int is_strongest = strncmp(*words, strongest, strlen(strongest)) == 0;
+        if (is_strongest)
+            snprintf(quoted, sizeof quoted, "\"strongest\": \"%s\"", *words + strlen(strongest));
+        else
+            snprintf(quoted, sizeof quoted, "\"%s\"", *words);
+        const char *found = strstr(is_strongest ? limit : level, quoted);
+        if (found != NULL && (is_strongest || found < limit)) return 1;
+    }
+    return 0;
+}
+
+// The value of a key, which stands in each vector that isn't left out.
+static const char *value_of(const char *key) {
+    return strstr(vector_line.text, key) + strlen(key);
+}
+
+static void print_lines(const Text *lines) {
+    putchar('"');
+    for (size_t i = 0; i < lines->length && i < 300; i++) {
+        if (lines->text[i] == '\n') printf("\\n");
+        else putchar(lines->text[i]);
+    }
+    putchar('"');
+}
+
+// ID: CHUNKS gives LINES, not LINES (LEVEL: RULES)
+static void report(void) {
+    const char *level = value_of("\"level\": \"");
+    Text rules = {0};
+    add(&rules, "", 0), add(&shown, "", 0);
+    write_value(&rules, value_of("\"rules\": "), ", ");
+    printf("%s: %.300s gives ", id, shown.text);
+    print_lines(&got), printf(", not "), print_lines(&wanted);
+    int length = rules.length > 0 ? (int)rules.length - 2 : 0;
+    printf(" (%.*s: %.*s)\n", (int)strcspn(level, "\""), level, length, rules.text);
+    free(rules.text);
+}
+
+// Returns whether a vector is right in each way, and prints the first in which it is wrong.
+static int try_vector(void) {
+    sscanf(vector_line.text, "{\"id\": \"%199[^\"]", id);
+    wanted.length = 0;
+    write_value(&wanted, value_of("\"events\": "), "\n");
+    for (int way = 0; way < 3; way++) {
+        if (answers(value_of("\"chunks\": "), way)) continue;
+        report();
+        return 0;
     }
     return 1;
 }
 
 int main(int count, char **words) {
     int wrong = 0, tried = 0;
+    (void)count;
     signal(SIGSEGV, crashed), signal(SIGABRT, crashed), signal(SIGILL, crashed);
-    while (read_row()) {
-        char *limit = strstr(row.text, "\"limit\": 1024, \"chunks\": "), word[100];
-        if (limit == NULL || strstr(row.text, "\"kind\": \"events\"") == NULL) continue;
-        if (sscanf(row.text, "{\"id\": \"%199[^\"]", id) != 1) continue;
-        int left_out = 0;
-        for (int i = 1; i < count; i++) {
-            int of_strongest = strncmp(words[i], "strongest=", 10) == 0;
-            snprintf(word, sizeof word, of_strongest ? "\"strongest\": \"%s\"" : "\"%s\"",
-                     words[i] + 10 * of_strongest);
-            char *found = strstr(row.text, word);
-            left_out |= found != NULL && (found < limit || of_strongest);
-        }
-        if (left_out) continue;
-        wanted.length = 0;
-        write_value(&wanted, strstr(limit, "\"events\": ") + strlen("\"events\": "), "\n");
+    while (read_vector_line()) {
+        if (is_left_out(words + 1)) continue;
         tried++;
-        for (int way = 0; way < 3; way++) {
-            if (answers(strchr(limit, '['), way)) continue;
-            add(&got, "", 0), add(&wanted, "", 0), wrong++;
-            printf("wrong: %s: %.300s\n", id, shown.text);
-            printf("gives\n%.300s\nnot\n%.300s\n", got.text, wanted.text);
-            break;
-        }
+        wrong += !try_vector();
     }
     printf("%d of %d wrong\n", wrong, tried);
     return wrong > 0 || tried == 0;

@@ -31,25 +31,37 @@ def answer(chunks):
         return repr(error)
 
 
-file = json.loads((Path(__file__).parent / "events.json").read_text())
-wrong = tried = 0
-for vector in file["vectors"] + file["long"]:
-    if vector["kind"] != "events":
-        continue
-    words = {vector["level"], f"strongest={vector['strongest']}", *vector["rules"],
-             *vector["house"]}
-    if vector["limit"] != 1024 or words & set(sys.argv[1:]):
-        continue
+def is_left_out(vector, words):
+    """Whether a vector is none of those to try, or has one of the words."""
+    if vector["kind"] != "events" or vector["limit"] != 1024:
+        return True
+    own = {vector["level"], f"strongest={vector['strongest']}", *vector["rules"], *vector["house"]}
+    return not own.isdisjoint(words)
+
+
+def try_vector(vector):
+    """Returns whether a vector is right in each way, and prints the first in which it is wrong."""
     chunks = [bytes.fromhex(written_out(chunk)) for chunk in vector["chunks"]]
     stream, wanted = b"".join(chunks), written_out(vector["events"], "\n")
-    tried += 1
     for cut in chunks, [stream], [bytes([byte]) for byte in stream]:
         got = answer(cut)
         if got != wanted:
-            wrong += 1
-            shown = str([chunk.hex() for chunk in cut])
-            print(f"{vector['id']}: {shown[:300]} gives {got[:300]!r}, not {wanted[:300]!r} "
+            shown = " ".join(chunk.hex() for chunk in cut)
+            print(f"{vector['id']}: {shown[:300]} gives {json.dumps(got[:300])}, "
+                  f"not {json.dumps(wanted[:300])} "
                   f"({vector['level']}: {', '.join(vector['rules'])})")
-            break
-print(f"{wrong} of {tried} wrong")
-sys.exit(wrong > 0 or not tried)
+            return False
+    return True
+
+
+def main():
+    file = json.loads((Path(__file__).parent / "events.json").read_text())
+    tried = [vector for vector in file["vectors"] + file["long"]
+             if not is_left_out(vector, sys.argv[1:])]
+    wrong = sum(not try_vector(vector) for vector in tried)
+    print(f"{wrong} of {len(tried)} wrong")
+    return wrong > 0 or not tried
+
+
+if __name__ == "__main__":
+    sys.exit(main())

@@ -120,17 +120,18 @@ def test_a_call_reads_less_than_4_gib(library):
     assert parser.feed(zeros)[0] == 2 ** 32 - 1
 
 
-CALLS = (b"a\a\b\t\r\n\x1b[1;2H\x1b[31mb\x1b]2;t\a\x1b[18t\x1b[?25lc",
-         "input bell backspace put_tab carriage_return linefeed go_to terminal_attribute input "
-         "set_title text_area_size_chars unset_private_mode input".split())
+PROCESSOR_CALLS = (
+    b"a\a\b\t\r\n\x1b[1;2H\x1b[31mb\x1b]2;t\a\x1b[18t\x1b[?25lc",
+    "input bell backspace put_tab carriage_return linefeed go_to terminal_attribute input "
+    "set_title text_area_size_chars unset_private_mode input".split())
 
 
 @pytest.mark.parametrize("count", [0, 1, 3, len(FUNCTIONS), len(FUNCTIONS) + 3])
 def test_a_table_may_be_of_another_version(cargo_build, count):
     """A table may be that of an earlier version or a later one. A part of a function is none."""
     processor, known = Processor(cargo_build, 8 * count), [name for name, _ in FUNCTIONS[:count]]
-    assert processor.advance(CALLS[0]) == (OK, len(CALLS[0]))
-    assert processor.made == [name for name in CALLS[1] if name in known]
+    assert processor.advance(PROCESSOR_CALLS[0]) == (OK, len(PROCESSOR_CALLS[0]))
+    assert processor.made == [name for name in PROCESSOR_CALLS[1] if name in known]
     assert processor.call("free") == OK
     assert not any(Processor(cargo_build, 8 * count + part).pointer for part in range(1, 8))
 

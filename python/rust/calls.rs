@@ -60,7 +60,7 @@ impl TakeText for Tape {
 }
 
 fields! {
-    Kind: kind => Value::with_class(Tag::Object, kind, 0);
+    Kind: kind => Value::with_kind(Tag::Object, kind, 0);
     // the letter of a clipboard
     u8: byte => char::from(byte);
     u16: number => Value::new(Tag::Number, number.into());
@@ -79,7 +79,7 @@ fields! {
 /// Says for enumerations of which classes their members are, which have numbers.
 macro_rules! members {
     ($($type:ident $kind:ident;)+) => {
-        fields! { $($type: member => Value::with_class(Tag::Member, Kind::$kind, member as i64);)+ }
+        fields! { $($type: member => Value::with_kind(Tag::Member, Kind::$kind, member as i64);)+ }
     };
 }
 

@@ -93,7 +93,7 @@ impl Recorder {
     #[inline]
     fn add(&mut self, kind: Kind, number: u8) {
         if let Some(tape) = self.begin(kind) {
-            tape.add(Value::with_class(Tag::Member, kind, number.into()));
+            tape.add(Value::with_kind(Tag::Member, kind, number.into()));
         }
     }
 }

@@ -78,18 +78,18 @@ impl<const N: usize> CacheTable<N> {
 }
 
 /// How many bytes of content a run has at most that is cached: those of a word of a key.
-const SHORT: i64 = u64::BITS as i64 / 8;
+const MAX_CACHED_LENGTH: i64 = u64::BITS as i64 / 8;
 /// What a key's hash is multiplied by at each word, so that all words decide the highest bits: the
 /// odd number next to 2^64 / π.
 const FACTOR: u64 = 0x517C_C1B7_2722_0A95;
 /// The sizes of keys: few objects have more than three values.
-const SMALL: usize = 3;
-const LARGE: usize = 6;
+const SMALL_KEY_SIZE: usize = 3;
+const LARGE_KEY_SIZE: usize = 6;
 
 /// Objects that were made, since programs send few different ones.
 pub struct ObjectCache {
-    small: CacheTable<SMALL>,
-    large: CacheTable<LARGE>,
+    small: CacheTable<SMALL_KEY_SIZE>,
+    large: CacheTable<LARGE_KEY_SIZE>,
 }
 
 /// The cache of all tapes. It is taken out while objects are made.
@@ -161,9 +161,9 @@ impl<'a, 'py> Maker<'a, 'py> {
     /// A text or data.
     #[inline(always)]
     fn find_or_make_run(&mut self, first: Value, cache: &mut ObjectCache) -> MaybeObject {
-        let (py, (kind, length)) = (self.py, first.class_and_field());
+        let (py, (kind, length)) = (self.py, first.kind_and_field());
         self.values = &self.values[1..];
-        if length > SHORT {
+        if length > MAX_CACHED_LENGTH {
             return self.make_run(kind, length as usize);
         }
         let bytes = self.content[..length as usize].iter();
@@ -190,9 +190,9 @@ impl<'a, 'py> Maker<'a, 'py> {
         let small = match count {
             1 => [value(0), 0, 0],
             2 => [value(0), value(1), 0],
-            SMALL => [value(0), value(1), value(2)],
-            _ if count <= LARGE => {
-                let mut key = [0; LARGE];
+            SMALL_KEY_SIZE => [value(0), value(1), value(2)],
+            _ if count <= LARGE_KEY_SIZE => {
+                let mut key = [0; LARGE_KEY_SIZE];
                 for (index, word) in key[..count].iter_mut().enumerate() {
                     *word = value(index);
                 }
@@ -229,7 +229,7 @@ impl<'a, 'py> Maker<'a, 'py> {
         let py = self.py;
         let value = self.values[0];
         self.values = &self.values[1..];
-        let ((tag, number), (kind, field)) = (value.tag_and_number(), value.class_and_field());
+        let ((tag, number), (kind, field)) = (value.tag_and_number(), value.kind_and_field());
         match tag {
             Tag::Nothing => Some(py.None()),
             Tag::Flag => Some((number != 0).into_py(py)),

@@ -27,11 +27,11 @@ pub fn fetch_error_unless(py: Python<'_>, made: MaybeObject) -> PyResult<PyObjec
 
 /// From how many bytes on other threads may run meanwhile. Below, a release costs more than it
 /// gives: beside a busy thread it takes up to 5 ms to get the interpreter's lock again.
-pub const LONG: usize = 1 << 17;
+pub const MIN_LENGTH_WITHOUT_LOCK: usize = 1 << 17;
 
 /// Runs what needs no object, without the interpreter's lock if there is much to read.
 pub fn run<T: Send>(py: Python<'_>, length: usize, read: impl FnOnce() -> T + Send) -> T {
-    match length < LONG {
+    match length < MIN_LENGTH_WITHOUT_LOCK {
         true => read(),
         false => py.allow_threads(read),
     }

@@ -1,6 +1,6 @@
 //! How streams are read.
 
-use crate::objects::{make_memory_error, run, MaybeObject, LONG};
+use crate::objects::{make_memory_error, run, MaybeObject, MIN_LENGTH_WITHOUT_LOCK};
 use crate::refusal::Refusal;
 use crate::tape::Tape;
 use pyo3::prelude::*;
@@ -61,7 +61,7 @@ where
 /// Reads until objects are to be made. Returns how much was read, and whether memory was refused.
 fn read_some(reader: &mut impl ReadStream, source: &[u8]) -> (usize, bool) {
     let mut position = 0;
-    let max_count = if source.len() >= LONG {
+    let max_count = if source.len() >= MIN_LENGTH_WITHOUT_LOCK {
         MAX_COUNT_WITHOUT_LOCK
     } else {
         MAX_COUNT

@@ -7,7 +7,7 @@
 //! ```text
 //!  63                  13 12         5    4     3     0
 //! +----------------------+------------+-------+--------+
-//! |        field         |   class    | first |  tag   |   Sequence, Object, Member, Run
+//! |        field         |    kind    | first |  tag   |   Sequence, Object, Member, Run
 //! +----------------------+------------+-------+--------+
 //! |              number               | first |  tag   |   the other tags
 //! +-----------------------------------+-------+--------+
@@ -65,7 +65,7 @@ const TAG: i64 = 15;
 const FIRST: i64 = 16;
 /// The bit at which the number begins.
 pub const NUMBER_START: u32 = 5;
-const CLASS_BITS: u32 = 8;
+const KIND_BITS: u32 = 8;
 
 pub const NUMBERS_PER_VALUE: usize = 3;
 pub const NUMBER_BITS: u32 = 17;
@@ -81,8 +81,8 @@ impl Value {
     }
 
     #[inline]
-    pub fn with_class(tag: Tag, kind: Kind, field: i64) -> Self {
-        Value::new(tag, field << CLASS_BITS | kind as i64)
+    pub fn with_kind(tag: Tag, kind: Kind, field: i64) -> Self {
+        Value::new(tag, field << KIND_BITS | kind as i64)
     }
 
     #[inline]
@@ -103,14 +103,14 @@ impl Value {
     /// Adds to the field.
     #[inline]
     fn lengthen(&mut self, more: i64) {
-        self.0 += more << CLASS_BITS << NUMBER_START;
+        self.0 += more << KIND_BITS << NUMBER_START;
     }
 
     #[inline]
-    pub fn class_and_field(self) -> (usize, i64) {
+    pub fn kind_and_field(self) -> (usize, i64) {
         let number = self.0 >> NUMBER_START;
-        let class = number & ((1 << CLASS_BITS) - 1);
-        (class as usize, number >> CLASS_BITS)
+        let kind = number & ((1 << KIND_BITS) - 1);
+        (kind as usize, number >> KIND_BITS)
     }
 }
 
@@ -217,8 +217,8 @@ pub struct Tape {
 impl Tape {
     /// The most values or bytes for each byte that is read, and for what was open before. More are
     /// added by OSC 104 and by REP alone.
-    const PER_BYTE: usize = 3;
-    const BEFORE: usize = 128;
+    const MAX_PER_BYTE: usize = 3;
+    const MAX_OPEN: usize = 128;
 
     /// How many values are recorded.
     pub fn count(&self) -> usize {
@@ -232,7 +232,7 @@ impl Tape {
 
     /// Takes memory for what bytes add, and the command that they may end.
     pub fn reserve(&mut self, bytes: usize, command: usize) -> Result<(), Refused> {
-        let added = Self::PER_BYTE * bytes + Self::BEFORE;
+        let added = Self::MAX_PER_BYTE * bytes + Self::MAX_OPEN;
         let values = self.values.try_reserve(added);
         values
             .and_then(|()| self.content.try_reserve(added + command))
@@ -242,7 +242,7 @@ impl Tape {
     /// Begins an object. Its fields are to follow.
     #[inline]
     pub fn begin(&mut self, kind: Kind) -> &mut Self {
-        self.add(Value::with_class(Tag::Object, kind, 0))
+        self.add(Value::with_kind(Tag::Object, kind, 0))
     }
 
     /// Adds an object, or its first value.
@@ -256,7 +256,7 @@ impl Tape {
     #[inline]
     pub fn add_head(&mut self, kind: Kind, count: usize, rest: (&[u8], bool, char)) -> &mut Self {
         let head = Head::new(count, rest.0, rest.1, rest.2);
-        self.add(Value::with_class(Tag::Sequence, kind, head.pack()))
+        self.add(Value::with_kind(Tag::Sequence, kind, head.pack()))
     }
 
     /// Adds the numbers of a sequence.
@@ -292,7 +292,7 @@ impl Tape {
         match self.values.last_mut() {
             Some(last) if self.is_open => last.lengthen(run.len() as i64),
             _ => {
-                self.add(Value::with_class(Tag::Run, kind, run.len() as i64));
+                self.add(Value::with_kind(Tag::Run, kind, run.len() as i64));
                 self.is_open = true;
             }
         }

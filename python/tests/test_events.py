@@ -48,7 +48,7 @@ MANY = {
 
 
 @pytest.mark.parametrize("stream, wanted", MANY.values(), ids=MANY)
-def test_many_events(make, stream, wanted):
+def test_no_event_of_many_is_lost(make, stream, wanted):
     # what differs in long lists takes minutes to show
     assert (make().feed(stream) == wanted) is True
 
@@ -105,7 +105,7 @@ def test_each_string_has_its_own_data(make):
     assert parser.feed(b"\x18" + strings, {Put}) == [Put(byte) for byte in b"abcdefg"]
 
 
-def test_stops(make):
+def test_a_call_ends_after_an_event_that_stops(make):
     parser, end = make(), STREAM.index(b"\x07") + 1
     assert parser.feed_until(STREAM, {Osc}) == (EVENTS[:-1], end)
     assert parser.feed_until(STREAM[end:], {Osc}) == (EVENTS[-1:], 5)
@@ -123,7 +123,7 @@ def test_what_stops_need_not_be_wanted(make, kinds):
 
 
 @pytest.mark.parametrize("kind", [*typing.get_args(vte.Event), *calls.KINDS])
-def test_equality_and_copies(kind):
+def test_an_event_equals_its_copies_and_none_of_another_kind(kind):
     one, other = kind(*range(len(kind._fields))), (Put if kind is Execute else Execute)(0)
     assert (one == tuple(one), one != tuple(one), bool(one)) == (False, True, True)
     assert one != other and not one == other
@@ -153,7 +153,7 @@ BUFFERS = {
 
 
 @pytest.mark.parametrize("data, wanted", BUFFERS.values(), ids=BUFFERS)
-def test_any_object_with_a_buffer(data, wanted):
+def test_any_object_with_a_buffer_is_read(data, wanted):
     for parser in make_parsers():
         made = parser.feed(data)
         assert made == wanted and {*made} == {*wanted}
@@ -171,20 +171,21 @@ WRONG = [("feed", 1), ("feed", "a"), ("feed", b"x", Osc, Osc), ("feed_until", b"
 @pytest.mark.parametrize("make_any, read", READERS)
 @pytest.mark.parametrize("at", range(0, len(STREAM), 3))
 def test_errors_leave_the_stream(make_any, read, at):
-    read, other = getattr(make_any(), read), getattr(make_any(), read)
-    made, wanted = read(STREAM[:at]), other(STREAM[:at]) + other(STREAM[at:])
+    reader = make_any()
+    method, other = getattr(reader, read), getattr(make_any(), read)
+    made, wanted = method(STREAM[:at]), other(STREAM[:at]) + other(STREAM[at:])
     for name, *words in WRONG:
-        if function := getattr(read.__self__, name, None):
+        if function := getattr(reader, name, None):
             with pytest.raises((TypeError, ValueError)):
                 function(*words)
     # nor is there a state to be set by what wasn't pickled
-    assert not hasattr(read.__self__, "__setstate__")
-    assert made + read(STREAM[at:]) == wanted
+    assert not hasattr(reader, "__setstate__")
+    assert made + method(STREAM[at:]) == wanted
 
 
 @pytest.mark.parametrize("copied", [
     copy.copy, copy.deepcopy, lambda reader: pickle.loads(pickle.dumps(reader))])
-def test_copies(copied):
+def test_a_copy_goes_on_as_its_original(copied):
     for at in range(len(STREAM) + 1):
         parser, stripper = OwnParser(limit=1024), Slots("surrogateescape")
         parser.name, stripper.name, stripper.more = ["a"], "b", 5
@@ -202,7 +203,7 @@ def test_copies(copied):
 
 @pytest.mark.parametrize("make, word, read", [
     (vte.Parser, 1024, "feed"), (vte.Stripper, "replace", "strip")])
-def test_states_of_other_versions(make, word, read):
+def test_states_of_other_versions_are_refused(make, word, read):
     _, (version, content), *_ = make(word).__getnewargs__()
     for state in (0, b""), ("0.0.0", content), (version, content[1:]), (version, content, 1):
         with pytest.raises(ValueError, match="pickled with another version of the package"):

@@ -28,7 +28,7 @@ NAMES |= {f"{name}.{of}": part for name, value in NAMES.items()
           for of, part in vars(value).items() if of[0] != "_"}
 
 
-def test_public_names():
+def test_public_names_are_listed_and_documented():
     modules = {name for name, value in vars(vte).items() if isinstance(value, type(vte))}
     assert set(vte.__all__) == {name for name in vars(vte) if name[0] != "_"} - modules | {"calls"}
     of = {getattr(vte, name).__module__ for name in set(vte.__all__) - {"calls", "Event"}}
@@ -118,7 +118,7 @@ def test_no_attribute_can_be_set(make, name):
     (ValueError, "stops can't have vte.Text or vte.Data", parser.feed_until, [b"", [Text]]),
     (UnicodeEncodeError, "surrogates not allowed", vte.strip, ["\ud800", "surrogateescape"]),
     (ValueError, "errors must be 'replace' or 'surrogateescape', not", vte.strip, [b"", "ignore"])])
-def test_wrong_arguments(error, message, function, words):
+def test_a_wrong_argument_is_an_error(error, message, function, words):
     with pytest.raises(error, match=message):
         function(*words)
 

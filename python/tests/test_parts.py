@@ -67,7 +67,7 @@ def test_text_may_be_cut_where_no_character_is_open():
             assert stream[at - 1] >= 0x80
 
 
-def test_sources(tmp_path):
+def test_any_source_has_the_same_parts(tmp_path):
     class OneByOne(io.BytesIO):
         def readinto(self, room):
             return super().readinto(memoryview(room)[:1])
@@ -107,7 +107,7 @@ def test_only_bytes_near_the_cuts_are_read(distance):
     assert len([*parts]) == 2
 
 
-def test_bad_sources(tmp_path):
+def test_a_bad_source_is_an_error(tmp_path):
     class Shrinking(io.BytesIO):
         def seek(self, at, whence=0):
             return super().seek(at, whence) + (1000 if whence else 0)
@@ -121,7 +121,7 @@ def test_bad_sources(tmp_path):
     os.close(reader), os.close(writer)
 
 
-def test_example(tmp_path):
+def test_the_example_writes_the_text(tmp_path):
     path = tmp_path / "stream"
     for stream in STREAM, b"", b"text \x1b[1m\xc3" * 1_000_000:
         path.write_bytes(stream)

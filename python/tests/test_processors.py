@@ -22,13 +22,13 @@ CALLS = [
     calls.DynamicColorSequence(prefix="4;9", index=9, terminator="\x07")]
 
 
-def test_calls():
+def test_each_call_has_its_fields():
     processor = vte.Processor()
     assert (processor.feed(STREAM), processor.feed(b"")) == (CALLS, [])
     assert repr(CALLS[2]) == "TerminalAttribute(attribute=Bold, color=None)"
 
 
-def test_updates():
+def test_an_update_is_held_until_it_is_stopped():
     processor, now = vte.Processor(), time.monotonic()
     assert (processor.sync_bytes_count, processor.sync_timeout) == (0, None)
     assert processor.feed(b"\x1b[?2026hab") == [calls.SetPrivateMode(2026)]
@@ -58,13 +58,13 @@ screen, processor = Screen(), vte.Processor()
     (b"\x1b[99;99Hlm", 23, 0, "m"), (b"", 22, 79, "l"), (b"\x1b[99A\x1b[99Dn", 0, 0, "n"),
     (b"\x1b[99B\x1b[99Co", 23, 79, "o"), (b"\x1b[3;1Hpqr\x1b[1D\x1b[1K", 2, 1, " "),
     (b"\x1b[3;1Hpqr\x08\x1b[K", 2, 1, "q"), (b"\x1b[2J", 23, 79, " ")])
-def test_cells(stream, row, column, character):
+def test_a_screen_has_what_calls_put_there(stream, row, column, character):
     for call in processor.feed(stream):
         screen.take(call)
     assert screen.lines[row][column] == character
 
 
-def test_screen():
+def test_the_example_shows_a_screen():
     # an update that doesn't end is shown, too
     stream = b"\x1b[2;3Ha\x1b[?2026h\r\nb"
     said = subprocess.check_output([sys.executable, EXAMPLES / "screen.py"], input=stream)

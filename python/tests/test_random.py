@@ -29,7 +29,7 @@ often = settings(deadline=None, max_examples=150, derandomize="SAME_STREAMS" in 
 
 @often
 @given(strategies.lists(strategies.tuples(chunks, some_kinds), max_size=5))
-def test_kinds(stream):
+def test_unwanted_kinds_are_left_out(stream):
     for parser, other in zip(make_parsers(), make_parsers()):
         for chunk, kinds in stream:
             found, everything = parser.feed(chunk, kinds), other.feed(chunk)
@@ -42,7 +42,7 @@ def test_kinds(stream):
 
 @often
 @given(streams, strategies.sets(strategies.sampled_from(ENDS), min_size=1), some_kinds)
-def test_chunks_and_stops(stream, stops, kinds):
+def test_chunks_and_stops_change_no_event(stream, stops, kinds):
     for parser, stopped, some, other in zip(*(make_parsers() for _ in range(4))):
         wanted, events = other.feed(b"".join(stream)), []
         assert join_runs(feed(parser, stream)) == wanted
@@ -62,27 +62,52 @@ def test_chunks_and_stops(stream, stops, kinds):
 
 @often
 @given(streams)
-def test_texts_and_calls(stream):
-    whole, texts = b"".join(stream), [chunk.decode(errors="replace") for chunk in stream]
-    plain, parser, stripper = vte.strip(whole), vte.Parser(), vte.Stripper()
+def test_text_of_chunks_is_that_of_their_events(stream):
+    whole, parser, stripper = b"".join(stream), vte.Parser(), vte.Stripper()
     chunks = [*map(stripper.strip, stream)]
     assert chunks == [text_of(parser.feed(chunk)) for chunk in stream]
     # an ESC is what ends an unfinished character without text of its own
     chunks.append(stripper.strip(b"", final=True))
     assert chunks[-1] == text_of(parser.feed(b"\x1b"))
+    plain = vte.strip(whole)
     assert b"".join(chunks) == plain
     assert stripper.strip(whole, final=True) == plain
-    keeping = vte.Stripper("surrogateescape")
+
+
+@often
+@given(streams)
+def test_malformed_bytes_stay_where_a_replacement_would_stand(stream):
+    whole, keeping = b"".join(stream), vte.Stripper("surrogateescape")
     kept = b"".join([*map(keeping.strip, stream), keeping.strip(b"", final=True)])
     assert kept == vte.strip(whole, errors="surrogateescape")
-    assert "".join(map(vte.Stripper().strip, texts)) == vte.strip("".join(texts))
-    assert list(vte.strip_lines(stream + texts)) == [*map(vte.strip, stream + texts)]
-    assert vte.strip("".join(texts)) == vte.strip("".join(texts).encode()).decode()
     # in the place of each U+FFFD it or malformed bytes may stand
-    wanted = rb"[\x80-\xff]{1,3}".join(map(re.escape, plain.split("\ufffd".encode())))
-    assert re.fullmatch(wanted, kept)
-    assert "".join(vte.strip_lines([whole.decode(errors="surrogateescape")], "surrogateescape")
-                   ) == kept.decode(errors="surrogateescape")
+    plain = vte.strip(whole).split("\ufffd".encode())
+    assert re.fullmatch(rb"[\x80-\xff]{1,3}".join(map(re.escape, plain)), kept)
+    lines = vte.strip_lines([whole.decode(errors="surrogateescape")], "surrogateescape")
+    assert "".join(lines) == kept.decode(errors="surrogateescape")
+
+
+@often
+@given(streams)
+def test_str_is_stripped_as_its_bytes_are(stream):
+    texts = [chunk.decode(errors="replace") for chunk in stream]
+    plain = vte.strip("".join(texts))
+    assert "".join(map(vte.Stripper().strip, texts)) == plain
+    assert plain == vte.strip("".join(texts).encode()).decode()
+
+
+@often
+@given(streams)
+def test_each_line_is_stripped_alone(stream):
+    lines = stream + [chunk.decode(errors="replace") for chunk in stream]
+    assert list(vte.strip_lines(lines)) == [*map(vte.strip, lines)]
+
+
+@often
+@given(streams)
+def test_calls_of_chunks_are_those_of_the_whole(stream):
+    whole = b"".join(stream)
+    # an update ends by the clock, too
     if b"2026" not in whole:
         assert join_runs(feed(vte.Processor(), stream)) == vte.Processor().feed(whole)
 
@@ -90,7 +115,7 @@ def test_texts_and_calls(stream):
 @needs_vtlog
 @often
 @given(streams)
-def test_as_vtlog(stream):
+def test_events_and_text_are_those_of_vtlog(stream):
     whole, found = b"".join(stream), format_events(feed(vte.Parser(limit=1024), stream))
     assert found == run_vtlog(whole).decode().splitlines()
     assert vte.Stripper().strip(whole) == run_vtlog(whole, "text")

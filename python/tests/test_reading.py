@@ -34,7 +34,7 @@ def source(request, path):
 
 
 @pytest.mark.parametrize("size", [1, 3, 65536])
-def test_files(source, size):
+def test_any_file_is_read_in_chunks_of_any_size(source, size):
     with vte.open(source, size) as events:
         assert join_runs(events) == EVENTS
 
@@ -44,7 +44,7 @@ def test_files(source, size):
     set(map(type, EVENTS))])
 @pytest.mark.parametrize("given", [
     lambda kinds: kinds, iter, lambda kinds: [*kinds][0] if len(kinds) == 1 else kinds])
-def test_kinds(source, kinds, given):
+def test_any_collection_of_kinds_chooses_events(source, kinds, given):
     wanted = [event for event in EVENTS if type(event) in set(kinds)]
     for parser in make_parsers():
         assert parser.feed(STREAM, given(kinds)) + parser.feed(STREAM, given(kinds)) == wanted * 2

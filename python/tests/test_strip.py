@@ -16,7 +16,7 @@ def test_controls_and_characters_of_latin_1():
             assert vte.Stripper().strip(data) == text_of(vte.Parser().feed(data))
 
 
-def test_lines():
+def test_a_line_leaves_nothing_open_for_the_next():
     # nothing that a line leaves open goes on in the next
     assert list(vte.strip_lines([b"a\xc3", b"b\n\x18"])) == [b"a\xef\xbf\xbd", b"b\n"]
     texts = ["a\x1b[1mb\n", "\ud800", "plain", b"\x1b[mx", "\x1b[1", "mx", ""]
@@ -29,7 +29,7 @@ def test_each_line_comes_as_it_is_taken():
     assert (next(vte.strip_lines(lines)), next(lines)) == (b"a", b"b")
 
 
-def test_bytes_and_str():
+def test_bytes_give_bytes_and_str_gives_str():
     assert vte.strip(STREAM) == "aü\r\U0001f600\ufffd".encode()
     assert vte.strip("ü\x1b[1mß\ud800\udbff\udc00\udfffb") == "üß\ufffd\ufffd\ufffd\ufffdb"
     assert vte.strip("ü\x1b[m" * 400_000) == "ü" * 400_000
@@ -71,7 +71,7 @@ def test_bytes_that_are_not_utf8_stay():
     # bytes of a sequence that didn't end are no text
     (b"a", b"\x1b]0;t\xe9", 0, b""), (b"a", b"\x1b\xe9", 0, b""), (b"", b"\x1bPq\xc3", 0, b""),
     (b"a", b"\x1b[1;3", 0, b""), (b"a", b"\x1b", 0, b"")])
-def test_a_stream_ends(front, end, shown, kept):
+def test_a_stream_ends_in_an_unfinished_character(front, end, shown, kept):
     for errors, wanted in ("replace", "\ufffd".encode() * shown), ("surrogateescape", kept):
         text = vte.strip(front + b"\x18", errors)
         assert vte.strip(front + end, errors) == text + wanted

@@ -37,7 +37,7 @@ def wanted_words(lines):
 
 
 @each("events.json", "events")
-def test_events(vector):
+def test_events_are_those_of_the_vectors(vector):
     if vector["limit"] not in (None, 1024):
         pytest.skip("no parser has this limit")
     limits = {None, vector["limit"]} if len(stream_of(vector)) <= 1024 else {vector["limit"]}
@@ -50,7 +50,7 @@ def test_events(vector):
 
 
 @each("events.json", "events")
-def test_open(monkeypatch, vector):
+def test_each_prefix_is_open_as_the_grammar_says(monkeypatch, vector):
     monkeypatch.syspath_prepend(FOLDER.parent / "tools")
     from lib.judging.open_ends import open_at_end
     stream, by_bytes = stream_of(vector)[:300], make_parsers()
@@ -63,7 +63,7 @@ def test_open(monkeypatch, vector):
 
 
 @each("events.json", "text")
-def test_text(vector):
+def test_text_is_that_of_the_vectors(vector):
     for chunks, errors in itertools.product(list_cuts(vector), ["replace", "surrogateescape"]):
         stripper = vte.Stripper(errors)
         texts = [*map(stripper.strip, chunks)]
@@ -77,7 +77,7 @@ def test_text(vector):
 
 
 @each("calls.json", "calls")
-def test_calls(vector):
+def test_calls_are_those_of_the_vectors(vector):
     wanted, stream = wanted_words(vector["calls"]), stream_of(vector)
     if len(stream) > 1024:
         pytest.skip("a processor has no limit")
@@ -91,7 +91,7 @@ def test_calls(vector):
 
 
 @each("calls.json", "updates")
-def test_updates(vector):
+def test_updates_are_those_of_the_vectors(vector):
     if vector["timeout"] not in ("counting", "expiring"):
         pytest.skip("a processor has one timeout")
     processor = vte.Processor()

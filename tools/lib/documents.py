@@ -78,7 +78,7 @@ class Repository:
 
     @cached_property
     def words_by_file(self):
-        """The words of each source file, but for comments, and of its path."""
+        """The words of each source file, except comments, and of its path."""
         return [{*re.findall(r"\w+", re.sub(r"(?m)(^|\s)(--|//) .*", "", text)), *path.parts,
                  path.stem, path.suffix[1:]} for path, text in self.sources.items()]
 
@@ -128,4 +128,20 @@ class Repository:
     def find_in_history(self, commit):
         """Whether HEAD stands on a commit, as every one does if this is no full clone."""
         return (self.run_git("merge-base", "--is-ancestor", commit, "HEAD").returncode == 0
-                or self.run_git("rev-parse", "--is-shallow-repository").stdout != "false\n")
+                or not self.has_history())
+
+    def has_history(self):
+        """Whether this is a full clone."""
+        return self.run_git("rev-parse", "--is-shallow-repository").stdout == "false\n"
+
+    def list_history(self):
+        """Returns the commits, the newest first, and how many are newer than the last change of a
+        file, by its path from the top."""
+        commits, last_changes = [], {}
+        log = self.run_git("log", "--topo-order", "--format=commit %H", "--name-only").stdout
+        for line in filter(None, log.splitlines()):
+            if line.startswith("commit "):
+                commits.append(line.removeprefix("commit "))
+            else:
+                last_changes.setdefault(line, len(commits) - 1)
+        return commits, last_changes

@@ -16,10 +16,10 @@ def list_files(top):
     return [path for path in paths.splitlines() if (top / path).is_file()]
 
 
-def parser_of(about, **how):
+def parser_of(about, **options):
     """Returns a parser of arguments, whose help is the text about a tool, line by line."""
     layout = argparse.RawDescriptionHelpFormatter
-    return argparse.ArgumentParser(description=about, formatter_class=layout, **how)
+    return argparse.ArgumentParser(description=about, formatter_class=layout, **options)
 
 
 def write_or_check(about, make, top):
@@ -44,7 +44,7 @@ def write_or_check(about, make, top):
 
 
 def is_current(path, text):
-    """Whether a file has a text, but for the layout of Rattle, which is that of `rt fmt`."""
+    """Whether a file has a text, except the layout of Rattle, which is that of `rt fmt`."""
     if text is None or not path.exists():
         return False
     layout = r"[\s,]" if path.suffix == ".rt" else ""

@@ -12,14 +12,14 @@ from tests.support import Tool, write
 # ---- the table of bench/count
 
 LIMITS = """# Instructions
-release: {0}
-best: {0}
+ours_release: {0}
+ours_best: {0}
 rattle: kit
-kind stream call release best rattle
+kind stream call ours_release ours_best rattle
 parser ascii 4096 {1} 4.000 -
 vte_feed ascii 64 - 1.000 -
 """
-OLD = ["missing: old: the release and best builds were not counted"]
+OLD = ["missing: old: the ours_release and ours_best builds were not counted"]
 
 
 @pytest.fixture
@@ -32,13 +32,13 @@ def count(monkeypatch):
             (row, column): {"parser": 4.0, "vte_feed": 1.0}[row[0]] for row, column in asked})
         monkeypatch.setattr(tool.parts["limits"], "TABLE", path)
         monkeypatch.setattr(tool.parts["limits"], "find_conditions",
-                            lambda: {"release": "new", "best": "new", "rattle": kit})
+                            lambda: {"ours_release": "new", "ours_best": "new", "rattle": kit})
         status, output = tool.run("limits", *words)
         return status, output.splitlines(), path.read_text()
     return check_counts
 
 
-ROW = "parser `ascii` in calls of 4,096 B, release: 4.000"
+ROW = "parser `ascii` in calls of 4,096 B, ours_release: 4.000"
 # a table's cell for a count of 4, or its compiler; the status, the faults, how many are counted
 TABLES = {
     "not counted": ({"cell": "-"}, 0, [], 2),
@@ -85,8 +85,9 @@ def test_each_option_of_run_changes_one_thing(monkeypatch, words, changes):
 
     def make_programs(folder, placements):
         found["placements"] = placements
-        return SimpleNamespace(build=lambda _: None, build_commands=lambda _: {"ours": [["ours"]]},
-                               write_stream=lambda name, size: sizes.append(size))
+        return SimpleNamespace(build=lambda _: None,
+                               build_commands=lambda _: {"ours_best": [["ours"]]},
+                               write_stream=lambda _, size: sizes.append(size))
 
     monkeypatch.setattr(measuring, "Programs", make_programs)
     monkeypatch.setattr(measuring, "compare_checksums", lambda *_: None)
@@ -97,7 +98,7 @@ def test_each_option_of_run_changes_one_thing(monkeypatch, words, changes):
     run.run(*words.split())
     # before a stream is read by all sides, their checksums of a shorter one are compared
     found.update(bytes=sizes[-1], kind=rows[0]["kind"], streams=[row["stream"] for row in rows],
-                 rounds=len(rows[0]["nanoseconds"]["ours"]))
+                 rounds=len(rows[0]["nanoseconds"]["ours_best"]))
     assert found == {**STRIP, **changes}
 
 

@@ -167,7 +167,9 @@ def test_what_is_erased_has_no_difference(entries, marked):
     write("crates/a/src/x.rt", before)
     write("o/a/x.rs", after)
     status, output = Tool("check_erased", PLANS=(of_test,), REPEATED={}).run()
-    assert status == ("rules" in entries), output
+    # what only a rule of this plan changes is none of the differences that check_erased knows
+    expected = 1 if "rules" in entries else 0
+    assert status == expected, output
 
 
 @pytest.mark.parametrize("text, line", [

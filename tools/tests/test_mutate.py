@@ -1,7 +1,10 @@
 """Tests of tools/mutate."""
+import subprocess
+from pathlib import Path
 from types import SimpleNamespace
 
 import pytest
+from lib.documents import Repository
 
 from tests.support import Tool, write
 
@@ -42,7 +45,8 @@ def copy(tmp_path_factory):
 def find_faults(path, old, new):
     """Returns what --check says of an edit in which something else stands in the place of `old`."""
     write(path, MUTANT.replace(old, new))
-    history = SimpleNamespace(is_in_history=lambda commit: commit == "abc1234")
+    history = SimpleNamespace(is_in_history=lambda commit: commit == "abc1234",
+                              has_history=lambda: False)
     status, output = Tool("mutate", REPOSITORY=history).run("--check")
     *faults, last = output.splitlines()
     assert (status, last) == (bool(faults), f"1 mutants, {len(faults)} faults")
@@ -89,6 +93,39 @@ def test_a_verdict_names_what_is_there(copy, goal):
 def test_a_verdict_names_what_is_gone(copy, gone):
     assert find_faults(PATH, "by goal", f"by x of {gone}") == [
         f"{PATH}: its verdict names {gone}, which isn't there"]
+
+
+def run_git(*words):
+    config = "user.name=a", "user.email=a@b.c", "commit.gpgsign=false", "init.defaultBranch=main"
+    options = [word for entry in config for word in ("-c", entry)]
+    done = subprocess.run(["git", *options, *words], check=True, capture_output=True, text=True)
+    return done.stdout.strip()
+
+
+def commit():
+    run_git("add", ".")
+    run_git("commit", "-qm", "a", "--allow-empty")
+    return run_git("rev-parse", "--short", "HEAD")
+
+
+def test_verdicts_that_are_older_than_their_file_are_counted(copy, monkeypatch):
+    def check():
+        return Tool("mutate", REPOSITORY=Repository(Path.cwd())).run("--check")
+
+    run_git("init", "-q")
+    verdict = MUTANT.replace("abc1234", commit())
+    for name in "m", "n":
+        write(f"tools/mutants/c/{name}.edit", verdict)
+    write("crates/c/src/a.rt", "pub struct B<T>(T);")
+    commit()
+    assert check() == (0, "2 mutants, 0 faults, 0 verdicts older than their file\n")
+    write("crates/c/src/lib.rt", "fn d() { f(one); }")
+    write(PATH, MUTANT.replace("abc1234", commit()))
+    commit()
+    assert check() == (0, "2 mutants, 0 faults, 1 verdicts older than their file\n")
+    run_git("clone", "-q", "--depth", "1", f"file://{Path.cwd()}", "shallow")
+    monkeypatch.chdir("shallow")
+    assert check() == (0, "2 mutants, 0 faults\n")
 
 
 def test_an_edit_of_must_fail_has_no_verdict_and_is_no_mutant(copy):

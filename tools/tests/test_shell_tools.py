@@ -1,5 +1,5 @@
 """Tests of tools/streams, and of the words of tools that are written in the shell: check_builds,
-install_packages, next_release, release, run_pytest and test_c_library."""
+install_packages, next_release, release, run_pytest, test_c_library, test_judge and test_python."""
 import re
 import subprocess
 from argparse import ArgumentParser
@@ -28,7 +28,14 @@ PROGRAMS = {
     "dpkg-query": 'case " $THERE " in *" $4 "*) echo install ok installed;; esac',
     "apt-get": "for it; do case $it in update | install | [ab]) echo $it >>$ASKED;; esac; done; "
                '[ "$GATE" = 1 ]',
-    "python3": '[ "$1" != -c ] || case $2 in *xdist) exit $NO_XDIST;; *) exit 0;; esac; echo "$@"'}
+    "python3": '[ "$1" != -c ] || case $2 in *xdist) exit $NO_XDIST;; '
+               '*hypothesis) exit $NO_RANDOM;; *) exit 0;; esac; echo "$@"',
+    "mypy": "echo ../tests/wrong_types.py:1: error: it"}
+PYTHON = r"-m pip wheel .* test_python: tests \S+/package python3 -W error -m pytest .*provider "
+# what test_python has and uses, besides those
+OF_PYTHON = {"tools/next_release": "#!/bin/sh\necho export PYTHONPATH=\n",
+             "tools/lib/building/cargo_product": "#!/bin/sh\n", "docs/PYTHON.md": "",
+             "python/src/vte/__init__.py": "", "python/tests/wrong_types.py": "# wrong\n"}
 MISSING, HOMES = "missing: gcc-multilib.*32 bits were not tested", r"export CARGO_HOME=\S+"
 
 
@@ -46,6 +53,14 @@ RUNS = {
                             ".*tests.missing -n 4 a.py -k b$"),
     "pytest one by one": ("run_pytest", "-n 4 a.py -k b", {"NO_XDIST": "1"}, 0,
                           ".*tests.missing a.py -k b$"),
+    "words of the judge's tests": ("test_judge", "-k b", {}, 0,
+                                   r"pytest -n \d+ \S+/tools/lib/judging/tests -k b$"),
+    "Python": ("test_python", "--short", {"NO_RANDOM": "0"}, 0,
+               f"(?!.*missing){PYTHON}.*test_python: types "),
+    "Python without hypothesis": ("test_python", "--short", {"NO_RANDOM": "1"}, 1,
+                                  f"{PYTHON}missing: hypothesis .*test_python: types "),
+    "Python without hypothesis, allowed": (
+        "test_python", "--short", {"NO_RANDOM": "1", **ALLOWED}, 0, ".* missing: hypothesis"),
     "all packages are there": ("install_packages", "a b", {**GATE, "THERE": "a b"}, 0, "$"),
     "packages outside the gate": ("install_packages", "a b", {"THERE": "a"}, 1, "$"),
     "packages in the gate": ("install_packages", "a b", {**GATE, "THERE": "a"}, 0,
@@ -75,6 +90,7 @@ def test_a_tool_obeys_its_words(folder, monkeypatch, tool, words, variables, sta
     needed = re.findall(r"(python3|librust)-\{(.*?)\}(-dev)?", (TOOLS / "next_release").read_text())
     had = [f"{begin}-{it}{end}" for begin, names, end in needed for it in names.split(",")]
     for path, text in {"tools/install_packages": "#!/bin/sh\n[ $1 = valgrind ]\n", "asked": "",
+                        "tools/run_pytest": "#!/bin/sh\necho pytest $*\n", **OF_PYTHON,
                         "folder/had": "\n".join(["a", *had]), "there/file": "",
                         "rust/vte/Cargo.toml": "", "c/include/vte.h": ""}.items():
         write(path, text, 0o755)

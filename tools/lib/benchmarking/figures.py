@@ -4,8 +4,8 @@ import statistics
 from lib.benchmarking.measuring import THEIRS_IN_C
 
 # our side and that of the crate, in the builds that are compared
-BUILDS = {"cargo's release profile": ("rust_release", "release"),
-          "cargo's best build": ("rust", "best"), "Rattle's build": ("ours", "best")}
+BUILDS = {"cargo's release profile": ("ours_release", "vte_release"),
+          "cargo's best build": ("ours_best", "vte_best"), "Rattle's build": ("rattle", "vte_best")}
 # the streams of the tables
 COMMON_STREAMS = ["ascii", "prose", "cjk", "emoji", "ls_color", "coloured", "dense_cells",
                   "updates", "osc_title", "sixel", "random"]
@@ -45,7 +45,7 @@ def compare_sides(row):
     if row["kind"] == "calls":
         return {name: compare_pair(row, name, THEIRS_IN_C) for name in sides
                 if name != THEIRS_IN_C and THEIRS_IN_C in sides}
-    pairs = {"over `advance`": ("rust", "`advance`")} if row["kind"] == "strip" else {
+    pairs = {"over `advance`": ("ours_best", "`advance`")} if row["kind"] == "strip" else {
         name: pair for name, pair in BUILDS.items() if pair[0] in sides}
     return {name: compare_pair(row, *pair) for name, pair in pairs.items()}
 

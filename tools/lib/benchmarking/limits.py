@@ -13,9 +13,9 @@ from pathlib import Path
 from lib.files import TOP
 
 TABLE = TOP / "bench/instructions.txt"
-COLUMNS = ["release", "best", "rattle"]
+COLUMNS = ["ours_release", "ours_best", "rattle"]
 # a count may be above that of the table by one percent
-MOST = 1.01
+MAX_RATIO = 1.01
 
 
 def find_conditions():
@@ -25,7 +25,8 @@ def find_conditions():
     machine = f"{' '.join(platform.libc_ver())}; {platform.machine()}{' with AVX2' * bool(vectors)}"
     rustc, kit = ask_program("rustc", "--version"), ask_program("rt", "version")
     cargo = rustc and f"{' '.join(rustc.split()[:2])}; {machine}"
-    return {"release": cargo, "best": cargo, "rattle": kit and f"{kit}; {machine}"}
+    kit = kit and f"{kit}; {machine}"
+    return {"ours_release": cargo, "ours_best": cargo, "rattle": kit}
 
 
 def ask_program(*words):
@@ -65,7 +66,7 @@ class Table:
 
 
 def format_line(kind, stream, chunk, *cells):
-    return f"{kind:<14}{stream:<13}{chunk:>5}{''.join(f'{cell:>8}' for cell in cells)}"
+    return f"{kind:<14}{stream:<13}{chunk:>5}{''.join(f'{cell:>13}' for cell in cells)}"
 
 
 def compare(table, counts):
@@ -75,7 +76,7 @@ def compare(table, counts):
         where = f"{kind} `{stream}` in calls of {chunk:,} B, {column}: {count:.3f}"
         if cell == "?":
             yield f"{where}, and the table has none", True
-        elif count > float(cell) * MOST:
-            yield f"{where}, above {float(cell) * MOST:.3f}", True
-        elif count * MOST < float(cell):
+        elif count > float(cell) * MAX_RATIO:
+            yield f"{where}, above {float(cell) * MAX_RATIO:.3f}", True
+        elif count * MAX_RATIO < float(cell):
             yield f"{where}, below {cell}", False

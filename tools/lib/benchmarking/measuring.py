@@ -11,14 +11,16 @@ from lib.building import builder
 from lib.files import TOP
 from lib.generating import streams
 
-# The sides: ours as rt proves and builds it, the same text in the crates of rust/, and the crate,
-# these two in the best build (fat link-time optimization) and in cargo's default release profile.
-IN_RUST = {"rust": "fat", "rust_release": "release", "best": "fat", "release": "release"}
-OURS_IN_RUST = ("rust", "rust_release")
+# The sides: ours as rt proves and builds it (rattle), the same text in the crates of rust/, and the
+# crate `vte`, these two in the best build (fat link-time optimization) and in cargo's default
+# release profile.
+IN_RUST = {"ours_best": "fat", "ours_release": "release", "vte_best": "fat",
+           "vte_release": "release"}
+OURS_IN_RUST = ("ours_best", "ours_release")
 # the kinds of bench/peer that put text into memory: in runs, and character by character, both by
 # ours in the best build, and those that do a part of it
 REFERENCES = {"`from_utf8`": "utf8", "a copy": "copy"}
-STRIPPERS = {"rust": "strip_runs", "`advance`": "strip", **REFERENCES}
+STRIPPERS = {"ours_best": "strip_runs", "`advance`": "strip", **REFERENCES}
 # the kinds of bench/calls.c: each function of the C library, and the parser of libvterm
 IN_C = ("vte_feed", "vte_long_feed", "vte_processor")
 THEIRS_IN_C = "libvterm"
@@ -47,7 +49,7 @@ STREAMS_OF = {
 # streams of commands with more than the 1,024 bytes that Rattle's parser and processor keep
 BEYOND_THE_LIMIT = ["osc_clipboard"]
 # the streams that a side isn't measured with
-LEFT_OUT = {"ours": BEYOND_THE_LIMIT, "`from_utf8`": MALFORMED}
+LEFT_OUT = {"rattle": BEYOND_THE_LIMIT, "`from_utf8`": MALFORMED}
 # the bytes of a stream whose checksums are compared: the crate takes quadratic time for malformed
 # text in one call
 CHECKED = 50_000
@@ -83,15 +85,15 @@ class Programs:
             sides = [*IN_C, *[THEIRS_IN_C] * builder.has_libvterm()]
             return {side: [[self.c_program, side]] for side in sides}
         if kind == "strip":
-            return {side: [[program, name] for program in self.build_peers("rust")]
+            return {side: [[program, name] for program in self.build_peers("ours_best")]
                     for side, name in STRIPPERS.items()}
-        sides = {"ours": [self.proved_program] * self.placements,
-                 **{side: self.build_peers(side) for side in IN_RUST}}
+        sides = {**{side: self.build_peers(side) for side in IN_RUST},
+                 "rattle": [self.proved_program] * self.placements}
         return {side: [[program, kind] for program in of_side] for side, of_side in sides.items()}
 
     def build(self, kinds):
         """Builds every program that these kinds run, before one is measured."""
-        sides = {"rust"} if "strip" in kinds else set()
+        sides = {"ours_best"} if "strip" in kinds else set()
         if "calls" in kinds:
             _ = self.c_program
         if set(kinds) - {"strip", "calls"}:

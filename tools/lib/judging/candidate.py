@@ -89,8 +89,9 @@ class Program:
         self.batch = self.for_one_process = 200 if takes_chunks else 40
         # the time at which the run is over
         self.deadline = None
-        self.how = {"stdout": subprocess.PIPE, "stderr": errors, "start_new_session": True,
-                    "env": {**os.environ, "JUDGE_HOUSE": ",".join(house)}}
+        self.process_options = {
+            "stdout": subprocess.PIPE, "stderr": errors, "start_new_session": True,
+            "env": {**os.environ, "JUDGE_HOUSE": ",".join(house)}}
         self.guard = subprocess.Popen([sys.executable, "-S", "-c", GUARD], stdin=subprocess.PIPE,
                                       start_new_session=True)
         self.lock = threading.Lock()
@@ -114,7 +115,7 @@ class Program:
 
     def answer_aloud(self, chunks):
         """Gives a stream to a process whose standard error is shown."""
-        self.how["stderr"] = None
+        self.process_options["stderr"] = None
         self.answer_all([chunks])
 
     def answer(self, chunks):
@@ -180,7 +181,7 @@ class Program:
         with tempfile.TemporaryFile() as file:
             file.write(data)
             file.seek(0)
-            process = subprocess.Popen(self.command, stdin=file, **self.how)
+            process = subprocess.Popen(self.command, stdin=file, **self.process_options)
         self.report_to_guard(b"+", process)
         try:
             yield process

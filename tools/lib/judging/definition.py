@@ -131,7 +131,7 @@ class StepReader:
     def read_malformed(self, start, segment):
         end = start + len(segment)
         begun = "\xc2" <= segment[0] <= "\xf4"
-        # whether its bytes are those of a character but for their values
+        # whether its bytes are those of a character except for their values
         length = expect_length(segment)
         is_formed = "\xc0" <= segment[0] < "\xf8" and re.fullmatch(
             f"[\x80-\xbf]{{{length - 1}}}", self.text[start + 1:start + length])

@@ -55,6 +55,12 @@ def test_a_vector_is_a_line(name, file):
     assert [line.rstrip(",") for line in lines if line.startswith('{"id": ')] == wanted
 
 
+def test_vectors_have_the_order_of_keys_that_run_c_relies_on():
+    """It reads no JSON: it looks for texts in a vector's line, such as of a limit before chunks."""
+    order = "id name kind level rules house limit chunks events strongest".split()
+    assert all([*vector][:len(order)] == order for vector in EVENTS)
+
+
 @each_file
 def test_files_match_the_schema(file):
     try:

@@ -33,7 +33,7 @@ impl Cut {
     }
 }
 
-/// What a run is, but for differences.
+/// What a run is, except for differences.
 fn run_of<'a>(of: &str, run: Run<'a>) -> Run<'a> {
     match run.taken {
         Taken::Text(text) if has(of, "to text") => Run {

@@ -82,13 +82,16 @@ some_complete rows = list_any is_complete rows
 abbrev pub some_truncated : List (List Range) → Bool
 some_truncated rows = list_any (λ row. not (is_complete row)) rows
 
-pub complete_not_truncated : (rows : List (List Range)) → AtMostOne rows → some_complete rows ≡ true → some_truncated rows ≡ false
+pub complete_not_truncated : (rows : List (List Range)) → AtMostOne rows → some_complete rows ≡ true
+    → some_truncated rows ≡ false
 complete_not_truncated rows one whole = search (rules, arith)
 
-pub truncated_not_complete : (rows : List (List Range)) → AtMostOne rows → some_truncated rows ≡ true → some_complete rows ≡ false
+pub truncated_not_complete : (rows : List (List Range)) → AtMostOne rows → some_truncated rows ≡ true
+    → some_complete rows ≡ false
 truncated_not_complete rows one more = search (rules, arith)
 
-pub neither_complete_nor_truncated : (rows : List (List Range)) → some_complete rows ≡ false → some_truncated rows ≡ false → rows ≡ []
+pub neither_complete_nor_truncated : (rows : List (List Range)) → some_complete rows ≡ false
+    → some_truncated rows ≡ false → rows ≡ []
 neither_complete_nor_truncated [] whole more = refl
 neither_complete_nor_truncated ([] ∷ rows) whole more = cc
 neither_complete_nor_truncated ((range ∷ ranges) ∷ rows) whole more = cc
@@ -142,7 +145,8 @@ allowed_length-broken rows (c ∷ bytes) b following more no_row =
     ∙ ap suc (allowed_length-broken (rows_after_byte c rows) bytes b following more no_row)
 
 -- A truncated sequence at the end is allowed whole.
-pub allowed_length-end : (rows : List (List Range)) (bytes : List ℕ) → some_truncated (rows_after_bytes bytes rows) ≡ true
+pub allowed_length-end : (rows : List (List Range)) (bytes : List ℕ)
+    → some_truncated (rows_after_bytes bytes rows) ≡ true
     → allowed_length rows bytes ≡ length bytes
 allowed_length-end rows [] more = refl
 allowed_length-end rows (c ∷ bytes) more =
@@ -224,7 +228,8 @@ some_truncated-row : (ranges : List Range) (bytes : List ℕ)
 some_truncated-row [] [] = refl
 some_truncated-row [] (b ∷ bytes) = ap some_truncated (rows_after_bytes-none bytes)
 some_truncated-row (range ∷ ranges) [] = refl
-some_truncated-row (range ∷ ranges) (b ∷ bytes) = search (rules, arith, (some_truncated-row ranges bytes), rows_after_bytes-none)
+some_truncated-row (range ∷ ranges) (b ∷ bytes) =
+    search (rules, arith, (some_truncated-row ranges bytes), rows_after_bytes-none)
 
 -- What the two tests say of bytes.
 pub record Tests (bytes : List ℕ) (whole more : Bool) : Type 0 where

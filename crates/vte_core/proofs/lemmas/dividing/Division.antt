@@ -2,7 +2,7 @@
 -- a byte, a longer segment exists; if they don't, no longer one does.
 use Rattle.std.proofs.lemmas.List.{length-take}
 use Rattle.vte_core.proofs.Common.{allowed_length, ap, arith, Bool, cases_lt, concat, drop, drop-append_seam, false, false≢true, inl, inr, is_truncated, is_well_formed, length, length-append, length-drop, length-take-le, List, Range, refl, rows_after_byte, rows_after_bytes, rules, segments, segments_after, subst, suc, sym, take, take-append-drop, take-append_seam, trailing_count, true, utf8_rows, zero, ℕ, [], ◌++◌, ◌<◌, ◌∙◌, ◌∷◌, ◌≡◌, ◌≢◌, ◌≤◌}
-use Rattle.vte_core.proofs.lemmas.bytes.Utf8.{allowed, allowed_length-none, neither_complete_nor_truncated, rows_after_bytes-none, some_truncated, some_complete, unwanted, wanted}
+use Rattle.vte_core.proofs.lemmas.bytes.Utf8.{allowed, allowed_length-none, neither_complete_nor_truncated, rows_after_bytes-none, some_complete, some_truncated, unwanted, wanted}
 use Rattle.vte_core.proofs.lemmas.shapes.FirstSegment.{not_well_formed-nothing, trailing_count-well_formed}
 use Rattle.vte_core.specs.Division.{AreCorrectSegments, IsCorrectSegment, IsSegment, SegmentsJoin}
 
@@ -60,7 +60,8 @@ is_segment b bytes = by_rows (rows_after_byte b utf8_rows) refl
     by_tests {rows} same true truncated is_whole is_open is_kept =
         inl (ap (λ (rows : List (List Range)). some_complete (rows_after_bytes (segment rows) rows)) same ∙ is_whole)
     by_tests {rows} same false true is_whole is_open is_kept =
-        inr (inl (ap (λ (rows : List (List Range)). some_truncated (rows_after_bytes (segment rows) rows)) same ∙ is_open))
+        inr (inl (ap (λ (rows : List (List Range)). some_truncated (rows_after_bytes (segment rows) rows)) same
+        ∙ is_open))
     by_tests same false false is_whole is_open is_kept =
         absurd (is_kept (neither_complete_nor_truncated _ is_whole is_open))
 

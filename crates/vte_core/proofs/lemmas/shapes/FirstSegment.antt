@@ -1,7 +1,7 @@
 -- What a text gives, from its prefix, by the definition alone: the event of its first segment, and then what the rest
 -- gives as a text. `text_outcome-X` says so if the text begins with X.
 use Rattle.vte_core.proofs.Common.{ap, append-nil, arith, character_event, CharacterToClose, false, is_control_character, is_truncated, is_well_formed, leaves, length, List, malformed_event, nat_tests, NothingToClose, Print, refl, replacement, report, rows_after_byte, rows_after_bytes, rules, scalar_of, segment_event, segments, segments_after, segments_outcome, subst, take-append_seam, text_outcome, trailing_count, true, utf8_rows, ℕ, [], ◌++◌, ◌∙◌, ◌∷◌, ◌≡◌, ◌≤◌}
-use Rattle.vte_core.proofs.lemmas.bytes.Utf8.{allowed_length-broken, allowed_length-end, allowed_length-none, allowed_length-whole, AtMostOne-first, AtMostOne-rows_after_bytes, neither_complete_nor_truncated, truncated_not_complete, rows_after_bytes-append, truncated-first, complete_not_truncated}
+use Rattle.vte_core.proofs.lemmas.bytes.Utf8.{allowed_length-broken, allowed_length-end, allowed_length-none, allowed_length-whole, AtMostOne-first, AtMostOne-rows_after_bytes, complete_not_truncated, neither_complete_nor_truncated, rows_after_bytes-append, truncated-first, truncated_not_complete}
 
 -- ---- no sequence is both well formed and truncated: at most one row is left after its bytes
 

@@ -221,7 +221,8 @@ reports_units limit stream bytes i within = record {
   before = adds.before;
   unit = adds.unit ++ (if breaks_at stream bytes i then Print replacement ∷ [] else []);
   parts =
-      ap (λ (events : List Event). events ++ (if breaks_at stream bytes i then Print replacement ∷ [] else [])) adds.parts
+      ap (λ (events : List Event). events ++ (if breaks_at stream bytes i then Print replacement ∷ [] else []))
+      adds.parts
       ∙ append_assoc adds.before adds.unit _;
   brief = by_break (breaks_at stream bytes i) refl;
   at_start = adds.at_start;

@@ -80,7 +80,7 @@ unsafe fn take_run(bytes: &[u8], range: RunRange) -> Run<'_> {
         // SAFETY: this is what the caller promises.
         RunKind::Text => Taken::Text(unsafe { text_between(bytes, range.start, range.end) }),
         RunKind::Data => Taken::Data(data_between(bytes, range.start, range.end)),
-        RunKind::NoRun => Taken::Nothing,
+        RunKind::Nothing => Taken::Nothing,
     };
     Run {
         start: range.start,

@@ -151,14 +151,14 @@ impl<B: Buffer> Machine<B> {
         performer: &mut P,
         head: HeadEnd,
         joined: bool,
-        byte: u8,
+        final_byte: u8,
     ) -> usize {
         if let HeadProgress::IllShaped = head.progress {
             self.state = State::Text(Unfinished::Empty);
             return head.position + 1;
         }
         let ignore = self.collected.end_head(joined);
-        self.dispatch_control_sequence(reader, performer, ignore, byte, head.position)
+        self.dispatch_control_sequence(reader, performer, ignore, final_byte, head.position)
     }
 
     /// Dispatches a control sequence at its final byte, and returns the next position, so that
@@ -169,11 +169,11 @@ impl<B: Buffer> Machine<B> {
         reader: Reader,
         performer: &mut P,
         ignore: bool,
-        byte: u8,
+        final_byte: u8,
         position: usize,
     ) -> usize {
         self.state = State::Text(Unfinished::Empty);
-        performer.csi_dispatch(reader, &self.collected, ignore, byte);
+        performer.csi_dispatch(reader, &self.collected, ignore, final_byte);
         position + 1
     }
 }

@@ -46,7 +46,7 @@ impl<B: Buffer> Machine<B> {
         reader: Reader,
         performer: &mut P,
         reached: HeadProgress,
-        byte: u8,
+        final_byte: u8,
     ) {
         if let HeadProgress::IllShaped = reached {
             self.state = State::IgnoredString;
@@ -54,7 +54,7 @@ impl<B: Buffer> Machine<B> {
         }
         let joined = self.collected.joined;
         let ignore = self.collected.end_head(joined);
-        performer.hook(reader, &self.collected, ignore, byte);
+        performer.hook(reader, &self.collected, ignore, final_byte);
         self.state = State::DeviceData;
     }
 

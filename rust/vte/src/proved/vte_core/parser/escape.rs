@@ -156,9 +156,9 @@ impl<B: Buffer> Machine<B> {
         &mut self,
         reader: Reader,
         performer: &mut P,
-        byte: u8,
+        final_byte: u8,
     ) {
-        performer.esc_dispatch(reader, &self.collected, byte);
+        performer.esc_dispatch(reader, &self.collected, final_byte);
         self.state = State::Text(Unfinished::Empty);
     }
 }

@@ -21,7 +21,7 @@ pub(crate) trait CountedPerform<G: Granularity> {
     fn execute_control(&mut self, reader: Reader, byte: u8);
 
     /// Reports that a device control string begins, with the final byte of its head.
-    fn hook(&mut self, reader: Reader, collected: &CollectedHead, ignore: bool, byte: u8);
+    fn hook(&mut self, reader: Reader, collected: &CollectedHead, ignore: bool, final_byte: u8);
 
     /// Reports a data byte of the device control string.
     fn put_byte(&mut self, reader: Reader, byte: u8);
@@ -33,13 +33,19 @@ pub(crate) trait CountedPerform<G: Granularity> {
     fn unhook(&mut self, reader: Reader);
 
     /// Reports an operating system command.
-    fn osc_dispatch(&mut self, reader: Reader, pieces: &[&[u8]], bell: bool);
+    fn osc_dispatch(&mut self, reader: Reader, pieces: &[&[u8]], bell_terminated: bool);
 
     /// Reports a control sequence with this final byte.
-    fn csi_dispatch(&mut self, reader: Reader, collected: &CollectedHead, ignore: bool, byte: u8);
+    fn csi_dispatch(
+        &mut self,
+        reader: Reader,
+        collected: &CollectedHead,
+        ignore: bool,
+        final_byte: u8,
+    );
 
     /// Reports an escape sequence with this final byte.
-    fn esc_dispatch(&mut self, reader: Reader, collected: &CollectedHead, byte: u8);
+    fn esc_dispatch(&mut self, reader: Reader, collected: &CollectedHead, final_byte: u8);
 
     /// Returns whether a call that may stop ends here. The question takes no look.
     fn terminated(&self) -> bool;
@@ -70,9 +76,9 @@ impl<P: ReceiveAs<G> + ?Sized, G: Granularity> CountedPerform<G> for P {
     }
 
     #[inline(always)]
-    fn hook(&mut self, reader: Reader, collected: &CollectedHead, ignore: bool, byte: u8) {
+    fn hook(&mut self, reader: Reader, collected: &CollectedHead, ignore: bool, final_byte: u8) {
         reader.count_looks(1);
-        let (intermediates, action) = (collected.intermediates.as_slice(), char::from(byte));
+        let (intermediates, action) = (collected.intermediates.as_slice(), char::from(final_byte));
         Perform::hook(self, &collected.params, intermediates, ignore, action);
     }
 
@@ -95,23 +101,34 @@ impl<P: ReceiveAs<G> + ?Sized, G: Granularity> CountedPerform<G> for P {
     }
 
     #[inline(always)]
-    fn osc_dispatch(&mut self, reader: Reader, pieces: &[&[u8]], bell: bool) {
+    fn osc_dispatch(&mut self, reader: Reader, pieces: &[&[u8]], bell_terminated: bool) {
         reader.count_looks(1);
-        Perform::osc_dispatch(self, pieces, bell);
+        Perform::osc_dispatch(self, pieces, bell_terminated);
     }
 
     #[inline(always)]
-    fn csi_dispatch(&mut self, reader: Reader, collected: &CollectedHead, ignore: bool, byte: u8) {
+    fn csi_dispatch(
+        &mut self,
+        reader: Reader,
+        collected: &CollectedHead,
+        ignore: bool,
+        final_byte: u8,
+    ) {
         reader.count_looks(1);
-        let (intermediates, action) = (collected.intermediates.as_slice(), char::from(byte));
+        let (intermediates, action) = (collected.intermediates.as_slice(), char::from(final_byte));
         Perform::csi_dispatch(self, &collected.params, intermediates, ignore, action);
     }
 
     #[inline(always)]
-    fn esc_dispatch(&mut self, reader: Reader, collected: &CollectedHead, byte: u8) {
+    fn esc_dispatch(&mut self, reader: Reader, collected: &CollectedHead, final_byte: u8) {
         reader.count_looks(1);
         let intermediates = collected.intermediates.as_slice();
-        Perform::esc_dispatch(self, intermediates, collected.too_many_intermediates, byte);
+        Perform::esc_dispatch(
+            self,
+            intermediates,
+            collected.too_many_intermediates,
+            final_byte,
+        );
     }
 
     #[inline(always)]

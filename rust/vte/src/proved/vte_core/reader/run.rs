@@ -32,7 +32,7 @@ pub(crate) enum RunKind {
     /// Data of a device control string.
     Data,
     /// No run: the call ends there.
-    NoRun,
+    Nothing,
 }
 
 /// The position of a run in the bytes of a call.
@@ -49,7 +49,7 @@ impl RunRange {
         RunRange {
             start: end,
             end,
-            kind: RunKind::NoRun,
+            kind: RunKind::Nothing,
         }
     }
 }

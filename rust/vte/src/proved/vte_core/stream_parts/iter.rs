@@ -25,7 +25,7 @@ impl<'a> Iterator for Parts<'a> {
         if self.rest.is_empty() {
             return None;
         }
-        let cut = find_escape(self.rest, self.size);
+        let cut = find_next_escape(self.rest, self.size);
         // The ESC is in this part and in the next.
         let part = &self.rest[..self.rest.len().min(cut + 1)];
         self.rest = &self.rest[cut..];
@@ -36,7 +36,7 @@ impl<'a> Iterator for Parts<'a> {
 impl<'a> FusedIterator for Parts<'a> {}
 
 /// Returns the position of the first ESC from a position on, or the length if there is none.
-fn find_escape(stream: &[u8], from: usize) -> usize {
+fn find_next_escape(stream: &[u8], from: usize) -> usize {
     let from = from.min(stream.len());
     match memchr(ESCAPE, &stream[from..]) {
         Some(distance) => from + distance,

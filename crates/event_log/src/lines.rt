@@ -65,7 +65,7 @@ impl Lines {
     }
 
     /// Returns whether more than half of the capacity is in use: then the lines should be written.
-    pub(crate) fn is_more_than_half_full(&self) -> bool
+    pub(crate) fn is_to_be_written(&self) -> bool
         ensures { result ≡ is_to_be_written (collected_text_of self.now) }
     {
         self.bytes.len() > CAPACITY / 2

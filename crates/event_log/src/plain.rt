@@ -121,7 +121,7 @@ impl Perform for Plain {
     }
 
     fn terminated(&self) -> bool {
-        self.texts.is_more_than_half_full()
+        self.texts.is_to_be_written()
     }
 }
 

@@ -139,7 +139,7 @@ impl Perform for Recorder {
     }
 
     fn terminated(&self) -> bool {
-        self.lines.is_more_than_half_full()
+        self.lines.is_to_be_written()
     }
 }
 

@@ -4,6 +4,7 @@ use arrayvec::ArrayVec;
 use vte::ansi::{Color, NamedColor, Rgb};
 use vte_core::Params;
 
+/// A cell: a character, and the style in which it is shown.
 #[derive(Clone, Copy, PartialEq)]
 pub struct Cell {
     pub character: char,

@@ -6,8 +6,10 @@ use crate::cell::{Cell, Style};
 use std::cmp::Ordering;
 use std::str::Chars;
 
+/// How many columns the screen has.
 pub const COLUMNS: usize = 80;
 
+/// How many rows the screen has.
 pub const ROWS: usize = 24;
 
 /// A part of the screen or of a row. The cell at the cursor belongs to each but `Nothing`.

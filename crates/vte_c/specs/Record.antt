@@ -62,7 +62,7 @@ max_data_per_byte = max_piece_bytes + 4 * max_pieces + 4
 -- buffer must have, how many data bytes its area, and how many bytes the buffer of `vte_strip`.
 -- Two bytes add at most four events. At most one of them is a command, of at most 1,088 data bytes,
 -- because the next command begins with two bytes. Each other event has at most 96 data bytes: 32
--- groups of one number. `min_data` is more than their sum, 1,376.
+-- groups of one number. `min_data` is their sum, 1,376, and a reserve.
 abbrev pub min_events : ℕ
 min_events = 4
 

@@ -82,8 +82,8 @@ pub(crate) fn may_begin_three(first: u8, second: u8) -> bool
     requires { BeginsThree first }
     ensures { result ≡ is_in (second_range first) second }
 {
-    let number = (first % 16) as u32 * 0x1000 + (second % 64) as u32 * 0x40;
-    is_continuation(second) && number >= 0x800 && number / 0x800 != 0xd800 / 0x800
+    let lowest = (first % 16) as u32 * 0x1000 + (second % 64) as u32 * 0x40;
+    is_continuation(second) && lowest >= 0x800 && lowest / 0x800 != 0xd800 / 0x800
 }
 
 /// Returns whether a sequence of four bytes may begin with these two: the code point is neither
@@ -94,8 +94,8 @@ pub(crate) fn may_begin_four(first: u8, second: u8) -> bool
     requires { BeginsFour first }
     ensures { result ≡ is_in (second_range first) second }
 {
-    let number = (first % 8) as u32 * 0x40000 + (second % 64) as u32 * 0x1000;
-    is_continuation(second) && matches!(number, 0x10000..=0x10ffff)
+    let lowest = (first % 8) as u32 * 0x40000 + (second % 64) as u32 * 0x1000;
+    is_continuation(second) && matches!(lowest, 0x10000..=0x10ffff)
 }
 
 /// Returns whether `byte` is an ASCII character that is printed, which includes DEL.
@@ -122,23 +122,23 @@ pub(crate) fn is_continuation(byte: u8) -> bool
 }
 
 // A remainder removes the bits that only mark a byte as the first or a further one. The others are
-// the digits of the character's number, six bits per further byte.
+// the digits of the code point, six bits per further byte.
 
-/// Returns the number of the character of two bytes.
+/// Returns the code point of a sequence of two bytes.
 fn code_point_of_two(first: u8, second: u8) -> u32
     ensures { result ≡ first % 32 * 0x40 + second % 64 }
 {
     (first % 32) as u32 * 0x40 + (second % 64) as u32
 }
 
-/// Returns the number of the character of three bytes.
+/// Returns the code point of a sequence of three bytes.
 fn code_point_of_three(first: u8, second: u8, third: u8) -> u32
     ensures { result ≡ (first % 16 * 0x40 + second % 64) * 0x40 + third % 64 }
 {
     (first % 16) as u32 * 0x1000 + (second % 64) as u32 * 0x40 + (third % 64) as u32
 }
 
-/// Returns the number of the character of four bytes.
+/// Returns the code point of a sequence of four bytes.
 fn code_point_of_four(first: u8, second: u8, third: u8, fourth: u8) -> u32
     ensures { result ≡ ((first % 8 * 0x40 + second % 64) * 0x40 + third % 64) * 0x40 + fourth % 64 }
 {
@@ -148,12 +148,12 @@ fn code_point_of_four(first: u8, second: u8, third: u8, fourth: u8) -> u32
         + (fourth % 64) as u32
 }
 
-/// Returns the character with this number, or `Malformed` for the number of a surrogate, which no
-/// well-formed sequence has.
-fn complete_character(code: u32) -> Extension
-    ensures { InScalarRange code → result ≡ Extension.WellFormed code }
+/// Returns the character with this code point, or `Malformed` for a surrogate, which no well-formed
+/// sequence has.
+fn complete_character(code_point: u32) -> Extension
+    ensures { InScalarRange code_point → result ≡ Extension.WellFormed code_point }
 {
-    match char::from_u32(code) {
+    match char::from_u32(code_point) {
         Some(c) => Extension::WellFormed(c),
         None => Extension::Malformed,
     }

@@ -38,7 +38,7 @@ group_bytes-at_most groups groups_are =
 
 -- No event has more data bytes: a command has at most 16 pieces, each after four bytes, with 1,024 bytes together. A
 -- sequence has at most 96: 32 groups, each after one byte, with 32 numbers of two bytes together.
-abbrev pub max_event_data : ℕ
+abbrev max_event_data : ℕ
 max_event_data = 1088
 
 -- A command has the most, and a character at most four.

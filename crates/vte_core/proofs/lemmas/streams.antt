@@ -1,5 +1,7 @@
 -- From a text or a body to a whole stream: laws of streams.
 
+-- What a stream leaves open, for any limit.
+pub mod AnyLimit
 -- From a byte to bytes, and from the place after a stream to that after more of it.
 pub mod After
 pub mod StreamSteps

@@ -1,5 +1,5 @@
 -- The groups of `Params`, stored flat: all numbers in one list, and the length of each group.
-use Rattle.std.specs.Prelude.{All, Bool, drop, false, length, List, None, Option, option_to_list, sum, take, true, ℕ, [], ◌++◌, ◌+◌, ◌-◌, ◌<◌, ◌∷◌, ◌≡◌, ◌≤◌}
+use Rattle.std.specs.Prelude.{All, Bool, drop, false, length, List, None, Option, option_to_list, sum, take, true, ℕ, [], ◌++◌, ◌<◌, ◌∷◌, ◌≡◌, ◌≤◌}
 use Rattle.vte_core.specs.Parameters.{max_numbers, max_value}
 
 -- The numbers, cut into groups of these lengths.

@@ -1,5 +1,5 @@
 -- How far a search in a call's bytes goes, and how few looks it takes.
-use Rattle.std.specs.Prelude.{drop, length, List, min, slice_index, take, ℕ, ◌+◌, ◌-◌, ◌<◌, ◌≡◌, ◌≤◌}
+use Rattle.std.specs.Prelude.{drop, length, List, min, slice_index, take, ℕ, ◌+◌, ◌<◌, ◌≡◌, ◌≤◌}
 use Rattle.vte_core.specs.declared.reader.Reader.{Reader}
 use Rattle.vte_core.specs.declared.reader.Window.{Window}
 use Rattle.vte_core.specs.Looks.{looks_of}

@@ -95,8 +95,8 @@ impl Reader {
             → ends_sequence (class_of (slice_index input.entry.bytes.now result)) ≡ true }
         ensures looks_at_most { looks_of self.new + 4 * from ≤ looks_of self.old + 4 * result + 1 }
     {
-        let near = input.len().min(from + 8);
-        let mut end = self.find_ending_byte(input, from, near);
+        let near_end = input.len().min(from + 8);
+        let mut end = self.find_ending_byte(input, from, near_end);
         if end - from < 8 {
             return end;
         }

@@ -19,7 +19,7 @@ module _ {P B T A V W : Type 0} {view : EngineView P B T W} {engine : Engine P B
     }
 
     -- If its parts are at a state and nothing is held, the engine is at that state.
-    pub engine-at : PartsAreAt view engine.parser engine.state value state → held_of engine.hold ≡ state.held
+    engine-at : PartsAreAt view engine.parser engine.state value state → held_of engine.hold ≡ state.held
         → state.held ≡ []
         → EngineIsAt view engine value state
     engine-at parts_at holds none_held = record {

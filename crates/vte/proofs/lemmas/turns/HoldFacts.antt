@@ -94,7 +94,7 @@ module _ {V W : Type 0} (meaning : Meaning V W) where
   inside-pending state hold_invariant allowed steady = search (rules, arith)
 
   -- A parsing turn begins outside an update, since one that is due was stopped.
-  pub stop_if_due-outside : (pending : Bool) (state : State V W) → meaning.timeout.allows state.timeout pending
+  stop_if_due-outside : (pending : Bool) (state : State V W) → meaning.timeout.allows state.timeout pending
       → HoldInvariantAt meaning state
       → IsSteady meaning.timeout
       → IsOutsideUpdate meaning.timeout (stop_if_due meaning pending state).held

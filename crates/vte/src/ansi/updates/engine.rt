@@ -82,7 +82,7 @@ impl<P: EventParser + Drop, B: TextBuffer + Drop, T: Timeout + Drop, A: Allocato
         // Each turn reads at least one byte.
         // proof: that is known only at a state, so a `while` would have no measure.
         for _turn in 0..bytes.len() {
-            match self.turn::<H, G>(handler, &bytes[read..]) {
+            match self.take_turn::<H, G>(handler, &bytes[read..]) {
                 Ok(count) => read += count,
                 Err(refused) => {
                     let read = read + refused.read;
@@ -155,7 +155,7 @@ impl<P: EventParser + Drop, B: TextBuffer + Drop, T: Timeout + Drop, A: Allocato
     /// asks the timeout once. While an update is pending, the bytes are held, or the update is
     /// stopped if there is no room for them.
     // cargo: #[inline]
-    fn turn<H: Handler, G: ParseAs<H, T, P>>(
+    fn take_turn<H: Handler, G: ParseAs<H, T, P>>(
         &mut self,
         handler: &mut H,
         bytes: &[u8],

@@ -77,8 +77,8 @@ fn has_no_private_sequence(block: &[u8; 34]) -> bool
     ensures { IsTrue result → HasNoPrivateSequence block.now 32 }
 {
     let mut none_found = true;
-    for at in 0..32 {
-        none_found &= (block[at] != ESCAPE) | (block[at + 2] != b'?');
+    for index in 0..32 {
+        none_found &= (block[index] != ESCAPE) | (block[index + 2] != b'?');
     }
     none_found
 }

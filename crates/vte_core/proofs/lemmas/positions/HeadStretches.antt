@@ -229,7 +229,7 @@ takes_bytes-head {step} {old} {new} {limit} {b} {parser}
     subst (λ p. TakesByte step old new limit p b next) (sym at_head.same) (takes at_head.head at_head.is_at))
 
 -- A call reads the rest of a head and the final byte of a control sequence.
-pub advances-control_sequence : {V B outside : Type 0} {call : ChunkCall V} {old new : V} {i j k b : ℕ}
+advances-control_sequence : {V B outside : Type 0} {call : ChunkCall V} {old new : V} {i j k b : ℕ}
     {reached reached_then : HeadProgress} {parser next : Machine B} {collected : CollectedHead}
     → parser.state ≡ ControlSequence reached
     → ReadsHead call.bytes i j reached reached_then parser.collected collected

@@ -10,7 +10,8 @@ use Rattle.vte_core.proofs.lemmas.positions.Progress.{progress-command}
 use Rattle.vte_core.proofs.lemmas.positions.SettledStates.{place-settled_text}
 use Rattle.vte_core.proofs.lemmas.positions.ToRun.{reads-again}
 use Rattle.vte_core.proofs.lemmas.shapes.FirstSegment.{text_outcome-broken}
-use Rattle.vte_core.proofs.lemmas.streams.After.{added-after, added-leads, after-events, after-leads, after-nothing, after-to_close, events-empty, open_at_end-any}
+use Rattle.vte_core.proofs.lemmas.streams.After.{added-after, added-leads, after-events, after-leads, after-nothing, after-to_close, events-empty}
+use Rattle.vte_core.proofs.lemmas.streams.AnyLimit.{open_at_end-any}
 use Rattle.vte_core.proofs.lemmas.streams.StreamSteps.{counts_data}
 use Rattle.vte_core.specs.declared.parser.open.Open.TheVariants as kind
 use Rattle.vte_core.specs.declared.utf8.Unfinished.TheVariants.{Empty}

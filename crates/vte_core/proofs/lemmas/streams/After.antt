@@ -3,24 +3,23 @@
 --
 -- `added-X` says what `added` is in the case X, and `after-X` what `IsAfter` says of X.
 use Rattle.std.proofs.Common.{eqb-true}
-use Rattle.vte_core.proofs.Common.{added, after, ap, append-nil, append_assoc, arith, AtEscape, body_outcome, body_rest, Bool, BytesLead, cases_Bool, class_of, closing_events_at, CommandToClose, cut_at_escape, drop-append_seam, drop_all, eqb, escape, Event, events, events_from, false, from_first, HasReadWithLimit, inl, inr, InText, is_cancel, is_key, is_truncated, is_well_formed, IsAfter, IsAtPlace, List, Machine, None, open_at, open_bytes, open_character, Option, Outcome, outcome, outcome_from, Place, Print, refl, replacement, report, rules, sequence_kind, sequence_outcome, SequenceKind, sym, system_command_outcome, TakesByte, TakesBytes, text_outcome, to_close_at, ToClose, true, with_bodies, ℕ, [], ◌++◌, ◌∙◌, ◌∷◌, ◌≡◌, ◌⊎◌}
+use Rattle.vte_core.proofs.Common.{added, after, ap, append-nil, append_assoc, arith, AtEscape, BytesLead, cases_Bool, closing_events_at, drop-append_seam, drop_all, eqb, escape, Event, events, events_from, false, HasReadWithLimit, inl, inr, InText, is_truncated, is_well_formed, IsAfter, IsAtPlace, List, Machine, open_at, open_bytes, open_character, Option, outcome, outcome_from, Place, Print, refl, replacement, report, rules, sym, TakesByte, TakesBytes, text_outcome, to_close_at, true, ℕ, [], ◌++◌, ◌∙◌, ◌∷◌, ◌≡◌, ◌⊎◌}
 use Rattle.vte_core.proofs.lemmas.bytes.Utf8.{ascii-breaks, Tests}
 use Rattle.vte_core.proofs.lemmas.fields.PlaceOfState.{events_from-nothing, IsReachable, may_continue-truncated, open_bytes-at, outcome_from-nothing}
 use Rattle.vte_core.proofs.lemmas.places.BytesInStream.{bytes_lead-byte, events-after_nothing, outcome_from-escape, waits-byte}
 use Rattle.vte_core.proofs.lemmas.shapes.FirstSegment.{text_outcome-broken}
 use Rattle.vte_core.proofs.lemmas.shapes.Outcomes.{report-append}
-use Rattle.vte_core.specs.Open.{open_at_end, open_of}
+use Rattle.vte_core.proofs.lemmas.streams.AnyLimit.{open_bytes-any}
 
--- ---- from a byte to bytes, and from a place to what a parser has read
+-- ---- from a byte to bytes
 
--- `TakesByte` of a byte is `TakesBytes` of one.
-
+-- Events are taken one by one, so parts of a list may be taken one after the other.
 pub after_events-append : {V : Type 0} (step : V → Event → V) (value : V) (events others : List Event)
     → after step value (events ++ others) ≡ after step (after step value events) others
 after_events-append step value [] others = refl
 after_events-append step value (event ∷ events) others = after_events-append step (step value event) events others
 
--- A single byte other than ESC is taken as `TakesByte` says.
+-- `TakesByte` of a byte other than ESC is `TakesBytes` of one.
 pub takes_bytes-one : {V B : Type 0} {step : V → Event → V} {old new : V} {limit : Option ℕ} {place : Place} {byte : ℕ}
     {parser : Machine B} → eqb byte escape ≡ false
     → TakesByte step old new limit place byte parser → TakesBytes step old new limit place (byte ∷ []) parser
@@ -77,58 +76,6 @@ waits-broken limit opened b more truncated not_well_formed_after not_truncated_a
 
 pub events-empty : (limit : Option ℕ) → events limit [] ≡ []
 events-empty limit = events-after_nothing limit [] ∙ events_from-nothing limit (InText []) refl
-
--- ---- what is unfinished, whatever the limit
-
--- By the definitions, part by part, only what is kept of a command depends on the size of the store.
-
--- A view of what is open that is the same whatever is kept of a command.
-module _ {A : Type 0} (view : ToClose → A)
-    (same : (pieces others : List (List ℕ)) (lost other : Bool)
-    → view (CommandToClose pieces lost) ≡ view (CommandToClose others other)) where
-  view-shape : (limit : Option ℕ) (kind : SequenceKind) (key : ℕ) (bytes : List ℕ)
-      → view (sequence_outcome limit kind key bytes).to_close ≡ view (sequence_outcome None kind key bytes).to_close
-  unfolding system_command_outcome
-  view-shape limit kind key bytes = search (rules, arith)
-
-  view-rest : (limit : Option ℕ) (rest : List ℕ)
-      → view (body_rest limit rest).to_close ≡ view (body_rest None rest).to_close
-  view-rest limit [] = refl
-  view-rest limit (key ∷ bytes) =
-      elim (cases_Bool (is_cancel (class_of key))) [
-        | inl cancels ↦ rw cancels refl
-        | inr other ↦ rw other (view-shape limit (sequence_kind key) key bytes)
-      ]
-
-  view-body : (limit : Option ℕ) (body : List ℕ)
-      → view (body_outcome limit body).to_close ≡ view (body_outcome None body).to_close
-  unfolding body_outcome
-  view-body limit body = view-rest limit (from_first (λ b. is_key (class_of b)) body)
-
-  view-bodies : (limit : Option ℕ) (part other : Outcome) (bodies : List (List ℕ))
-      → view part.to_close ≡ view other.to_close
-      → view (with_bodies limit part bodies).to_close ≡ view (with_bodies None other bodies).to_close
-  view-bodies limit part other [] agree = agree
-  view-bodies limit part other (body ∷ bodies) agree =
-      view-bodies limit (body_outcome limit body) (body_outcome None body) bodies (view-body limit body)
-
-  view-any : (limit : Option ℕ) (stream : List ℕ)
-      → view (outcome limit stream).to_close ≡ view (outcome None stream).to_close
-  unfolding outcome
-  view-any limit stream =
-      let cut = cut_at_escape stream in
-      view-bodies limit (text_outcome cut.text) (text_outcome cut.text) cut.bodies refl
-
-open_bytes-any : (limit : Option ℕ) (stream : List ℕ)
-    → open_bytes (outcome limit stream).to_close ≡ open_character stream
-unfolding open_character
-open_bytes-any limit stream = view-any open_bytes (λ _ _ _ _. refl) limit stream
-
--- What is kept of a command has no effect on which kind is open.
-pub open_at_end-any : (limit : Option ℕ) (stream : List ℕ)
-    → open_of (outcome limit stream).to_close ≡ open_at_end stream
-unfolding open_at_end
-open_at_end-any limit stream = view-any open_of (λ _ _ _ _. refl) limit stream
 
 -- ---- what further bytes add, from the place after the stream
 

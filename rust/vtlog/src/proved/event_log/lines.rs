@@ -46,7 +46,7 @@ impl Lines {
     }
 
     /// Returns whether more than half of the capacity is in use: then the lines should be written.
-    pub(crate) fn is_more_than_half_full(&self) -> bool {
+    pub(crate) fn is_to_be_written(&self) -> bool {
         self.bytes.len() > CAPACITY / 2
     }
 

@@ -71,8 +71,8 @@ impl Reader {
     /// Returns the position of the CAN, SUB or ESC that ends an ignored string, or the length of
     /// the input if it has none from `from` on.
     pub(crate) fn find_ignored_string_end(self, input: &[u8], from: usize) -> usize {
-        let near = input.len().min(from + 8);
-        let mut end = self.find_ending_byte(input, from, near);
+        let near_end = input.len().min(from + 8);
+        let mut end = self.find_ending_byte(input, from, near_end);
         if end - from < 8 {
             return end;
         }

@@ -56,7 +56,7 @@ impl<P: EventParser, B: TextBuffer, T: Timeout> Engine<P, B, T> {
         let mut read = 0;
         // Each turn reads at least one byte.
         for _turn in 0..bytes.len() {
-            match self.turn::<H, G>(handler, &bytes[read..]) {
+            match self.take_turn::<H, G>(handler, &bytes[read..]) {
                 Ok(count) => read += count,
                 Err(refused) => {
                     let read = read + refused.read;
@@ -99,7 +99,7 @@ impl<P: EventParser, B: TextBuffer, T: Timeout> Engine<P, B, T> {
     /// asks the timeout once. While an update is pending, the bytes are held, or the update is
     /// stopped if there is no room for them.
     #[inline]
-    fn turn<H: Handler + ?Sized, G: ParseAs<H, T, P>>(
+    fn take_turn<H: Handler + ?Sized, G: ParseAs<H, T, P>>(
         &mut self,
         handler: &mut H,
         bytes: &[u8],

@@ -65,8 +65,8 @@ fn skip_blocks(bytes: &[u8], before: usize) -> usize {
 #[inline(always)]
 fn has_no_private_sequence(block: &[u8; 34]) -> bool {
     let mut none_found = true;
-    for at in 0..32 {
-        none_found &= (block[at] != ESCAPE) | (block[at + 2] != b'?');
+    for index in 0..32 {
+        none_found &= (block[index] != ESCAPE) | (block[index + 2] != b'?');
     }
     none_found
 }

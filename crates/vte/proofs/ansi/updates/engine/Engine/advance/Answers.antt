@@ -27,8 +27,8 @@ loop-turn-preserved g c =
     }
 
 -- A turn has bytes to read.
-pub turn-requires : goal.turn-requires
-turn-requires g c =
+pub take_turn-requires : goal.take_turn-requires
+take_turn-requires g c =
     record {
       not_empty = rw (rest-size c.args.bytes.now c.loop-turn.read c.loop-turn.invariant.within)
           (omega (arith, c.loop-turn.invariant.some c.loop-turn-test.true));

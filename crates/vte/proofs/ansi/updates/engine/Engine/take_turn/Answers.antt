@@ -1,7 +1,7 @@
 -- By the timeout's answer: the bytes are held while an update is pending and they fit the hold. Otherwise it is
 -- stopped if it is pending or bytes are held, and the turn parses.
-use Rattle.vte.proofs.ansi.updates.engine.Engine.turn.Goals.{else-pending-2+else-len-gt0, else-pending-via-else-pending, else-pending-via-then-pending+else-has_room, then-pending-2, then-pending-2-via-else-pending-2+then-len-gt0, then-pending-2-via-then-pending-2}
-use Rattle.vte.proofs.ansi.updates.engine.Engine.turn.Goals as goal
+use Rattle.vte.proofs.ansi.updates.engine.Engine.take_turn.Goals.{else-pending-2+else-len-gt0, else-pending-via-else-pending, else-pending-via-then-pending+else-has_room, then-pending-2, then-pending-2-via-else-pending-2+then-len-gt0, then-pending-2-via-then-pending-2}
+use Rattle.vte.proofs.ansi.updates.engine.Engine.take_turn.Goals as goal
 use Rattle.vte.proofs.Common.{and-false, arith, engine_facts, engine_view, false, held_of, inr, IsAtKeepingMemory, length, max_held, nat_le, nat_tests, processor_meaning, refl, sym, true, ◌+◌, ◌<◌, ◌∙◌, ◌≡◌}
 use Rattle.vte.proofs.lemmas.turns.EngineTurns.{ends_turn, engine-at_stop, keeping_memory-reserved, keeping_memory-same, keeping_memory-then, turned_hold}
 use Rattle.vte.proofs.lemmas.turns.RefusedTurns.{refused-nothing}

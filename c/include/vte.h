@@ -78,7 +78,7 @@ enum {
  *     VTE_HOOK, VTE_CSI, VTE_ESC   1 if numbers or intermediates were      the final byte
  *                                  left out, as there were too many
  *     VTE_UNHOOK                   0                                       0
- *     VTE_OSC                      VTE_BELL, VTE_TRUNCATED, or both        0
+ *     VTE_OSC                      0, VTE_BELL, VTE_TRUNCATED or both      0
  */
 typedef struct {
     uint8_t kind;               /* VTE_TEXT.. */

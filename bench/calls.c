@@ -183,8 +183,9 @@ int main(int argc, char **argv) {
     uint64_t best = UINT64_MAX;
     for (long passes = strtol(argv[3], NULL, 10); passes > 0; passes--) {
         uint64_t start = now();
-        for (size_t at = 0; at < length; at += chunk)
-            kinds[kind].feed(reader, stream + at, length - at < chunk ? length - at : chunk);
+        for (size_t position = 0; position < length; position += chunk)
+            kinds[kind].feed(reader, stream + position,
+                             length - position < chunk ? length - position : chunk);
         uint64_t time = now() - start;
         if (time < best) best = time;
     }

@@ -13,13 +13,13 @@ sys.path.insert(0, str(Path.cwd()))
 from my_parser import parse_chunks
 
 
-def written_out(value, end=""):
+def expand(value, end=""):
     """The text of bytes in hex or, with a line feed as the end, of lines."""
     if isinstance(value, list):
-        return "".join(written_out(item, end) for item in value)
+        return "".join(expand(item, end) for item in value)
     if isinstance(value, dict):
         is_line = "line" in value
-        text = written_out(value["line"]) if is_line else value["repeat"]
+        text = expand(value["line"]) if is_line else value["repeat"]
         return (text + end) * value.get("times", 1)
     return value + end
 
@@ -41,8 +41,8 @@ def is_left_out(vector, words):
 
 def try_vector(vector):
     """Returns whether a vector is right in each way, and prints the first in which it is wrong."""
-    chunks = [bytes.fromhex(written_out(chunk)) for chunk in vector["chunks"]]
-    stream, wanted = b"".join(chunks), written_out(vector["events"], "\n")
+    chunks = [bytes.fromhex(expand(chunk)) for chunk in vector["chunks"]]
+    stream, wanted = b"".join(chunks), expand(vector["events"], "\n")
     for cut in chunks, [stream], [bytes([byte]) for byte in stream]:
         got = answer(cut)
         if got != wanted:

@@ -5,7 +5,7 @@
  * no state of their own: a parser is plain data that you own, and so are the buffers for what it
  * reports.
  *
- *     vte_parser parser = {0};
+ *     vte_parser parser = {{0}};
  *     vte_event events[256];
  *     uint8_t data[8192];
  *     vte_counts counts;
@@ -49,21 +49,14 @@ typedef struct {
 
 /* The kinds of events. */
 enum {
-    VTE_TEXT = 0,    /* characters to show, one or more: vte_text_of says where their UTF-8 is, and
-                        code how many bytes it has. A flag says that it is in the data area, and
-                        otherwise it is in the bytes of the call */
-    VTE_EXECUTE = 1, /* a control function of one byte, 00..1F or 80..9F: code */
-    VTE_HOOK = 2,    /* a device control string begins: as VTE_CSI */
-    VTE_DATA = 3,    /* bytes of its data, one or more: vte_text_of and code as with VTE_TEXT */
+    VTE_TEXT = 0,    /* characters to show, one or more: vte_text_of says where their UTF-8 is */
+    VTE_EXECUTE = 1, /* a control function of one byte, 00..1F or 80..9F */
+    VTE_HOOK = 2,    /* a device control string begins: groups and intermediates, as VTE_CSI */
+    VTE_DATA = 3,    /* bytes of its data, one or more: vte_text_of says where */
     VTE_UNHOOK = 4,  /* its end */
-    VTE_OSC = 5,     /* an operating system command: pieces, at most 16, with 1,024 data bytes. Flag
-                        has VTE_BELL if BEL ended it, and VTE_TRUNCATED if data bytes were dropped:
-                        later ones, and those of later pieces */
-    VTE_CSI = 6,     /* a control sequence: groups of numbers, intermediates, and the final byte in
-                        code; flag says whether numbers or intermediates were left out because
-                        there were too many */
-    VTE_ESC = 7      /* an escape sequence: intermediates, and the final byte in code; flag as with
-                        VTE_CSI */
+    VTE_OSC = 5,     /* an operating system command: pieces, at most 16, with 1,024 data bytes */
+    VTE_CSI = 6,     /* a control sequence: groups of numbers, and intermediates */
+    VTE_ESC = 7      /* an escape sequence: intermediates */
 };
 
 /* Sets of kinds: VTE_KIND(VTE_OSC) | VTE_KIND(VTE_CSI). */
@@ -72,19 +65,29 @@ enum {
 
 /* The flags of a VTE_OSC. */
 enum {
-    VTE_BELL = 1,
-    VTE_TRUNCATED = 2
+    VTE_BELL = 1,     /* BEL ended it */
+    VTE_TRUNCATED = 2 /* data bytes were dropped: later ones, and those of later pieces */
 };
 
-/* An event. */
+/* An event.
+ *
+ *     kind                         flag                                    code
+ *     VTE_TEXT, VTE_DATA           1 if its bytes are in the data area,    how many these are
+ *                                  0 if in those of the call
+ *     VTE_EXECUTE                  0                                       the byte
+ *     VTE_HOOK, VTE_CSI, VTE_ESC   1 if numbers or intermediates were      the final byte
+ *                                  left out, as there were too many
+ *     VTE_UNHOOK                   0                                       0
+ *     VTE_OSC                      0, VTE_BELL, VTE_TRUNCATED or both      0
+ */
 typedef struct {
-    uint8_t kind;
-    uint8_t flag;
+    uint8_t kind;               /* VTE_TEXT.. */
+    uint8_t flag;               /* depends on the kind, as the table says */
     uint8_t intermediate_count; /* at most 2 */
     uint8_t count;              /* how many groups or pieces there are */
     uint8_t intermediates[2];   /* including a private marker `<`..`?` */
     uint16_t unused;
-    uint32_t code;
+    uint32_t code;              /* depends on the kind, as the table says */
     uint32_t start;             /* where its groups or pieces start in the data area; where its text
                                    or data starts */
 } vte_event;

@@ -186,9 +186,9 @@ typedef struct {
 } vte_sync;
 
 /* Returns a new processor, or NULL if memory is refused. It copies the table, which has `size`
- * bytes: pass `sizeof(vte_handler)`. Later versions may have more calls, at the end, and a program
- * that was compiled without them keeps working. A size that isn't that of whole pointers is
- * refused: it returns NULL, and reads nothing of the table. */
+ * bytes, and may be NULL if that is 0: pass `sizeof(vte_handler)`. Later versions may have more
+ * calls, at the end, and a program that was compiled without them keeps working. A size that isn't
+ * that of whole pointers is refused: it returns NULL, and reads nothing of the table. */
 vte_processor *vte_processor_new(const vte_handler *calls, size_t size, void *user);
 
 /* Frees a processor. NULL is no processor. */

@@ -25,13 +25,13 @@ class Parser:
     """A parser, with a limit or without. Counts have other values before each call."""
 
     def __init__(self, library, is_long=False):
-        self.c, self.is_long, self.pointer = library.functions, is_long, (c_uint64 * 164)()
+        self.functions, self.is_long, self.pointer = library.functions, is_long, (c_uint64 * 164)()
         if is_long:
-            self.pointer = c_void_p(self.c.vte_long_parser_new())
+            self.pointer = c_void_p(self.functions.vte_long_parser_new())
 
     def __del__(self):
         if self.is_long:
-            self.c.vte_long_parser_free(self.pointer)
+            self.functions.vte_long_parser_free(self.pointer)
 
     def feed(self, sent, kinds=ALL_KINDS, stops=0, rooms=ROOMS):
         """Returns how many bytes are read, the events, and how many data bytes these have."""
@@ -39,20 +39,20 @@ class Parser:
         common = (self.pointer, sent or None, c_size_t(len(sent)), c_uint32(kinds), c_uint32(stops),
                  events or None, c_size_t(len(events)))
         if self.is_long:
-            read = self.c.vte_long_feed(*common, byref(c_void_p()), counts)
+            read = self.functions.vte_long_feed(*common, byref(c_void_p()), counts)
         else:
-            read = self.c.vte_feed(*common, data or None, c_size_t(len(data)), counts)
+            read = self.functions.vte_feed(*common, data or None, c_size_t(len(data)), counts)
         return read, events[:counts[0]], counts[1]
 
     def strip(self, sent, room):
         """Returns how many bytes are read, and the text."""
         written, text = c_size_t(77), create_string_buffer(room) if room else None
-        read = self.c.vte_strip(self.pointer, sent or None, c_size_t(len(sent)), text,
+        read = self.functions.vte_strip(self.pointer, sent or None, c_size_t(len(sent)), text,
                                 c_size_t(room), byref(written))
         return read, text[:written.value] if room else b"?" * written.value
 
     def find_open(self):
-        is_open = self.c.vte_long_is_open if self.is_long else self.c.vte_is_open
+        is_open = self.functions.vte_long_is_open if self.is_long else self.functions.vte_is_open
         return is_open(self.pointer) & 0xff
 
 
@@ -66,24 +66,24 @@ class Processor:
     functions after these, too."""
 
     def __init__(self, library, size=SIZE_OF_TABLE):
-        self.c, self.made = library.functions, []
+        self.functions, self.made = library.functions, []
         names = [name for name, _ in FUNCTIONS] + ["later"] * 3
         self.table = (FUNCTION * len(names))(
             *(FUNCTION(partial(self.made.append, name)) for name in names))
-        self.pointer = c_void_p(self.c.vte_processor_new(
+        self.pointer = c_void_p(self.functions.vte_processor_new(
             self.table if size else None, c_size_t(size), None))
 
     def advance(self, sent):
         """Returns the status, and how many bytes are read."""
         read = c_size_t(77)
-        return self.c.vte_processor_advance(self.pointer, sent or None, c_size_t(len(sent)),
+        return self.functions.vte_processor_advance(self.pointer, sent or None, c_size_t(len(sent)),
                                             byref(read)), read.value
 
     def sync(self):
         """Returns the status, how many bytes are held, if an update is pending, and until when."""
         held = (c_uint64 * 3)(77, 77, 77)
-        status = self.c.vte_processor_sync(self.pointer, held)
+        status = self.functions.vte_processor_sync(self.pointer, held)
         return status, held[0], held[1] & 0xff, held[2]
 
     def call(self, name):
-        return self.c[f"vte_processor_{name}"](self.pointer)
+        return self.functions[f"vte_processor_{name}"](self.pointer)

@@ -190,7 +190,8 @@ static void read_input(void) {
         size_t most = size_of(asked_chunk, 1, 300);
         uint8_t *bytes = room_for(most);
         length = fread(bytes, 1, most, stdin);
-        for (size_t at = 0; at < length;) at += read_some(bytes + at, length - at);
+        for (size_t position = 0; position < length;)
+            position += read_some(bytes + position, length - position);
         free(bytes);
     } while (length > 0);
 }

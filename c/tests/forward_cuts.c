@@ -7,16 +7,16 @@
 #include <unistd.h>
 
 static char *stream;
-static size_t length, at, cut, step;
+static size_t length, position, cut, step;
 
 /* Reads up to the cut, or a step. */
 static ssize_t next_chunk(int file, void *bytes, size_t capacity) {
-    size_t end = step ? at + step : at < cut ? cut : length;
-    size_t count = (end < length ? end : length) - at;
+    size_t end = step ? position + step : position < cut ? cut : length;
+    size_t count = (end < length ? end : length) - position;
     CHECK(count <= capacity);
     CHECK(file == 0);
-    memcpy(bytes, stream + at, count);
-    at += count;
+    memcpy(bytes, stream + position, count);
+    position += count;
     return (ssize_t)count;
 }
 
@@ -26,12 +26,12 @@ static ssize_t next_chunk(int file, void *bytes, size_t capacity) {
 #undef main
 #undef read
 
-static char *passed_on(size_t *size) {
+static char *run_forward(size_t *size) {
     char *passed;
     FILE *real = stdout;
     memset(&parser, 0, sizeof parser);
     held = NULL;
-    at = held_length = held_room = escape = 0;
+    position = held_length = held_room = escape = 0;
     stdout = open_memstream(&passed, size);
     CHECK(forward() == 0);
     fclose(stdout);
@@ -44,9 +44,9 @@ int main(void) {
     for (ssize_t read; (read = getdelim(&stream, &capacity, 0, stdin)) > 0; putchar(0)) {
         length = (size_t)read - 1;
         cut = step = 0;
-        char *whole = passed_on(&whole_size);
+        char *whole = run_forward(&whole_size);
         for (step = 1; cut < length; cut++, step = 0) {
-            char *passed = passed_on(&size);
+            char *passed = run_forward(&size);
             if (size != whole_size || memcmp(passed, whole, size) != 0)
                 printf("cut at %zu:\n", cut);
             free(passed);

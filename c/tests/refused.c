@@ -77,18 +77,19 @@ static int read_long(void) {
     vte_counts counts;
     vte_long_parser *parser = vte_long_parser_new();
     if (parser == NULL) return 0;
-    for (size_t at = 0; at < stream_length;) {
-        size_t length = stream_length - at < most ? stream_length - at : most;
+    for (size_t position = 0; position < stream_length;) {
+        size_t length = stream_length - position < most ? stream_length - position : most;
         size_t read =
-            vte_long_feed(parser, stream + at, length, kinds, 0, events, 4096, &data, &counts);
+            vte_long_feed(parser, stream + position, length, kinds, 0, events, 4096, &data,
+                          &counts);
         if (read == VTE_REFUSED) {
             CHECK(refused);
             CHECK(counts.events == 0);
             continue;
         }
         CHECK(read != 0);
-        for (size_t i = 0; i < counts.events; i++) show(&events[i], stream + at, data);
-        at += read;
+        for (size_t i = 0; i < counts.events; i++) show(&events[i], stream + position, data);
+        position += read;
     }
     size_t least = vte_long_feed(parser, stream, 1, kinds, 0, events, 3, &data, &counts);
     CHECK(least == VTE_NO_ROOM);
@@ -124,12 +125,12 @@ static int process(void) {
     if (processor == NULL) return 0;
     /* a stop doesn't allocate, and makes a call */
     CHECK(vte_processor_stop_sync(processor) == VTE_OK);
-    for (size_t at = 0; at < stream_length;) {
-        size_t read, length = stream_length - at < most ? stream_length - at : most;
-        int status = vte_processor_advance(processor, stream + at, length, &read);
+    for (size_t position = 0; position < stream_length;) {
+        size_t read, length = stream_length - position < most ? stream_length - position : most;
+        int status = vte_processor_advance(processor, stream + position, length, &read);
         CHECK(status == VTE_OK || status == VTE_NO_MEMORY);
         CHECK(status == VTE_OK ? read == length : read < length);
-        at += read;
+        position += read;
     }
     vte_processor_free(processor);
     return 1;

@@ -84,7 +84,7 @@ def test_runs_are_in_the_bytes(library, kind, sent, wanted):
     for parser in make_parsers(library):
         for step, chunks in (len(sent), wanted), (1, [b"%c" % byte for byte in b"".join(wanted)]):
             found = []
-            for chunk in (sent[at:at + step] for at in range(0, len(sent), step)):
+            for chunk in (sent[start:start + step] for start in range(0, len(sent), step)):
                 read, events, _ = parser.feed(chunk)
                 runs = [event for event in events if event.kind == kind]
                 assert read == len(chunk) and not any(event.flag for event in runs)
@@ -95,19 +95,20 @@ def test_runs_are_in_the_bytes(library, kind, sent, wanted):
 
 def test_all_of_a_long_text_has_a_position(cargo_build):
     """A parser without a limit reads 64 KiB at most, and all of these have a position."""
-    sent, at = bytearray(b"a" * 200_000), 0
+    sent, position = bytearray(b"a" * 200_000), 0
     sent[150_009::10_000] = b"\r" * 5
     parser = Parser(cargo_build, is_long=True)
-    while at < len(sent):
-        read, events, data = parser.feed(bytes(sent[at:]), rooms=(4 + at % 3, 0))
+    while position < len(sent):
+        read, events, data = parser.feed(bytes(sent[position:]), rooms=(4 + position % 3, 0))
         assert 0 < read <= 65536 and data == 0
         end = 0
         for event in events:
             is_text = event.kind == TEXT
-            assert (event.start, event.flag) == (end, 0) if is_text else sent[at + end] == 0x0d
+            assert ((event.start, event.flag) == (end, 0) if is_text
+                    else sent[position + end] == 0x0d)
             end += event.code if is_text else 1
         assert end == read
-        at += read
+        position += read
 
 
 def test_a_call_reads_less_than_4_gib(library):

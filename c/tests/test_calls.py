@@ -123,7 +123,7 @@ def make_scripts():
         if vector["kind"] == "calls":
             chunks = [*map(bytes_of, vector["chunks"])]
             stream = b"".join(chunks)
-            by_bytes = [stream[at:at + 1] for at in range(len(stream))]
+            by_bytes = [stream[start:start + 1] for start in range(len(stream))]
             for cut in (chunks, [stream], by_bytes)[:3 if len(stream) < MAX_CUT else 2]:
                 acts = [f"advance {chunk.hex()}" for chunk in cut]
                 step = acts, expand_lines(vector["calls"]), (None, None, None)

@@ -39,7 +39,7 @@ def feed(reader, chunks, *kinds):
 
 def cut(stream, size):
     """The stream in chunks of a size."""
-    return [stream[at:at + size] for at in range(0, len(stream), size)]
+    return [stream[start:start + size] for start in range(0, len(stream), size)]
 
 
 def join_runs(events):

@@ -169,32 +169,32 @@ WRONG = [("feed", 1), ("feed", "a"), ("feed", b"x", Osc, Osc), ("feed_until", b"
 
 
 @pytest.mark.parametrize("make_any, read", READERS)
-@pytest.mark.parametrize("at", range(0, len(STREAM), 3))
-def test_errors_leave_the_stream(make_any, read, at):
+@pytest.mark.parametrize("position", range(0, len(STREAM), 3))
+def test_errors_leave_the_stream(make_any, read, position):
     reader = make_any()
     method, other = getattr(reader, read), getattr(make_any(), read)
-    made, wanted = method(STREAM[:at]), other(STREAM[:at]) + other(STREAM[at:])
+    made, wanted = method(STREAM[:position]), other(STREAM[:position]) + other(STREAM[position:])
     for name, *words in WRONG:
         if function := getattr(reader, name, None):
             with pytest.raises((TypeError, ValueError)):
                 function(*words)
     # nor is there a state to be set by what wasn't pickled
     assert not hasattr(reader, "__setstate__")
-    assert made + method(STREAM[at:]) == wanted
+    assert made + method(STREAM[position:]) == wanted
 
 
 @pytest.mark.parametrize("copied", [
     copy.copy, copy.deepcopy, lambda reader: pickle.loads(pickle.dumps(reader))])
 def test_a_copy_goes_on_as_its_original(copied):
-    for at in range(len(STREAM) + 1):
+    for position in range(len(STREAM) + 1):
         parser, stripper = OwnParser(limit=1024), Slots("surrogateescape")
         parser.name, stripper.name, stripper.more = ["a"], "b", 5
-        events, text = parser.feed(STREAM[:at]), stripper.strip(STREAM[:at])
+        events, text = parser.feed(STREAM[:position]), stripper.strip(STREAM[:position])
         parser, stripper = copied(parser), copied(stripper)
         assert (type(parser), parser.limit, vars(parser)) == (OwnParser, 1024, {"name": ["a"]})
         assert (type(stripper), stripper.more, vars(stripper)) == (Slots, 5, {"name": "b"})
-        assert join_runs(events + parser.feed(STREAM[at:])) == EVENTS
-        assert text + stripper.strip(STREAM[at:]) == "aü\r\U0001f600".encode() + b"\xff"
+        assert join_runs(events + parser.feed(STREAM[position:])) == EVENTS
+        assert text + stripper.strip(STREAM[position:]) == "aü\r\U0001f600".encode() + b"\xff"
     with pytest.raises(TypeError, match="only parsers with a limit can be copied"):
         copied(vte.Parser())
     with pytest.raises(TypeError, match="cannot pickle '.*Processor' object"):

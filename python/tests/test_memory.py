@@ -87,13 +87,13 @@ def retry(memory, function, *words):
 
 def read_all(memory, read, data):
     """All that is added, and how many bytes were read, as a call may stop."""
-    made, at = [], 0
-    while isinstance(answer := memory.call(read, data[at:]), MemoryError):
+    made, position = [], 0
+    while isinstance(answer := memory.call(read, data[position:]), MemoryError):
         if isinstance(answer, vte.Refused):
             assert not answer.lost
-            made, at = made + answer.events, at + answer.read
-    more, count = answer if isinstance(answer, tuple) else (answer, len(data) - at)
-    return made + more, at + count
+            made, position = made + answer.events, position + answer.read
+    more, count = answer if isinstance(answer, tuple) else (answer, len(data) - position)
+    return made + more, position + count
 
 
 def feed(memory, stream, make, *kinds):
@@ -104,12 +104,12 @@ def feed(memory, stream, make, *kinds):
 
 
 def feed_until(memory, stream, stops, *kinds):
-    parser, at, found = vte.Parser(), 0, []
-    while at < len(stream):
+    parser, position, found = vte.Parser(), 0, []
+    while position < len(stream):
         made, read = read_all(memory, lambda data: parser.feed_until(data, stops, *kinds),
-                              stream[at:at + 150_000])
-        at += read
-        found.append((join_runs(made), at))
+                              stream[position:position + 150_000])
+        position += read
+        found.append((join_runs(made), position))
     return found
 
 

@@ -21,9 +21,9 @@ STREAM = STREAMS["long commands"]
 def wanted_parts(stream, size):
     """The parts, from the positions of all ESC."""
     starts = [0]
-    for at, byte in enumerate(stream):
-        if byte == 0x1b and at >= starts[-1] + size:
-            starts.append(at)
+    for position, byte in enumerate(stream):
+        if byte == 0x1b and position >= starts[-1] + size:
+            starts.append(position)
     return [*zip(starts, [start + 1 for start in starts[1:]] + [len(stream)])] if stream else []
 
 
@@ -59,12 +59,12 @@ def test_a_cut_before_the_escape_is_wrong():
 def test_text_may_be_cut_where_no_character_is_open():
     stream, whole = STREAMS["without ESC"], vte.strip(STREAMS["without ESC"])
     decoder = codecs.getincrementaldecoder("utf-8")("replace")
-    for at in range(1, len(stream) + 1):
-        decoder.decode(stream[at - 1:at])
+    for position in range(1, len(stream) + 1):
+        decoder.decode(stream[position - 1:position])
         if decoder.getstate()[0] == b"":
-            assert vte.strip(stream[:at]) + vte.strip(stream[at:]) == whole
+            assert vte.strip(stream[:position]) + vte.strip(stream[position:]) == whole
         else:
-            assert stream[at - 1] >= 0x80
+            assert stream[position - 1] >= 0x80
 
 
 def test_any_source_has_the_same_parts(tmp_path):
@@ -109,8 +109,8 @@ def test_only_bytes_near_the_cuts_are_read(distance):
 
 def test_a_bad_source_is_an_error(tmp_path):
     class Shrinking(io.BytesIO):
-        def seek(self, at, whence=0):
-            return super().seek(at, whence) + (1000 if whence else 0)
+        def seek(self, position, whence=0):
+            return super().seek(position, whence) + (1000 if whence else 0)
 
     reader, writer = os.pipe()
     for error, message, source in [

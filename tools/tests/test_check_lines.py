@@ -64,6 +64,19 @@ def test_how_long_files_and_functions_may_be(path, begin, line, end, most, wante
     assert find_faults(path, longer) == [f"{path}: {wanted}"] * bool(wanted)
 
 
+LOOP = "    let a = for b in c {\n        d;\n    };\n"
+TWO = LOOP + "    // for e\n    match e {\n        f => while g\n        {\n        }\n    }\n"
+
+
+@pytest.mark.parametrize("path, name, body, is_refused", [
+    ("crates/vte/src/a.rt", "f", LOOP, False), ("crates/vte/src/a.rt", "f", TWO, True),
+    ("crates/vte_tests/src/a.rt", "f", TWO, False),
+    ("crates/vte_core/src/parser/text.rt", "read_until_stop", TWO, False)])
+def test_how_many_loops_a_function_may_have(path, name, body, is_refused):
+    wanted = [f"{path}: {name}: a function of 2 loops"] * is_refused
+    assert find_faults(path, f"fn {name}() {{\n{body}}}\n\nfn g() {{\n{LOOP}}}\n") == wanted
+
+
 # two imports, and whether they are sorted
 @pytest.mark.parametrize("above, below, is_sorted", [
     ("use Rattle.std.b.{x}", "use Rattle.a.b.{x}", True),

@@ -187,7 +187,7 @@ def test_all_mutants_are_tried(copy):
 
 @pytest.mark.parametrize("words, output", [
     (["folder", "c/gone"], "there is no mutant c/gone"),
-    (["--check", "c/m"], "--check takes no words"),
+    (["--check", "c/m"], "--check takes no folder or names"),
     ([], "a folder outside the repository is needed, for a copy"),
     (["in"], "a folder outside the repository is needed, for a copy")])
 def test_words_that_mutate_refuses(copy, capsys, words, output):

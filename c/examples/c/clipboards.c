@@ -31,11 +31,11 @@ int main(int argc, char **argv) {
     int number = 0;
     if (argc != 2 || parser == NULL) return 2;
     while ((length = read(0, bytes, sizeof bytes)) > 0)
-        for (size_t at = 0; at < (size_t)length;) {
-            size_t count = vte_long_feed(parser, bytes + at, (size_t)length - at, VTE_KIND(VTE_OSC),
-                                         0, events, 64, &data, &counts);
+        for (size_t position = 0; position < (size_t)length;) {
+            size_t count = vte_long_feed(parser, bytes + position, (size_t)length - position,
+                                         VTE_KIND(VTE_OSC), 0, events, 64, &data, &counts);
             if (count == VTE_REFUSED) return 1;
-            at += count;
+            position += count;
             for (size_t i = 0; i < counts.events; i++) {
                 int saved = save(&events[i], data, argv[1], number);
                 if (saved < 0) return 1;

@@ -77,8 +77,8 @@ int main(void) {
     uint8_t bytes[4096], end;
     ssize_t length;
     while ((length = read(0, bytes, sizeof bytes)) > 0) {
-        for (size_t at = 0; at < (size_t)length; pass())
-            at += filter(bytes + at, (size_t)length - at);
+        for (size_t position = 0; position < (size_t)length; pass())
+            position += filter(bytes + position, (size_t)length - position);
         fflush(stdout);
     }
     /* The next ESC would end a command that is open, whoever writes it. */

@@ -25,10 +25,10 @@ int main(int argc, char **argv) {
     }
     /* Linux answers EIO once the last program has closed the pty. */
     while ((length = read(terminal, bytes, sizeof bytes)) > 0) {
-        for (size_t at = 0; at < (size_t)length;) {
-            const uint8_t *unread = bytes + at;
-            at += vte_feed(&parser, unread, (size_t)length - at, VTE_ALL_KINDS, 0, events, 256,
-                           data, sizeof data, &counts);
+        for (size_t position = 0; position < (size_t)length;) {
+            const uint8_t *unread = bytes + position;
+            position += vte_feed(&parser, unread, (size_t)length - position, VTE_ALL_KINDS, 0,
+                                 events, 256, data, sizeof data, &counts);
             for (size_t i = 0; i < counts.events; i++)
                 if (events[i].kind == VTE_TEXT)
                     printf("text %.*s\n", (int)events[i].code,

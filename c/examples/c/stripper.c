@@ -10,8 +10,9 @@ int main(void) {
     ssize_t length;
     /* read returns what is there; fread would wait until the buffer is full. */
     while ((length = read(0, bytes, sizeof bytes)) > 0) {
-        for (size_t at = 0; at < (size_t)length;) {
-            at += vte_strip(&parser, bytes + at, (size_t)length - at, text, sizeof text, &written);
+        for (size_t position = 0; position < (size_t)length;) {
+            position += vte_strip(&parser, bytes + position, (size_t)length - position, text,
+                                  sizeof text, &written);
             fwrite(text, 1, written, stdout);
         }
         if (fflush(stdout) != 0) return 1;

@@ -25,9 +25,9 @@ int main(void) {
     while ((length = read(0, bytes, sizeof bytes)) > 0) {
         fwrite(bytes, 1, (size_t)length, stdout);
         fflush(stdout);
-        for (size_t at = 0; at < (size_t)length;) {
-            at += vte_feed(&parser, bytes + at, (size_t)length - at, VTE_KIND(VTE_OSC), 0, events,
-                           256, data, sizeof data, &counts);
+        for (size_t position = 0; position < (size_t)length;) {
+            position += vte_feed(&parser, bytes + position, (size_t)length - position,
+                                 VTE_KIND(VTE_OSC), 0, events, 256, data, sizeof data, &counts);
             for (size_t i = 0; i < counts.events; i++) watch(&events[i], data);
         }
     }

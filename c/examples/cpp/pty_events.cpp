@@ -15,10 +15,10 @@ class Parser {
 public:
     template <typename Function> void feed(const uint8_t *bytes, size_t length, Function report) {
         vte_counts counts;
-        for (size_t at = 0; at < length;) {
-            const uint8_t *unread = bytes + at;
-            at += vte_feed(&parser, unread, length - at, VTE_ALL_KINDS, 0, events.data(),
-                           events.size(), data.data(), data.size(), &counts);
+        for (size_t position = 0; position < length;) {
+            const uint8_t *unread = bytes + position;
+            position += vte_feed(&parser, unread, length - position, VTE_ALL_KINDS, 0,
+                                 events.data(), events.size(), data.data(), data.size(), &counts);
             for (size_t i = 0; i < counts.events; i++) {
                 const vte_event &event = events[i];
                 const uint8_t *text = vte_text_of(&event, unread, data.data());

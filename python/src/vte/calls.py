@@ -94,178 +94,178 @@ class OtherKeys(_Named):
 
 
 class Input(NamedTuple):
-    """Characters to show."""
+    """Shows characters."""
     text: str
 
 
 class Bell(NamedTuple):
-    """BEL: ring or blink."""
+    """Rings or blinks (BEL)."""
 
 
 class Backspace(NamedTuple):
-    """BS: one column to the left, not past the first."""
+    """Moves the cursor one column to the left, not past the first (BS)."""
 
 
 class PutTab(NamedTuple):
-    """HT: to the next tab stop; `count` is 1."""
+    """Moves the cursor to the next tab stop (HT); `count` is 1."""
     count: int
 
 
 class Linefeed(NamedTuple):
-    """LF, VT, FF and IND, `ESC D`: one line down; at the region's bottom the text scrolls up."""
+    """Moves the cursor a line down, or the text up at the region's bottom (LF, VT, FF, `ESC D`)."""
 
 
 class CarriageReturn(NamedTuple):
-    """CR, and a part of NEL, `ESC E`: to the first column."""
+    """Moves the cursor to the first column (CR, and a part of NEL, `ESC E`)."""
 
 
 class Newline(NamedTuple):
-    """A line feed and a carriage return in one. No sequence makes it."""
+    """Makes a line feed and a carriage return in one. No sequence makes it."""
 
 
 class Substitute(NamedTuple):
-    """SUB: a character that was lost."""
+    """Stands for a character that was lost (SUB)."""
 
 
 class Goto(NamedTuple):
-    """CUP, `CSI H`, and HVP, `CSI f`: to a line and a column."""
+    """Moves the cursor to a line and a column (CUP, `CSI H`, and HVP, `CSI f`)."""
     line: int
     col: int
 
 
 class GotoLine(NamedTuple):
-    """VPA, `CSI d`: to a line."""
+    """Moves the cursor to a line (VPA, `CSI d`)."""
     line: int
 
 
 class GotoCol(NamedTuple):
-    """CHA, `CSI G`, and HPA, `` CSI ` ``: to a column of the line."""
+    """Moves the cursor to a column of the line (CHA, `CSI G`, and HPA, `` CSI ` ``)."""
     col: int
 
 
 class MoveUp(NamedTuple):
-    """CUU, `CSI A`: some lines up."""
+    """Moves the cursor some lines up (CUU, `CSI A`)."""
     lines: int
 
 
 class MoveDown(NamedTuple):
-    """CUD, `CSI B`, and VPR, `CSI e`: some lines down."""
+    """Moves the cursor some lines down (CUD, `CSI B`, and VPR, `CSI e`)."""
     lines: int
 
 
 class MoveForward(NamedTuple):
-    """CUF, `CSI C`, and HPR, `CSI a`: some columns to the right."""
+    """Moves the cursor some columns to the right (CUF, `CSI C`, and HPR, `CSI a`)."""
     cols: int
 
 
 class MoveBackward(NamedTuple):
-    """CUB, `CSI D`: some columns to the left."""
+    """Moves the cursor some columns to the left (CUB, `CSI D`)."""
     cols: int
 
 
 class MoveDownAndCr(NamedTuple):
-    """CNL, `CSI E`: to the first column, some lines down."""
+    """Moves the cursor to the first column, some lines down (CNL, `CSI E`)."""
     lines: int
 
 
 class MoveUpAndCr(NamedTuple):
-    """CPL, `CSI F`: to the first column, some lines up."""
+    """Moves the cursor to the first column, some lines up (CPL, `CSI F`)."""
     lines: int
 
 
 class SaveCursorPosition(NamedTuple):
-    """DECSC, `ESC 7`, SCOSC, `CSI s`: save the cursor's position, rendition, character sets."""
+    """Saves the cursor's position, rendition, character sets (DECSC, `ESC 7`, SCOSC, `CSI s`)."""
 
 
 class RestoreCursorPosition(NamedTuple):
-    """DECRC, `ESC 8`, and SCORC, `CSI u`: restore what was saved last."""
+    """Restores what was saved last (DECRC, `ESC 8`, and SCORC, `CSI u`)."""
 
 
 class ReverseIndex(NamedTuple):
-    """RI, `ESC M`: one line up; at the scrolling region's top the text scrolls down."""
+    """Moves the cursor a line up, or the text down at the region's top (RI, `ESC M`)."""
 
 
 class ScrollUp(NamedTuple):
-    """SU, `CSI S`: the text of the scrolling region moves up."""
+    """Moves the text of the scrolling region up (SU, `CSI S`)."""
     lines: int
 
 
 class ScrollDown(NamedTuple):
-    """SD, `CSI T`: the text of the scrolling region moves down."""
+    """Moves the text of the scrolling region down (SD, `CSI T`)."""
     lines: int
 
 
 class SetScrollingRegion(NamedTuple):
-    """DECSTBM, `CSI r`: the lines that scroll. A bottom of None is the last line."""
+    """Sets the lines that scroll (DECSTBM, `CSI r`). A bottom of None is the last line."""
     top: int
     bottom: int | None
 
 
 class SetHorizontalTabstop(NamedTuple):
-    """HTS, `ESC H`: a tab stop in the cursor's column."""
+    """Sets a tab stop in the cursor's column (HTS, `ESC H`)."""
 
 
 class ClearTabs(NamedTuple):
-    """TBC, `CSI g`: clear the tab stop in the cursor's column, or all of them."""
+    """Clears the tab stop in the cursor's column, or all of them (TBC, `CSI g`)."""
     which: Tabs
 
 
 class SetTabs(NamedTuple):
-    """DECST8C, `CSI ? 5 W`: a tab stop at each eighth column; `interval` is 8."""
+    """Sets a tab stop at each eighth column (DECST8C, `CSI ? 5 W`); `interval` is 8."""
     interval: int
 
 
 class MoveForwardTabs(NamedTuple):
-    """CHT, `CSI I`: some tab stops forward."""
+    """Moves the cursor some tab stops forward (CHT, `CSI I`)."""
     count: int
 
 
 class MoveBackwardTabs(NamedTuple):
-    """CBT, `CSI Z`: some tab stops back."""
+    """Moves the cursor some tab stops back (CBT, `CSI Z`)."""
     count: int
 
 
 class InsertBlank(NamedTuple):
-    """ICH, `CSI @`: blanks at the cursor; the rest of the line moves right."""
+    """Inserts blanks at the cursor; the rest of the line moves right (ICH, `CSI @`)."""
     cols: int
 
 
 class InsertBlankLines(NamedTuple):
-    """IL, `CSI L`: blank lines at the cursor's line; those below move down."""
+    """Inserts blank lines at the cursor's line; those below move down (IL, `CSI L`)."""
     lines: int
 
 
 class DeleteChars(NamedTuple):
-    """DCH, `CSI P`: characters from the cursor on are deleted; the rest of the line moves left."""
+    """Deletes characters from the cursor on; the rest of the line moves left (DCH, `CSI P`)."""
     cols: int
 
 
 class DeleteLines(NamedTuple):
-    """DL, `CSI M`: lines from the cursor's on are deleted; those below move up."""
+    """Deletes lines from the cursor's on; those below move up (DL, `CSI M`)."""
     lines: int
 
 
 class EraseChars(NamedTuple):
-    """ECH, `CSI X`: characters from the cursor on become blank; none moves."""
+    """Blanks characters from the cursor on; none moves (ECH, `CSI X`)."""
     cols: int
 
 
 class ClearLine(NamedTuple):
-    """EL, `CSI K`: a part of the line becomes blank."""
+    """Blanks a part of the line (EL, `CSI K`)."""
     part: LinePart
 
 
 class ClearScreen(NamedTuple):
-    """ED, `CSI J`: a part of the screen becomes blank, or the scrollback is cleared."""
+    """Blanks a part of the screen, or clears the scrollback (ED, `CSI J`)."""
     part: ScreenPart
 
 
 class Decaln(NamedTuple):
-    """DECALN, `ESC # 8`: fill the screen with `E`."""
+    """Fills the screen with `E` (DECALN, `ESC # 8`)."""
 
 
 class TerminalAttribute(NamedTuple):
-    """SGR, `CSI m`: one attribute of the characters that follow.
+    """Sets one attribute of the characters that follow (SGR, `CSI m`).
 
     `Foreground`, `Background` and `UnderlineColor` have a colour; None, of the last, is the text's.
     """
@@ -274,18 +274,18 @@ class TerminalAttribute(NamedTuple):
 
 
 class SetColor(NamedTuple):
-    """OSC 4, 10, 11, 12: a colour of the palette, or of 256 text, 257 background, 258 cursor."""
+    """Sets a colour: palette, 256 text, 257 background, 258 cursor (OSC 4, 10, 11, 12)."""
     index: int
     color: Rgb
 
 
 class ResetColor(NamedTuple):
-    """OSC 104, 110, 111, 112: the colour of an index is reset to its first value."""
+    """Resets the colour of an index to its first value (OSC 104, 110, 111, 112)."""
     index: int
 
 
 class DynamicColorSequence(NamedTuple):
-    """OSC 4, 10, 11, 12 with `?`: report the colour of an index.
+    """Reports the colour of an index (OSC 4, 10, 11, 12 with `?`).
 
     The answer is `ESC ]`, the prefix, `;`, the colour and the terminator.
     """
@@ -295,147 +295,147 @@ class DynamicColorSequence(NamedTuple):
 
 
 class SetHyperlink(NamedTuple):
-    """OSC 8: the characters that follow are a link; a URI of None ends it."""
+    """Makes the characters that follow a link; a URI of None ends it (OSC 8)."""
     id: str | None
     uri: str | None
 
 
 class SetCursorStyle(NamedTuple):
-    """DECSCUSR, `CSI SP q`: the cursor's style. A shape of None is the terminal's own style."""
+    """Sets the cursor's style (DECSCUSR, `CSI SP q`). A shape of None is the terminal's own."""
     shape: Shape | None
     blinking: bool
 
 
 class SetCursorShape(NamedTuple):
-    """OSC 50, `CursorShape=`: the cursor's shape alone."""
+    """Sets the cursor's shape alone (OSC 50, `CursorShape=`)."""
     shape: Shape
 
 
 class SetMouseCursorIcon(NamedTuple):
-    """OSC 22: the mouse pointer's shape, by its keyword in CSS."""
+    """Sets the mouse pointer's shape, by its keyword in CSS (OSC 22)."""
     keyword: str
 
 
 class SetActiveCharset(NamedTuple):
-    """SI and SO: characters come from the set G0 or G1."""
+    """Takes characters from the set G0 or G1 (SI and SO)."""
     index: int
 
 
 class ConfigureCharset(NamedTuple):
-    """SCS, `ESC (`, `)`, `*` or `+`, and `B` or `0`: what the set G0, G1, G2 or G3 is."""
+    """Chooses what the set G0, G1, G2 or G3 is (SCS, `ESC (`, `)`, `*` or `+`, and `B` or `0`)."""
     index: int
     charset: Charset
 
 
 class SetScp(NamedTuple):
-    """SCP, `CSI SP k`: the direction of characters, and how what is shown follows it."""
+    """Sets the direction of characters, and how what is shown follows it (SCP, `CSI SP k`)."""
     path: Path
     update: Update
 
 
 class SetMode(NamedTuple):
-    """SM, `CSI h`: a mode is set."""
+    """Sets a mode (SM, `CSI h`)."""
     mode: int
 
 
 class UnsetMode(NamedTuple):
-    """RM, `CSI l`: a mode is reset."""
+    """Resets a mode (RM, `CSI l`)."""
     mode: int
 
 
 class ReportMode(NamedTuple):
-    """DECRQM, `CSI $ p`: report whether a mode is set."""
+    """Reports whether a mode is set (DECRQM, `CSI $ p`)."""
     mode: int
 
 
 class SetPrivateMode(NamedTuple):
-    """DECSET, `CSI ? h`: a private mode is set."""
+    """Sets a private mode (DECSET, `CSI ? h`)."""
     mode: int
 
 
 class UnsetPrivateMode(NamedTuple):
-    """DECRST, `CSI ? l`: a private mode is reset."""
+    """Resets a private mode (DECRST, `CSI ? l`)."""
     mode: int
 
 
 class ReportPrivateMode(NamedTuple):
-    """DECRQM, `CSI ? $ p`: report whether a private mode is set."""
+    """Reports whether a private mode is set (DECRQM, `CSI ? $ p`)."""
     mode: int
 
 
 class ResetState(NamedTuple):
-    """RIS, `ESC c`: reset everything to its state when the terminal was switched on."""
+    """Resets everything to its state when the terminal was switched on (RIS, `ESC c`)."""
 
 
 class SetKeypadApplicationMode(NamedTuple):
-    """DECKPAM, `ESC =`: the keypad's keys send sequences."""
+    """Makes the keypad's keys send sequences (DECKPAM, `ESC =`)."""
 
 
 class UnsetKeypadApplicationMode(NamedTuple):
-    """DECKPNM, `ESC >`: the keypad's keys send digits."""
+    """Makes the keypad's keys send digits (DECKPNM, `ESC >`)."""
 
 
 class PushKeyboardMode(NamedTuple):
-    """`CSI > u`: push keyboard modes onto their stack, and set them (kitty's keyboard protocol)."""
+    """Pushes keyboard modes onto their stack, and sets them (`CSI > u`; kitty's protocol)."""
     modes: int
 
 
 class PopKeyboardModes(NamedTuple):
-    """`CSI < u`: pop keyboard modes off their stack."""
+    """Pops keyboard modes off their stack (`CSI < u`)."""
     count: int
 
 
 class SetKeyboardMode(NamedTuple):
-    """`CSI = u`: replace the keyboard modes, add to them, or remove some."""
+    """Replaces the keyboard modes, adds to them, or removes some (`CSI = u`)."""
     modes: int
     behavior: Behavior
 
 
 class ReportKeyboardMode(NamedTuple):
-    """`CSI ? u`: report the keyboard modes that are set."""
+    """Reports the keyboard modes that are set (`CSI ? u`)."""
 
 
 class SetModifyOtherKeys(NamedTuple):
-    """XTMODKEYS, `CSI > 4 m`: how modified keys are sent."""
+    """Sets how modified keys are sent (XTMODKEYS, `CSI > 4 m`)."""
     keys: OtherKeys
 
 
 class ReportModifyOtherKeys(NamedTuple):
-    """XTQMODKEYS, `CSI ? 4 m`: report how modified keys are sent."""
+    """Reports how modified keys are sent (XTQMODKEYS, `CSI ? 4 m`)."""
 
 
 class SetTitle(NamedTuple):
-    """OSC 0 and 2: the window's title, without white space at both ends."""
+    """Sets the window's title, without white space at both ends (OSC 0 and 2)."""
     title: str
 
 
 class PushTitle(NamedTuple):
-    """XTWINOPS, `CSI 22 t`: push the title onto a stack."""
+    """Pushes the title onto a stack (XTWINOPS, `CSI 22 t`)."""
 
 
 class PopTitle(NamedTuple):
-    """XTWINOPS, `CSI 23 t`: pop the title off the stack."""
+    """Pops the title off the stack (XTWINOPS, `CSI 23 t`)."""
 
 
 class ClipboardStore(NamedTuple):
-    """OSC 52: store data, which should be base64, in a clipboard, named by a letter."""
+    """Stores data, which should be base64, in a clipboard, named by a letter (OSC 52)."""
     clipboard: str
     data: bytes
 
 
 class ClipboardLoad(NamedTuple):
-    """OSC 52 with `?`: report what a clipboard holds. The answer ends with the terminator."""
+    """Reports what a clipboard holds (OSC 52 with `?`). The answer ends with the terminator."""
     clipboard: str
     terminator: str
 
 
 class DeviceStatus(NamedTuple):
-    """DSR, `CSI n`: a report by its number: 5 asks for the status, 6 for the cursor's position."""
+    """Makes a report by its number (DSR, `CSI n`): 5 is the status, 6 the cursor's position."""
     kind: int
 
 
 class IdentifyTerminal(NamedTuple):
-    """DA, `CSI c`, and `ESC Z`: report what terminal this is.
+    """Reports what terminal this is (DA, `CSI c`, and `ESC Z`).
 
     None asks for the primary attributes, `>` for the secondary, `=` for the tertiary.
     """
@@ -443,11 +443,11 @@ class IdentifyTerminal(NamedTuple):
 
 
 class TextAreaSizePixels(NamedTuple):
-    """XTWINOPS, `CSI 14 t`: report the text area's size in pixels."""
+    """Reports the text area's size in pixels (XTWINOPS, `CSI 14 t`)."""
 
 
 class TextAreaSizeChars(NamedTuple):
-    """XTWINOPS, `CSI 18 t`: report the text area's size in characters."""
+    """Reports the text area's size in characters (XTWINOPS, `CSI 18 t`)."""
 
 
 Call = Union[

@@ -15,17 +15,17 @@ use crate::vectors::call_lines::{CallLines, Lent};
 #[test]
 fn copies_read_on() {
     let stream = "é\x1b[b\x1b[3;4H\x1b]2;ab\x07\x1b[?2026hu\x1b[?2026l".as_bytes();
-    for at in 0..=stream.len() {
+    for position in 0..=stream.len() {
         let (mut processor, mut lines) = (Processor::<Pending>::new(), CallLines::default());
-        processor.advance(&mut lines, &stream[..at]);
+        processor.advance(&mut lines, &stream[..position]);
         let mut copy = processor.clone();
         processor.stop_sync(&mut CallLines::default());
         processor.advance(&mut CallLines::default(), b"\x18y\x1b]2;z");
-        copy.advance(&mut lines, &stream[at..]);
+        copy.advance(&mut lines, &stream[position..]);
         let wanted = "input 00e9\ninput 00e9\ngoto 2 3\nset_title Some(\"ab\")\n\
             set_private_mode Named(SyncUpdate)\ninput 0075\n\
             unset_private_mode Named(SyncUpdate)\nunset_private_mode Named(SyncUpdate)\n";
-        assert_eq!(lines.take(), wanted, "copied at {at}");
+        assert_eq!(lines.take(), wanted, "copied at {position}");
     }
 }
 

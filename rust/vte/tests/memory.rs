@@ -323,11 +323,11 @@ fn a_new_processor_ends_the_program_without_memory() {
 #[test]
 fn what_a_refused_command_has_left_is_no_text() {
     let stream = b"a\x1b]52;c;aGVsbG8=\x07b\x1b]0;t\x1b\\c\x1b]2;u\x18d";
-    for at in 0..=stream.len() {
+    for position in 0..=stream.len() {
         let (mut parser, mut shown) = (CuttingParser::default(), Shown::with_room(10));
-        refused(|| parser.advance(&mut shown, &stream[..at]));
-        parser.advance(&mut shown, &stream[at..]);
-        assert_eq!((&*shown.printed, shown.commands), ("abcd", 3), "{at}");
+        refused(|| parser.advance(&mut shown, &stream[..position]));
+        parser.advance(&mut shown, &stream[position..]);
+        assert_eq!((&*shown.printed, shown.commands), ("abcd", 3), "{position}");
     }
 }
 

@@ -56,13 +56,13 @@ fn a_perform_of_no_methods_does_nothing() {
 macro_rules! assert_copies_read_on {
     ($new:expr) => {
         let stream = "é\x1b[1:2;3mü\x1b]0;ab;c\x07\x1bP1$qm\x1b\\x".as_bytes();
-        for at in 0..=stream.len() {
+        for position in 0..=stream.len() {
             let (mut parser, mut lines) = ($new, <EventLines>::default());
-            let _ = parser.advance(&mut lines, &stream[..at]);
+            let _ = parser.advance(&mut lines, &stream[..position]);
             let mut copy = parser.clone();
             let _ = parser.advance(&mut <EventLines>::default(), b"\x18\x1b]9;y");
-            let _ = copy.advance(&mut lines, &stream[at..]);
-            assert_eq!(lines.text, events_of(&[stream]).text, "copied at {at}");
+            let _ = copy.advance(&mut lines, &stream[position..]);
+            assert_eq!(lines.text, events_of(&[stream]).text, "copied at {position}");
         }
     };
 }

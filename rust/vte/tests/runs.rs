@@ -144,18 +144,18 @@ fn text_comes_by_the_method_for_text_alone_however_it_is_cut() {
         ),
     ] {
         let printed = wanted.replace(['\t', '\n', '\r'], "");
-        for at in 0..=stream.len() {
+        for position in 0..=stream.len() {
             let (mut with_layout, mut without, mut shown) =
                 <(Text<true>, Text<false>, Text<false>)>::default();
             let (mut parser, mut other) = (Parser::new(), Parser::new());
             let mut processor = Processor::<Pending>::new();
-            for chunk in [&stream[..at], &stream[at..]] {
+            for chunk in [&stream[..position], &stream[position..]] {
                 parser.advance_text(&mut with_layout, chunk);
                 other.advance_text(&mut without, chunk);
                 processor.advance_text(&mut shown, chunk);
             }
             let found = [with_layout.text, without.text, shown.text];
-            assert_eq!(found, [wanted, &printed, &printed], "{stream:?} at {at}");
+            assert_eq!(found, [wanted, &printed, &printed], "{stream:?} at {position}");
         }
     }
 }

@@ -234,12 +234,12 @@ pub unsafe extern "C" fn vte_processor_new(
     if size % size_of::<*const c_void>() != 0 {
         return ptr::null_mut();
     }
-    // SAFETY: the table has as many bytes as its size says, and no part of a function; no function
-    // is null
+    // SAFETY: the table has `size` bytes, a whole number of functions. A null function is `None`,
+    // so zeros are a table.
     let table = unsafe {
         let mut known: VteHandler = zeroed();
-        let size = size.min(size_of::<VteHandler>());
-        ptr::copy_nonoverlapping(table.cast::<u8>(), ptr::addr_of_mut!(known).cast(), size);
+        let given = slice(table.cast::<u8>(), size.min(size_of::<VteHandler>()));
+        ptr::copy_nonoverlapping(given.as_ptr(), ptr::addr_of_mut!(known).cast(), given.len());
         known
     };
     let calls = Calls { table, user };

@@ -1,7 +1,7 @@
 """The program that is judged: it reads streams, whole or in framed chunks (docs/JUDGE.md), and
 prints the lines of events.
 
-If the program doesn't answer as it should, the last line of its answer is a mark, such as
+If the program doesn't answer as it should, the last line of its answer is its failure, such as
 `(crash: signal 11)`.
 """
 import concurrent.futures
@@ -17,7 +17,7 @@ import time
 from contextlib import contextmanager, suppress
 
 END_OF_STREAM = b"\xff\xff\xff\xff"
-MARK = re.compile(r"\((crash|hang|memory|output|protocol): .*\)")
+FAILURE = re.compile(r"\((crash|hang|memory|output|protocol): .*\)")
 HEX = r"(-|([0-9a-f]{2})+)"
 IGNORE = "(-|true|false)"
 LINE = re.compile(rf"print [0-9a-f]{{4,6}}|(execute|put) [0-9a-f]{{2}}|unhook"
@@ -45,7 +45,7 @@ class OutOfTime(Exception):
 
 
 class Broken(Exception):
-    """The program passed a limit or broke the protocol, in the words of the mark."""
+    """The program passed a limit or broke the protocol, in the words of the failure."""
 
 
 def frame(chunks):
@@ -58,21 +58,21 @@ def escape_controls(text):
     return re.sub(r"[^ -~]", lambda found: found[0].encode("unicode_escape").decode(), text)
 
 
-def answer_of(output, mark=""):
-    """The lines of an output and a mark. If there is no mark, each must be the line of an event."""
-    kept = bytes(output[:KEPT_OUTPUT] if mark.startswith("(output") else output)
+def answer_of(output, failure=""):
+    """The lines of an output and a failure. Without one, each must be the line of an event."""
+    kept = bytes(output[:KEPT_OUTPUT] if failure.startswith("(output") else output)
     lines = kept.decode("ascii", "backslashreplace").removesuffix("\n").split("\n") if kept else []
-    wrong = None if mark else next((line for line in lines if not LINE.fullmatch(line)), None)
+    wrong = None if failure else next((line for line in lines if not LINE.fullmatch(line)), None)
     if wrong is not None:
         lines = lines[:lines.index(wrong)]
-        mark = f"(protocol: this is no event line: '{escape_controls(wrong[:60])}')"
-    return [escape_controls(line) for line in lines] + [mark] * bool(mark)
+        failure = f"(protocol: this is no event line: '{escape_controls(wrong[:60])}')"
+    return [escape_controls(line) for line in lines] + [failure] * bool(failure)
 
 
-def mark_of(lines):
-    """Returns the kind of the mark that ends an answer, or None."""
-    mark = MARK.fullmatch(lines[-1]) if lines else None
-    return mark and mark[1]
+def failure_of(lines):
+    """Returns the kind of the failure that ends an answer, or None."""
+    failure = FAILURE.fullmatch(lines[-1]) if lines else None
+    return failure and failure[1]
 
 
 class Program:
@@ -120,15 +120,15 @@ class Program:
 
     def answer(self, chunks):
         """Returns what a process prints until it ends."""
-        output, until, mark = bytearray(), time.monotonic() + self.timeout, ""
+        output, until, failure = bytearray(), time.monotonic() + self.timeout, ""
         with self.run_process(b"".join(chunks)) as process:
             try:
                 while self.read_some(process, output, until):
                     pass
                 self.check_status(process, until)
             except Broken as broken:
-                mark = str(broken)
-        return answer_of(output, mark)
+                failure = str(broken)
+        return answer_of(output, failure)
 
     def answer_in_process(self, cases):
         """Returns the answers up to the one at which a process ends or stops, if it does."""
@@ -140,13 +140,13 @@ class Program:
                     until = time.monotonic() + self.timeout
                     answers.append(self.read_answer(process, output, until))
             except Broken as broken:
-                mark = str(broken)
-                if mark == EXIT and output == b"\n" and answers:
+                failure = str(broken)
+                if failure == EXIT and output == b"\n" and answers:
                     # it exited after an answer: from now on each process gets one stream
                     self.for_one_process = 1
                     return answers
                 is_end = output.endswith(b"\nend")
-                return [*answers, answer_of(output[1:], NO_LINE_FEED if is_end else mark)]
+                return [*answers, answer_of(output[1:], NO_LINE_FEED if is_end else failure)]
             if self.prints_more(process, output):
                 answers[-1].append("(protocol: it prints more than it was asked for)")
         return answers

@@ -2,7 +2,7 @@
 import json
 from xml.etree import ElementTree
 
-from lib.judging.candidate import escape_controls, mark_of
+from lib.judging.candidate import escape_controls, failure_of
 from lib.judging.classes import BETWEEN, level_of, rule_of
 from lib.judging.report import show_case, show_finding
 from lib.judging.rules import ALONE, CUT, RULES
@@ -16,7 +16,7 @@ def object_of(finding, again):
     case = show_case(finding.difference)
     first = "first" if finding.name == "not-deterministic" else "reference"
     return {"class": finding.name, "rule": finding.rule,
-            "kind": mark_of(candidate) or finding.name.partition("/")[2],
+            "kind": failure_of(candidate) or finding.name.partition("/")[2],
             "level": level_of(finding.name), "source": rule.source, "says": rule.says,
             "page": rule.page, "chunks": [chunk.hex() for chunk in chunks],
             "before": [[chunk.hex() for chunk in stream] for stream in before],

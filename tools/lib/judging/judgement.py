@@ -4,7 +4,7 @@ import re
 from dataclasses import dataclass, field
 
 from lib.judging.budget import Patience, Time, Tries
-from lib.judging.candidate import OutOfTime, mark_of
+from lib.judging.candidate import OutOfTime, failure_of
 from lib.judging.cases import Case
 from lib.judging.classes import INSTEAD, Difference, find_nearest, find_needed_rule, free_case
 from lib.judging.definition import NEAR
@@ -95,7 +95,7 @@ class Judge:
         """Judges cases until there are none left or the time is over."""
         try:
             reference, answer = self.sides.answer_all([FIRST.chunks])[0]
-            if mark_of(answer):
+            if failure_of(answer):
                 self.end_unanswered(Difference(FIRST.chunks, reference, answer))
                 return self.result
             for batch in self.time.make_batches(cases):
@@ -107,7 +107,7 @@ class Judge:
 
     def end_unanswered(self, difference):
         """Reports that the program doesn't answer the first stream, and ends the run."""
-        kind = mark_of(difference.candidate)
+        kind = failure_of(difference.candidate)
         self.candidate.answer_aloud(FIRST.chunks)
         name = PROTOCOL if self.candidate.takes_chunks or kind == PROTOCOL else f"text/{kind}"
         self.result.streams = self.result.different = 1
@@ -177,7 +177,7 @@ class Judge:
         """Counts a case that differs for a class: a new one if it differs without the rules of the
         classes found so far, or in a kind for which its rules have no class yet. Otherwise for one
         of the rule where it differs first."""
-        if mark_of(difference.candidate) == PROTOCOL and self.result.count(PROTOCOL):
+        if failure_of(difference.candidate) == PROTOCOL and self.result.count(PROTOCOL):
             return
         if not is_explained and self.report_new(case, difference):
             return
@@ -216,7 +216,7 @@ class Judge:
     def report_shrunk(self, case, rest, excluded, kind=None):
         """Shrinks a difference without some rules, and reports its class if it is new. Returns
         whether the case is counted for one."""
-        most = (MAX_OVER_LIMIT if mark_of(rest.candidate) in LIMITS else
+        most = (MAX_OVER_LIMIT if failure_of(rest.candidate) in LIMITS else
                 MAX_CASES // 4 if kind else MAX_CASES)
         tries = Tries(self.time, most)
 
@@ -299,11 +299,11 @@ class Judge:
         """Asks about a stream again: alone, and each time in a new process. Returns the difference,
         or None if the program was only slow, and the first other answer, or None if all agree."""
         # a program that doesn't end takes its time again
-        for _ in range(min(tries, 2) if mark_of(difference.candidate) in LIMITS else tries):
+        for _ in range(min(tries, 2) if failure_of(difference.candidate) in LIMITS else tries):
             again = self.sides.find_difference(difference.chunks)
             if again and is_alike(again, difference):
                 continue
-            if mark_of(difference.candidate) == "hang":  # it was only slow
+            if failure_of(difference.candidate) == "hang":  # it was only slow
                 return self.repeat(again, tries) if again else (None, None)
             return difference, again.candidate if again else difference.reference
         return difference._replace(before=[]), None

@@ -2,7 +2,7 @@
 import os
 from difflib import SequenceMatcher
 
-from lib.judging.candidate import mark_of
+from lib.judging.candidate import failure_of
 
 # the same event comes with another field
 FIELDS = {
@@ -32,9 +32,9 @@ def find_first_difference(reference, candidate):
 def differences_of(reference, candidate):
     """Returns the positions and kinds of the differences, in order. A position is a number of the
     reference's lines."""
-    mark = mark_of(candidate)
-    if mark:
-        return [(min(len(candidate) - 1, len(reference)), mark)]
+    failure = failure_of(candidate)
+    if failure:
+        return [(min(len(candidate) - 1, len(reference)), failure)]
     start = find_first_difference(reference, candidate)
     same = find_first_difference(reference[start:][::-1], candidate[start:][::-1])
     one, other = reference[start:len(reference) - same], candidate[start:len(candidate) - same]

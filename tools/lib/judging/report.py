@@ -1,7 +1,7 @@
 """How differences are printed: the smallest case, both answers, the rule, and the sum."""
 from itertools import groupby
 
-from lib.judging.candidate import mark_of
+from lib.judging.candidate import failure_of
 from lib.judging.classes import level_of, rule_of
 from lib.judging.kinds import KINDS, find_first_difference
 
@@ -41,7 +41,7 @@ def show_text(chunks):
 
 def show_lines(lines, at=0):
     """Shows some lines in a row, the first of them around a position, or that there are none."""
-    more = [f".. ({len(lines)} lines)", *lines[-1:] * bool(mark_of(lines))]
+    more = [f".. ({len(lines)} lines)", *lines[-1:] * bool(failure_of(lines))]
     shown = [show_line(line, 0 if index else at) for index, line in enumerate(lines[:MAX_LINES])]
     return " / ".join(shown + more * (len(lines) > MAX_LINES)) or "(no event)"
 

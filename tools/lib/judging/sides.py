@@ -1,5 +1,5 @@
 """The reference and the candidate, whose answers are compared."""
-from lib.judging.candidate import mark_of
+from lib.judging.candidate import failure_of
 from lib.judging.classes import Difference, free_case
 from lib.judging.kinds import differences_of
 
@@ -49,6 +49,6 @@ def kinds_of(difference):
 
 def is_alike(one, other):
     """Whether two answers are wrong in the same way."""
-    marks = mark_of(one.candidate), mark_of(other.candidate)
-    is_same = marks[0] == marks[1] or LIMITS.issuperset(marks)
-    return is_same if marks[0] else one[:3] == other[:3]
+    failures = failure_of(one.candidate), failure_of(other.candidate)
+    is_same = failures[0] == failures[1] or LIMITS.issuperset(failures)
+    return is_same if failures[0] else one[:3] == other[:3]

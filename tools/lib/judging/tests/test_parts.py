@@ -280,7 +280,7 @@ def test_lines_of_events_are_an_answer(output):
     b"csi [1] - false", b"csi [a] - - 6d", b"print 1234567", b"put 1", b"unhook -"])
 def test_a_line_of_no_event_breaks_the_protocol(wrong):
     answer = candidate.answer_of(b"print 0061\n" + wrong + b"\nunhook\n")
-    assert [answer[0], candidate.mark_of(answer)] == ["print 0061", "protocol"]
+    assert [answer[0], candidate.failure_of(answer)] == ["print 0061", "protocol"]
     assert len(answer) == 2 and re.fullmatch("[ -~]*", "".join(answer))
 
 

@@ -108,7 +108,7 @@ FRAMED_FAILURES = {
                          "(protocol: it prints more than it was asked for)")}
 
 
-def mark_of(line, takes_chunks, **limits):
+def last_line_of(line, takes_chunks, **limits):
     """Returns the end of what a command answers to a long stream, of which the front is kept."""
     side = candidate.Program(["sh", "-c", line], takes_chunks, **{"timeout": 600, **limits})
     [answer] = side.answer_all([[b"a" * 100000]])
@@ -118,14 +118,14 @@ def mark_of(line, takes_chunks, **limits):
 
 
 @pytest.mark.parametrize("takes_chunks", [False, True], ids=["whole", "framed"])
-@pytest.mark.parametrize("line, limits, mark", FAILURES.values(), ids=FAILURES)
-def test_a_program_that_fails_has_a_mark(line, takes_chunks, limits, mark):
-    assert mark_of(line, takes_chunks, **limits) == mark
+@pytest.mark.parametrize("line, limits, failure", FAILURES.values(), ids=FAILURES)
+def test_how_a_program_failed_is_its_last_line(line, takes_chunks, limits, failure):
+    assert last_line_of(line, takes_chunks, **limits) == failure
 
 
-@pytest.mark.parametrize("line, mark", FRAMED_FAILURES.values(), ids=FRAMED_FAILURES)
-def test_a_program_that_frames_wrongly_has_a_mark(line, mark):
-    assert mark_of(line, takes_chunks=True) == mark
+@pytest.mark.parametrize("line, failure", FRAMED_FAILURES.values(), ids=FRAMED_FAILURES)
+def test_how_a_program_framed_wrongly_is_its_last_line(line, failure):
+    assert last_line_of(line, takes_chunks=True) == failure
 
 
 # of one case, and of the first stream, which ends the judge if it has no answer

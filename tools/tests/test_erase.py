@@ -57,7 +57,7 @@ DIFFERENCES = {
     "unsafe around a call in a call": (
         "fn f() { g(a); }", "fn f() { unsafe { h(text_between(a)) } }", "+fn f, -fn f"),
     "another end of the input": (
-        "fn f() { input.up_to(a); }", "fn f() { up_to(input, b); }", "+fn f, -fn f"),
+        "fn f() { input.take_prefix(a); }", "fn f() { take_prefix(input, b); }", "+fn f, -fn f"),
     "a name that begins as that of the bytes": (
         "fn f() { g(input.bytes_read); }", "fn f() { g(input_read); }", "+fn f, -fn f"),
     "a name that ends as that of the input": (

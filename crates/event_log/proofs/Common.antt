@@ -27,7 +27,7 @@ unfoldable pub use Rattle.vte_core.specs.EarlyStop.{reported_before}
 pub use Rattle.vte_core.specs.EarlyStopLaws.{GoesOnFromPositions, ReportsUnits}
 pub use Rattle.vte_core.specs.Event.{after, CsiDispatch, EscDispatch, Event, Execute, Hook, OscDispatch, Print, replacement}
 pub use Rattle.vte_core.specs.EventBounds.{AreBrief, IsBounded}
-pub use Rattle.vte_core.specs.Parameters.{AllFitU16, AreGroups, count_of, FitsU16, IsNonEmpty, max_value, semicolon}
+pub use Rattle.vte_core.specs.Parameters.{AllFitU16, AreGroups, count_of, FitsU16, greatest_number, IsNonEmpty, semicolon}
 unfoldable pub use Rattle.vte_core.specs.Parameters.{shown}
 pub use Rattle.vte_core.specs.Parser.{HasRead}
 pub use Rattle.vte_core.specs.Stream.{added, default_limit, events}

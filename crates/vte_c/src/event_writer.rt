@@ -170,7 +170,7 @@ impl<'a> EventWriter<'a> {
 
     /// Writes the record and the data of an event, if there is room for both.
     #[inline(always)]
-    fn add(&mut self, record: VteEvent, bytes: &[u8])
+    fn write_event(&mut self, record: VteEvent, bytes: &[u8])
         ensures { buffers_of self.new ≡ with_record (buffers_of self.old) «record» bytes.now }
     {
         let end = self.write(self.data_used, bytes);
@@ -211,7 +211,7 @@ impl<'a> EventWriter<'a> {
             let mut bytes = [0; 4];
             let text = c.encode_utf8(&mut bytes).as_bytes();
             let record = VteEvent::new(event::TEXT, text.len() as u32).with_flag(true);
-            self.add(record, text);
+            self.write_event(record, text);
         }
     }
 
@@ -249,7 +249,7 @@ impl<'a> EventWriter<'a> {
             let record = VteEvent::new(kind, action as u32)
                 .with_flag(ignore)
                 .with_count(1);
-            self.add(record, &encode_single_number(number));
+            self.write_event(record, &encode_single_number(number));
         }
     }
 
@@ -347,7 +347,7 @@ impl Perform for EventWriter<'_> {
     /// Writes a byte of data that isn't in the input: `advance_to_run` performs none.
     fn put(&mut self, byte: u8) {
         if self.is_wanted(event::DATA) {
-            self.add(VteEvent::new(event::DATA, 1).with_flag(true), &[byte]);
+            self.write_event(VteEvent::new(event::DATA, 1).with_flag(true), &[byte]);
         }
     }
 

@@ -33,7 +33,7 @@ impl TextWriter<'_> {
     /// Writes a text, if there is room for it.
     #[inline(always)]
     #[tactic(auto, unfolding(crate::specs::private::WrittenText::text_with))]
-    fn add(&mut self, text: &[u8])
+    fn write_text(&mut self, text: &[u8])
         ensures { written_text_of self.new ≡ text_with (written_text_of self.old) text.now }
     {
         let (used, size) = (self.used, self.bytes.len());
@@ -59,36 +59,36 @@ impl Perform for TextWriter<'_> {
     #[tactic(auto, unfolding(event_log::specs::Plain::plain_text_of))]
     #[inline]
     fn print(&mut self, c: char) {
-        self.add(c.encode_utf8(&mut [0; 4]).as_bytes());
+        self.write_text(c.encode_utf8(&mut [0; 4]).as_bytes());
     }
 
     #[tactic(auto, unfolding(event_log::specs::Plain::plain_text_of))]
     fn execute(&mut self, byte: u8) {
         match byte {
-            b'\t' | b'\n' | b'\r' => self.add(&[byte]),
+            b'\t' | b'\n' | b'\r' => self.write_text(&[byte]),
             // proof: what has no text adds an empty one, as `text_with_event` does.
-            _ => self.add(b""),
+            _ => self.write_text(b""),
         }
     }
 
     #[tactic(auto, unfolding(event_log::specs::Plain::plain_text_of))]
     fn hook(&mut self, _params: &Params, _intermediates: &[u8], _ignore: bool, _action: char) {
-        self.add(b"");
+        self.write_text(b"");
     }
 
     #[tactic(auto, unfolding(event_log::specs::Plain::plain_text_of))]
     fn put(&mut self, _byte: u8) {
-        self.add(b"");
+        self.write_text(b"");
     }
 
     #[tactic(auto, unfolding(event_log::specs::Plain::plain_text_of))]
     fn unhook(&mut self) {
-        self.add(b"");
+        self.write_text(b"");
     }
 
     #[tactic(auto, unfolding(event_log::specs::Plain::plain_text_of))]
     fn osc_dispatch(&mut self, _params: &[&[u8]], _bell_terminated: bool) {
-        self.add(b"");
+        self.write_text(b"");
     }
 
     #[tactic(auto, unfolding(event_log::specs::Plain::plain_text_of))]
@@ -99,12 +99,12 @@ impl Perform for TextWriter<'_> {
         _ignore: bool,
         _action: char,
     ) {
-        self.add(b"");
+        self.write_text(b"");
     }
 
     #[tactic(auto, unfolding(event_log::specs::Plain::plain_text_of))]
     fn esc_dispatch(&mut self, _intermediates: &[u8], _ignore: bool, _byte: u8) {
-        self.add(b"");
+        self.write_text(b"");
     }
 
     fn terminated(&self) -> bool {
@@ -121,7 +121,7 @@ impl PerformText for TextWriter<'_> {
 
     #[inline]
     fn print_text(&mut self, text: &str) {
-        self.add(text.as_bytes());
+        self.write_text(text.as_bytes());
     }
 }
 

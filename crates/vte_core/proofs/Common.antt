@@ -41,13 +41,13 @@ pub use Rattle.vte_core.specs.Event.{after, CsiDispatch, EscDispatch, Event, Exe
 pub use Rattle.vte_core.specs.EventBounds.{AreBrief, FitsLimit, HasBoundedFields, IsBounded, IsCharacterEvent, IsExecuted, IsPrintable}
 pub use Rattle.vte_core.specs.Head.{Head, head_after, reported_intermediates}
 unfoldable pub use Rattle.vte_core.specs.Head.{head_of, is_well_shaped, sequence_event}
-pub use Rattle.vte_core.specs.Intermediates.{are_too_many, first_two}
+pub use Rattle.vte_core.specs.Intermediates.{are_too_many, kept_intermediates}
 pub use Rattle.vte_core.specs.Laws.{AreParameters, CountsData, DispatchesShown}
 pub use Rattle.vte_core.specs.LongParser.{IsDataOfOpenCommand, open_command_size, open_data_count, read_count}
 pub use Rattle.vte_core.specs.Looks.{looks_of, per_byte}
 pub use Rattle.vte_core.specs.Outcome.{CharacterToClose, closing_events, CommandToClose, events_before_escape, leaves, NothingToClose, open_bytes, Outcome, report, SaysLoss, ToClose}
 pub use Rattle.vte_core.specs.OutsideRuns.{IsOutsideRuns, PrintsNoAscii, ReportsOutsideRuns}
-pub use Rattle.vte_core.specs.Parameters.{AllFitU16, AreGroups, colon, count_of, FitsU16, grouped, is_colon, is_separator, IsNonEmpty, max_numbers, max_value, Number, number_of, numbers_of, semicolon, with_number}
+pub use Rattle.vte_core.specs.Parameters.{AllFitU16, AreGroups, colon, count_of, FitsU16, greatest_number, grouped, is_colon, is_separator, IsNonEmpty, max_numbers, Number, number_of, numbers_of, semicolon, with_number}
 unfoldable pub use Rattle.vte_core.specs.Parameters.{groups_of, has_too_many_numbers, numbers, shown}
 pub use Rattle.vte_core.specs.private.AtPlace.{HasReadWithLimit, IsAtPlace, IsPlaceOfState}
 pub use Rattle.vte_core.specs.private.CollectedHead.{CountsNumbers, HasReadHead, HoldsHead, HoldsIntermediates, HoldsNumbers, IsMarker, numbers_from, ReadsHead, SameIntermediates, SameNumbers, StaysIllShaped}

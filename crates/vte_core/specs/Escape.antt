@@ -4,7 +4,7 @@ use Rattle.std.specs.Prelude.{if◌then◌else◌, List, ℕ, [], ◌∷◌}
 use Rattle.vte_core.specs.Class.{class_of, ends_escape, is_cancel, is_intermediate}
 use Rattle.vte_core.specs.CutBefore.{cut_before}
 use Rattle.vte_core.specs.Event.{EscDispatch, Event, Execute}
-use Rattle.vte_core.specs.Intermediates.{are_too_many, first_two}
+use Rattle.vte_core.specs.Intermediates.{are_too_many, kept_intermediates}
 use Rattle.vte_core.specs.Outcome.{EscapeToClose, leaves, Outcome, report}
 use Rattle.vte_core.specs.Text.{executed_events, text_outcome}
 
@@ -12,7 +12,7 @@ use Rattle.vte_core.specs.Text.{executed_events, text_outcome}
 abbrev pub escape_end : List ℕ → ℕ → Event
 escape_end intermediates end =
     if is_cancel (class_of end) then Execute end
-    else EscDispatch (first_two intermediates) (are_too_many intermediates) end
+    else EscDispatch (kept_intermediates intermediates) (are_too_many intermediates) end
 
 -- The end, and the text that follows it. Without an end the sequence stays open.
 abbrev pub escape_rest : List ℕ → List ℕ → Outcome

@@ -5,7 +5,7 @@ use Rattle.std.specs.Prelude.{Bool, if◌then◌else◌, List, not, ℕ, [], ◌
 use Rattle.vte_core.specs.Class.{class_of, is_head_byte, is_intermediate, is_marker, is_parameter_byte}
 use Rattle.vte_core.specs.CutBefore.{cut_before}
 use Rattle.vte_core.specs.Event.{Event}
-use Rattle.vte_core.specs.Intermediates.{are_too_many, first_two}
+use Rattle.vte_core.specs.Intermediates.{are_too_many, kept_intermediates}
 use Rattle.vte_core.specs.Parameters.{groups_of, has_too_many_numbers}
 
 -- A head: an optional private marker, then parameter bytes, then the rest, which should be
@@ -39,7 +39,7 @@ reported_intermediates head = head.marker ++ head.tail
 -- final byte.
 unfoldable pub sequence_event : (List (List ℕ) → List ℕ → Bool → ℕ → Event) → Head → ℕ → Event
 sequence_event event head final =
-    event (groups_of head.parameter_text) (first_two (reported_intermediates head))
+    event (groups_of head.parameter_text) (kept_intermediates (reported_intermediates head))
     (are_too_many (reported_intermediates head) || has_too_many_numbers head.parameter_text) final
 
 -- The bytes 20..3F.

@@ -4,8 +4,8 @@ use Rattle.std.specs.Prelude.{Bool, length, List, nat_lt, take, ℕ}
 abbrev pub max_intermediates : ℕ
 max_intermediates = 2
 
-abbrev pub first_two : List ℕ → List ℕ
-first_two intermediates = take max_intermediates intermediates
+abbrev pub kept_intermediates : List ℕ → List ℕ
+kept_intermediates intermediates = take max_intermediates intermediates
 
 -- There are more than two.
 abbrev pub are_too_many : List ℕ → Bool

@@ -20,8 +20,8 @@ abbrev pub max_numbers : ℕ
 max_numbers = 32
 
 -- The greatest number of 16 bits, which stands for all greater ones.
-abbrev pub max_value : ℕ
-max_value = 0xffff
+abbrev pub greatest_number : ℕ
+greatest_number = 0xffff
 
 abbrev pub is_colon : ℕ → Bool
 is_colon b = b == colon
@@ -31,7 +31,7 @@ is_separator b = b == colon || b == semicolon
 
 -- The decimal value, at most 65,535. An empty text is 0.
 abbrev pub number_of : List ℕ → ℕ
-number_of digits = min max_value (digits_value 10 digits)
+number_of digits = min greatest_number (digits_value 10 digits)
 
 -- The numbers with these values, each joined or not.
 abbrev pub numbers_of : List Bool → List ℕ → List Number
@@ -61,7 +61,7 @@ abbrev pub count_of : List (List ℕ) → ℕ
 count_of groups = sum_by length groups
 
 abbrev pub FitsU16 : ℕ → Type 0
-FitsU16 number = number ≤ max_value
+FitsU16 number = number ≤ greatest_number
 
 abbrev pub AllFitU16 : List ℕ → Type 0
 AllFitU16 group = All FitsU16 group

@@ -1,7 +1,7 @@
 //! What is collected of an escape sequence, and of the head of a control sequence or a device
 //! control string.
 ghost use Rattle.std.specs.Prelude.{false, IfSome, IsTrue, length, List, min, not, true, ℕ, [], ◌*◌, ◌++◌, ◌+◌, ◌<◌, ◌↔◌, ◌∷◌, ◌≡◌, ◌≤◌, ◌⊎◌};
-ghost use Rattle.vte_core.specs.Parameters.{max_value};
+ghost use Rattle.vte_core.specs.Parameters.{greatest_number};
 ghost use Rattle.vte_core.specs.private.Prelude.{class_of, CountsNumbers, HasReadHead, HoldsHead, HoldsIntermediates, HoldsNumbers, HoldsWholeHead, is_head_byte, is_parameter_byte, looks_of, ReadsHeadUpTo, SameIntermediates, SameNumbers, with_open_number};
 
 use crate::class::{digit_of, is_head_byte, is_intermediate, is_parameter_byte};
@@ -38,7 +38,7 @@ impl HeadProgress {
 #[derive(Clone, Copy)]
 pub(crate) enum Separators {
     Read,
-    Left,
+    Unread,
 }
 
 /// How far a head has been read, and up to which position. `next_byte` is the byte there, if there
@@ -289,9 +289,9 @@ impl CollectedHead {
 /// Adds a digit to a number. 65,535 stands for all greater numbers.
 #[inline(always)]
 fn with_digit(number: u32, digit: u32) -> u32
-    requires number { number ≤ max_value }
+    requires number { number ≤ greatest_number }
     requires digit { digit < 10 }
-    ensures { result ≡ min (number * 10 + digit) max_value }
+    ensures { result ≡ min (number * 10 + digit) greatest_number }
 {
     (number * 10 + digit).min(u32::from(u16::MAX))
 }

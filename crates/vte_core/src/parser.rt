@@ -12,7 +12,7 @@ mod character;
 mod control_sequence;
 mod device_control;
 mod drive;
-mod drive_one;
+mod drive_single_byte;
 mod drive_to_run;
 mod ending;
 mod escape;

@@ -91,7 +91,7 @@ pub(crate) struct Window {
 
 // cargo: /// Returns the bytes up to a position.
 // cargo: #[inline(always)]
-// cargo: pub(crate) fn up_to(input: &[u8], to: usize) -> &[u8] {
+// cargo: pub(crate) fn take_prefix(input: &[u8], to: usize) -> &[u8] {
 // cargo:     &input[..to]
 // cargo: }
 
@@ -105,7 +105,7 @@ impl<'a> Input<'a> {
 
     /// Returns the bytes up to a position.
     #[inline(always)]
-    pub(crate) fn up_to(self, to: usize) -> Self
+    pub(crate) fn take_prefix(self, to: usize) -> Self
         requires { to ≤ length self.bytes.now }
         ensures length { length result.bytes.now ≡ to }
         ensures same_bytes { (k : ℕ) → k < to

@@ -13,7 +13,7 @@ READER = [
     ("Input<'_>", "&[u8]"), ("chunk: Chunk<'_>,", "input: &[u8],"), ("Chunk::new($x)", "$x"),
     ("let (mut reader, input) = chunk.into_reader();", "let reader = Reader {};"),
     ("let result = $$e; self.looks.add(reader); result", "$e"), ("self.looks.add(reader);", ""),
-    ("input.up_to(", "up_to(input, "), ("input.bytes", "input"),
+    ("input.take_prefix(", "take_prefix(input, "), ("input.bytes", "input"),
     # inlined by rustc before LLVM sees its caller, it would move a branch of the loop over text
     ("reader.report_text(performer, input, $$p);",
      "performer.print_text(reader, unsafe { text_between(input, $p) });"),
@@ -40,7 +40,7 @@ VTE = Plan(
              "arrayvec::ArrayString": "crate::adapter::array_string::ArrayString",
              "memchr::memchr": "crate::prelude::memchr"},
     homes={"crate::prelude": "String Vec first_chunk", "crate::adapter::array_vec": "Element",
-           "crate::proved::vte_core::reader": "Reader text_between up_to"},
+           "crate::proved::vte_core::reader": "Reader take_prefix text_between"},
     rules=READER + ALLOCATORS + UNSIZED,
 )
 

@@ -7,12 +7,12 @@ use Rattle.vte_core.specs.declared.head.HeadEnd.{HeadEnd}
 use Rattle.vte_core.specs.declared.head.HeadProgress.{HeadProgress}
 use Rattle.vte_core.specs.declared.head.HeadProgress.TheVariants.{Entry, IllShaped, Intermediates, Parameters}
 use Rattle.vte_core.specs.Head.{head_of, is_well_shaped, reported_intermediates}
-use Rattle.vte_core.specs.Intermediates.{are_too_many, first_two}
+use Rattle.vte_core.specs.Intermediates.{are_too_many, kept_intermediates}
 use Rattle.vte_core.specs.Parameters.{grouped, groups_of, has_too_many_numbers, is_colon, is_separator, max_numbers, Number, number_of, numbers}
 
 -- The first two intermediates are collected, and whether there are more.
 pub record HoldsIntermediates (collected : CollectedHead) (intermediates : List ℕ) : Type 0 where
-  pub kept : collected.intermediates.items ≡ first_two intermediates
+  pub kept : collected.intermediates.items ≡ kept_intermediates intermediates
   pub too_many_intermediates : collected.too_many_intermediates ≡ are_too_many intermediates
 
 -- The numbers of a text that continues these digits, whose number is joined or not.
@@ -95,7 +95,7 @@ pub record HoldsWholeHead (collected : CollectedHead) (ignored : Bool)
   pub well_shaped : is_well_shaped (head_of head) ≡ true
   pub groups : collected.params ≡ groups_of (head_of head).parameter_text
   pub intermediates : collected.intermediates.items
-      ≡ first_two (reported_intermediates (head_of head))
+      ≡ kept_intermediates (reported_intermediates (head_of head))
   pub ignore : ignored
       ≡ (are_too_many (reported_intermediates (head_of head))
       || has_too_many_numbers (head_of head).parameter_text)

@@ -1,6 +1,6 @@
 -- The groups of `Params`, stored flat: all numbers in one list, and the length of each group.
 use Rattle.std.specs.Prelude.{All, Bool, drop, false, length, List, None, Option, option_to_list, sum, take, true, ℕ, [], ◌++◌, ◌<◌, ◌∷◌, ◌≡◌, ◌≤◌}
-use Rattle.vte_core.specs.Parameters.{max_numbers, max_value}
+use Rattle.vte_core.specs.Parameters.{greatest_number, max_numbers}
 
 -- The numbers, cut into groups of these lengths.
 abbrev pub cut_by_lengths : List ℕ → List ℕ → List (List ℕ)
@@ -21,7 +21,7 @@ pub record IsLastPopped (joined : Bool) (lengths rest : List ℕ) (last : Option
 -- The lengths and numbers of a `Params`: each number is up to 65,535.
 pub record AreFlatGroups (lengths numbers : List ℕ) : Type 0 where
   pub lengths_fit : AreLengths lengths numbers
-  pub small : All (λ number. number ≤ max_value) numbers
+  pub small : All (λ number. number ≤ greatest_number) numbers
 
 -- The groups are stored as these lengths and numbers, at most 32 of each.
 pub record AreRawParts (lengths numbers : List ℕ) (groups : List (List ℕ)) : Type 0 where

@@ -33,9 +33,13 @@ impl<B: Buffer> Machine<B> {
         ensures reads_within { ReadsWithin (per_byte 5) (caller_looks 0)
             input.entry.bytes.now from result self.old self.new reader.old reader.new }
     {
-        let head = self
-            .collected
-            .read_numbers(reader, input, from, HeadProgress::Entry, Separators::Left);
+        let head = self.collected.read_numbers(
+            reader,
+            input,
+            from,
+            HeadProgress::Entry,
+            Separators::Unread,
+        );
         if let Some(byte) = head.next_byte {
             if is_final(byte) {
                 return self.end_control_sequence(reader, performer, head, false, byte);

@@ -24,7 +24,7 @@ impl<B: Buffer> Machine<B> {
             (looks_of reader.old) (looks_of reader.new) }
     {
         if !MAY_STOP && input.len() == 1 {
-            return self.drive_one(reader, performer, input);
+            return self.drive_single_byte(reader, performer, input);
         }
         self.drive_loop::<P, G, MAY_STOP>(reader, performer, input)
     }

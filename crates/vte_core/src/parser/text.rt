@@ -175,7 +175,7 @@ impl<B: Buffer> Machine<B> {
         let mut position = from;
         // The length of `prefix` bounds the position, so that the inner loop has no test of the
         // index. As a function of its own, it would return a position and why it ended.
-        let mut prefix = input.up_to((from + SHORT_TEXT).min(input.len()));
+        let mut prefix = input.take_prefix((from + SHORT_TEXT).min(input.len()));
         while position < input.len() {
             while position < prefix.len() {
                 let byte = reader.byte_at(prefix, position);
@@ -203,7 +203,9 @@ impl<B: Buffer> Machine<B> {
                 }
             }
             if position < input.len() {
-                prefix = input.up_to(reader.find_text_part_end::<true>(input, from, position));
+                prefix = input.take_prefix(reader.find_text_part_end::<true>(
+                    input, from, position,
+                ));
             }
         }
         position
@@ -231,14 +233,16 @@ impl<B: Buffer> Machine<B> {
             input.entry.bytes.now from result self.old self.new reader.old reader.new }
     {
         let mut position = from;
-        let mut prefix = input.up_to((from + SHORT_TEXT).min(input.len()));
+        let mut prefix = input.take_prefix((from + SHORT_TEXT).min(input.len()));
         let mut byte = reader.byte_at(input, from);
         while let Some(next) = self.read_byte_of_text(reader, performer, input, position, byte) {
             position = next;
             if position < prefix.len() {
                 byte = reader.byte_at(prefix, position);
             } else if position < input.len() {
-                prefix = input.up_to(reader.find_text_part_end::<false>(input, from, position));
+                prefix = input.take_prefix(reader.find_text_part_end::<false>(
+                    input, from, position,
+                ));
                 byte = reader.byte_at(input, position);
             } else {
                 return position;

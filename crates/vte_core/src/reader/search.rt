@@ -82,7 +82,7 @@ impl Reader {
         } else {
             input.len()
         };
-        let escape = self.find_escape(input.up_to(to), from);
+        let escape = self.find_escape(input.take_prefix(to), from);
         escape + usize::from(escape < to)
     }
 

@@ -48,40 +48,41 @@ module _ (three_back two_back one_back b : ℕ) (fit : Fits three_back two_back 
   unfolding next_state
   allowed-after BetweenCharacters old = allowed-after_between old
   allowed-after NeedsOne old =
-      let cont = byte-continues (λ closed. omega (arith, old.0 closed.0 closed.1, closed.2)) in
-      allowed-in_range (from_to 0x80 0xbf) BetweenCharacters cont (grind (arith, nat_tests, cont), old.1, old.2)
+      let continues = byte-continues (λ closed. omega (arith, old.0 closed.0 closed.1, closed.2)) in
+      allowed-in_range (from_to 0x80 0xbf) BetweenCharacters continues
+      (grind (arith, nat_tests, continues), old.1, old.2)
   allowed-after NeedsTwo old =
-      let cont = byte-continues (λ closed. omega (arith, old.0 (omega (arith, closed.0)), closed.1)) in
-      allowed-in_range (from_to 0x80 0xbf) NeedsOne cont
-      ((λ _ low. old.0 low), grind (arith, nat_tests, cont), old.1)
+      let continues = byte-continues (λ closed. omega (arith, old.0 (omega (arith, closed.0)), closed.1)) in
+      allowed-in_range (from_to 0x80 0xbf) NeedsOne continues
+      ((λ _ low. old.0 low), grind (arith, nat_tests, continues), old.1)
   allowed-after NeedsThree old =
-      let cont = byte-after_lead (omega (arith, old)) in
-      allowed-in_range (from_to 0x80 0xbf) NeedsTwo cont ((λ _. old), grind (arith, nat_tests, cont))
+      let continues = byte-after_lead (omega (arith, old)) in
+      allowed-in_range (from_to 0x80 0xbf) NeedsTwo continues ((λ _. old), grind (arith, nat_tests, continues))
   allowed-after AfterE0 old =
-      let cont = byte-after_lead (omega (arith, old)) in
+      let continues = byte-after_lead (omega (arith, old)) in
       let low = fit.from_a0_after_e0 old in
-      allowed-in_range (from_to 0xa0 0xbf) NeedsOne (grind (arith, nat_tests, cont, low))
-      ((λ _ below. absurd (omega (arith, old, below))), grind (arith, nat_tests, cont), omega (arith, old))
+      allowed-in_range (from_to 0xa0 0xbf) NeedsOne (grind (arith, nat_tests, continues, low))
+      ((λ _ below. absurd (omega (arith, old, below))), grind (arith, nat_tests, continues), omega (arith, old))
   allowed-after AfterED old =
-      let cont = byte-after_lead (omega (arith, old)) in
+      let continues = byte-after_lead (omega (arith, old)) in
       let high = fit.below_a0_after_ed old in
-      allowed-in_range (from_to 0x80 0x9f) NeedsOne (grind (arith, nat_tests, cont, high))
-      ((λ _ below. absurd (omega (arith, old, below))), grind (arith, nat_tests, cont), omega (arith, old))
+      allowed-in_range (from_to 0x80 0x9f) NeedsOne (grind (arith, nat_tests, continues, high))
+      ((λ _ below. absurd (omega (arith, old, below))), grind (arith, nat_tests, continues), omega (arith, old))
   allowed-after AfterF0 old =
-      let cont = byte-after_lead (omega (arith, old)) in
+      let continues = byte-after_lead (omega (arith, old)) in
       let low = fit.from_90_after_f0 old in
-      allowed-in_range (from_to 0x90 0xbf) NeedsTwo (grind (arith, nat_tests, cont, low))
-      ((λ _. omega (arith, old)), grind (arith, nat_tests, cont))
+      allowed-in_range (from_to 0x90 0xbf) NeedsTwo (grind (arith, nat_tests, continues, low))
+      ((λ _. omega (arith, old)), grind (arith, nat_tests, continues))
   allowed-after AfterF4 old =
-      let cont = byte-after_lead (omega (arith, old)) in
+      let continues = byte-after_lead (omega (arith, old)) in
       let high = fit.below_90_after_f4 old in
-      allowed-in_range (from_to 0x80 0x8f) NeedsTwo (grind (arith, nat_tests, cont, high))
-      ((λ _. omega (arith, old)), grind (arith, nat_tests, cont))
+      allowed-in_range (from_to 0x80 0x8f) NeedsTwo (grind (arith, nat_tests, continues, high))
+      ((λ _. omega (arith, old)), grind (arith, nat_tests, continues))
   allowed-after AfterC2 old =
-      let cont = byte-after_lead (omega (arith, old.0)) in
+      let continues = byte-after_lead (omega (arith, old.0)) in
       let low = fit.from_a0_after_c2 old.0 in
-      allowed-in_range (from_to 0xa0 0xbf) BetweenCharacters (grind (arith, nat_tests, cont, low))
-      (grind (arith, nat_tests, cont), omega (arith, old.0), old.1)
+      allowed-in_range (from_to 0xa0 0xbf) BetweenCharacters (grind (arith, nat_tests, continues, low))
+      (grind (arith, nat_tests, continues), omega (arith, old.0), old.1)
   allowed-after Failed old = absurd old
 
 -- ---- positions

@@ -1,7 +1,7 @@
 -- What one byte makes of the numbers and of the head that are collected: by the part of the head that was reached and
 -- the byte's class.
 use Rattle.std.proofs.lemmas.List.{length-take}
-use Rattle.vte_core.proofs.Common.{ap, append-nil, append_assoc, arith, Bool, Class, class_of, CollectedHead, count_of, CountsNumbers, Entry, Event, false, grouped, groups_of, has_too_many_numbers, HasReadHead, head_of, HeadProgress, HoldsHead, HoldsIntermediates, HoldsNumbers, IllShaped, inl, inr, Intermediate, Intermediates, is_colon, is_head_byte, is_intermediate, is_marker, is_parameter_byte, is_separator, is_well_shaped, length, length-append, List, Marker, max_numbers, max_value, min, nat_tests, numbers, Parameters, refl, rules, SameIntermediates, SameNumbers, sequence_event, StaysIllShaped, sym, take, take-append-le, take_all, true, with_number, ℕ, [], ◌*◌, ◌++◌, ◌+◌, ◌-◌, ◌<◌, ◌||◌, ◌∙◌, ◌∷◌, ◌≡◌, ◌≤◌, ◌⊎◌}
+use Rattle.vte_core.proofs.Common.{[], ap, append-nil, append_assoc, arith, Bool, Class, class_of, CollectedHead, count_of, CountsNumbers, Entry, Event, false, greatest_number, grouped, groups_of, has_too_many_numbers, HasReadHead, head_of, HeadProgress, HoldsHead, HoldsIntermediates, HoldsNumbers, IllShaped, inl, inr, Intermediate, Intermediates, is_colon, is_head_byte, is_intermediate, is_marker, is_parameter_byte, is_separator, is_well_shaped, length, length-append, List, Marker, max_numbers, min, nat_tests, numbers, Parameters, refl, rules, SameIntermediates, SameNumbers, sequence_event, StaysIllShaped, sym, take, take-append-le, take_all, true, with_number, ℕ, ◌*◌, ◌++◌, ◌+◌, ◌-◌, ◌<◌, ◌||◌, ◌∙◌, ◌∷◌, ◌≡◌, ◌≤◌, ◌⊎◌}
 use Rattle.vte_core.proofs.lemmas.bytes.Classes.{AreInClass-append}
 use Rattle.vte_core.proofs.lemmas.fields.Numbers.{count_of-grouped, grouped-push, is_digit_no_separator, number_of-push, numbered, numbers_are}
 use Rattle.vte_core.proofs.lemmas.shapes.HeadParts.{begins-intermediates, collected-parts, collected-well_shaped, head_of-parts, list_all-not}
@@ -80,7 +80,7 @@ counts-separator {old} {text} b counts holds separates params joined number = re
 pub counts-digit : {old new : CollectedHead} {text : List ℕ} (digit : ℕ) → CountsNumbers old text → 0x30 ≤ digit
     → digit < 0x3a
     → new.params ≡ old.params
-    → new.joined ≡ old.joined → new.number ≡ min max_value (10 * old.number + (digit - 0x30))
+    → new.joined ≡ old.joined → new.number ≡ min greatest_number (10 * old.number + (digit - 0x30))
     → CountsNumbers new (text ++ digit ∷ [])
 counts-digit {text} digit counts low high params joined number =
     search (rules, arith, append_assoc, is_digit_no_separator, number_of-push)

@@ -4,7 +4,7 @@ use Rattle.std.proofs.lemmas.Int.Digits.{digits_value_push}
 use Rattle.std.proofs.lemmas.List.{length-take-le}
 use Rattle.std.proofs.lemmas.List.Splits.{slice_split_at, slice_split_none}
 use Rattle.std.specs.Option.{unwrap_or}
-use Rattle.vte_core.proofs.Common.{All, All-cons, All-drop, All-head, All-nil, All-pop, All-push, All-tail, All-take, AllFitU16, ap, append-nil, append_assoc, AreGroups, arith, Bool, cases_Bool, count_of, digit_value, drop, drop-append-le, drop_all, false, filter, FitsU16, fold, fold_push, get_or, grouped, groups_of, inl, inr, is_colon, is_separator, IsNonEmpty, length, length-append, length-drop, length-take, List, map, max_numbers, max_value, min, nat_tests, None, Number, number_of, numbers, numbers_from, numbers_of, Option, refl, rules, slice_split, Some, subst, suc, sum, sum_by-cons, sum_by-take-le, sum_by_push, sym, take, take-append-drop, take-append-le, take_all, take_more, true, with_number, ℕ, [], ◌*◌, ◌++◌, ◌+◌, ◌-◌, ◌<◌, ◌∙◌, ◌∷◌, ◌≡◌, ◌≤◌}
+use Rattle.vte_core.proofs.Common.{[], All, All-cons, All-drop, All-head, All-nil, All-pop, All-push, All-tail, All-take, AllFitU16, ap, append-nil, append_assoc, AreGroups, arith, Bool, cases_Bool, count_of, digit_value, drop, drop-append-le, drop_all, false, filter, FitsU16, fold, fold_push, get_or, greatest_number, grouped, groups_of, inl, inr, is_colon, is_separator, IsNonEmpty, length, length-append, length-drop, length-take, List, map, max_numbers, min, nat_tests, None, Number, number_of, numbers, numbers_from, numbers_of, Option, refl, rules, slice_split, Some, subst, suc, sum, sum_by-cons, sum_by-take-le, sum_by_push, sym, take, take-append-drop, take-append-le, take_all, take_more, true, with_number, ℕ, ◌*◌, ◌++◌, ◌+◌, ◌-◌, ◌<◌, ◌∙◌, ◌∷◌, ◌≡◌, ◌≤◌}
 use Rattle.vte_core.specs.private.FlatGroups.{AreFlatGroups, AreLengths, cut_by_lengths, IsLastPopped}
 
 -- ---- groups cut by lengths
@@ -241,12 +241,12 @@ digit_value_is digit low high = grind (arith, nat_tests)
 
 -- One more digit counts from the number so far, even if this has stopped at the greatest.
 pub number_of-push : (digits : List ℕ) (digit : ℕ) → 0x30 ≤ digit → digit < 0x3a
-    → number_of (digits ++ digit ∷ []) ≡ min max_value (10 * number_of digits + (digit - 0x30))
+    → number_of (digits ++ digit ∷ []) ≡ min greatest_number (10 * number_of digits + (digit - 0x30))
 number_of-push digits digit low high =
     omega (arith, digits_value_push 10 digits digit, digit_value_is digit low high)
 
 abbrev pub ValueFitsU16 : Number → Type 0
-ValueFitsU16 number = number.value ≤ max_value
+ValueFitsU16 number = number.value ≤ greatest_number
 
 -- There is at least one number, and each is at most 65,535.
 numbers_from-small : (joined : Bool) (digits text : List ℕ)
@@ -341,7 +341,7 @@ filled-grouped numbers =
 AreGroups-grouped : (numbers : List Number) → length numbers ≤ max_numbers → All ValueFitsU16 numbers
     → AreGroups (grouped numbers)
 AreGroups-grouped numbers at_most small =
-    let P : ℕ → Type 0 = λ value. value ≤ max_value in
+    let P : ℕ → Type 0 = λ value. value ≤ greatest_number in
     let keeps : Keeps (All P) P = record {
       begins = λ value r. All-cons P value [] r (All-nil P);
       joins = λ group value r all. All-push P group value all r;

@@ -3,7 +3,7 @@
 --
 -- A lemma is named by the place and what comes there, as `escape-end` for the end of a sequence right after ESC.
 use Rattle.std.proofs.lemmas.List.{length-take}
-use Rattle.vte_core.proofs.Common.{ap, append-nil, append_assoc, are_too_many, AreBrief, arith, AtEscape, bell, body_outcome, Bool, character_event, Class, class_of, cond, control_sequence_end, control_sequence_outcome, CsiDispatch, device_control_after_head, device_control_outcome, device_data_outcome, dispatches_escape, ends_device_data, ends_system_command, eqb, escape_outcome, EscapeSequence, EscDispatch, Event, Execute, executed_events, false, Final, first_two, groups_of, HasBoundedFields, Head, head_of, High, Hook, InControlSequence, InDeviceControl, InDeviceData, InEscape, InIgnoredString, InSystemCommand, Intermediate, InText, is_cancel, is_device_data, is_head_byte, is_truncated, is_well_formed, is_well_shaped, IsAtMostOneCharacter, IsBounded, IsCharacterEvent, IsExecuted, IsPrintable, Leads, length, List, malformed_event, nat_le, nat_tests, Option, OscDispatch, pieces_of, Place, PlainControl, Print, Put, refl, reported_intermediates, rules, scalar_of, sequence_event, sequence_kind, sym, system_command_outcome, text_outcome, true, Unhook, ℕ, [], ◌++◌, ◌<◌, ◌∷◌, ◌≡◌, ◌≤◌}
+use Rattle.vte_core.proofs.Common.{[], ap, append-nil, append_assoc, are_too_many, AreBrief, arith, AtEscape, bell, body_outcome, Bool, character_event, Class, class_of, cond, control_sequence_end, control_sequence_outcome, CsiDispatch, device_control_after_head, device_control_outcome, device_data_outcome, dispatches_escape, ends_device_data, ends_system_command, eqb, escape_outcome, EscapeSequence, EscDispatch, Event, Execute, executed_events, false, Final, groups_of, HasBoundedFields, Head, head_of, High, Hook, InControlSequence, InDeviceControl, InDeviceData, InEscape, InIgnoredString, InSystemCommand, Intermediate, InText, is_cancel, is_device_data, is_head_byte, is_truncated, is_well_formed, is_well_shaped, IsAtMostOneCharacter, IsBounded, IsCharacterEvent, IsExecuted, IsPrintable, kept_intermediates, Leads, length, List, malformed_event, nat_le, nat_tests, Option, OscDispatch, pieces_of, Place, PlainControl, Print, Put, refl, reported_intermediates, rules, scalar_of, sequence_event, sequence_kind, sym, system_command_outcome, text_outcome, true, Unhook, ℕ, ◌++◌, ◌<◌, ◌∷◌, ◌≡◌, ◌≤◌}
 use Rattle.vte_core.proofs.lemmas.bytes.Classes.{below_40_is_escape_sequence, head_is_no_control, head_is_no_end, is_dropped, is_dropped_in_head, spans}
 use Rattle.vte_core.proofs.lemmas.bytes.Scalars.{well_formed_is_scalar}
 use Rattle.vte_core.proofs.lemmas.fields.Numbers.{AreGroups-groups_of, some_group}
@@ -77,8 +77,8 @@ intermediate-more is_intermediate = record { leads = λ rest. simp (is_intermedi
 
 pub intermediate-end : {limit : Option ℕ} {intermediates : List ℕ} {b : ℕ} {class : Class} → class_of b ≡ class
     → dispatches_escape class ≡ true
-    → Leads limit (InEscape intermediates) b (EscDispatch (first_two intermediates) (are_too_many intermediates) b ∷ [])
-    (InText [])
+    → Leads limit (InEscape intermediates) b
+    (EscDispatch (kept_intermediates intermediates) (are_too_many intermediates) b ∷ []) (InText [])
 unfolding escape_from executed_events
 intermediate-end is_class dispatches = search (rules, arith)
 
@@ -215,7 +215,7 @@ text-lone {b} not_well_formed not_truncated =
 pub executed_low : (b : ℕ) → b < 0x20 → IsExecuted b
 executed_low b low = grind (arith, nat_tests)
 
-pub two_at_most : (bytes : List ℕ) → length (first_two bytes) ≤ 2
+pub two_at_most : (bytes : List ℕ) → length (kept_intermediates bytes) ≤ 2
 two_at_most bytes = omega (arith, length-take 2 bytes)
 
 -- The events of a sequence and of a hook have the same bounds.
@@ -223,7 +223,8 @@ pub bounded-head : (limit : Option ℕ) (head : Head) (final : ℕ) → (0x40 �
     → IsBounded limit (sequence_event CsiDispatch head final) × IsBounded limit (sequence_event Hook head final)
 unfolding sequence_event
 bounded-head limit head final in_range =
-    let fields : HasBoundedFields (groups_of head.parameter_text) (first_two (reported_intermediates head)) final =
+    let fields
+    : HasBoundedFields (groups_of head.parameter_text) (kept_intermediates (reported_intermediates head)) final =
     record {
       groups_are = AreGroups-groups_of head.parameter_text;
       some_groups = some_group head.parameter_text;

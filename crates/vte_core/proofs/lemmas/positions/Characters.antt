@@ -129,10 +129,10 @@ module _ {V B : Type 0} {call : ChunkCall V} {old mid : V} {stream : List ℕ} w
       }
 
 -- In a text with an unfinished character, the stream leaves it open.
-pub opens-text : {B : Type 0} {limit : Option ℕ} {stream : List ℕ} {unfinished : Unfinished} (parser : Machine B)
+pub open-in_text : {B : Type 0} {limit : Option ℕ} {stream : List ℕ} {unfinished : Unfinished} (parser : Machine B)
     → parser.state ≡ Text unfinished → bytes_of unfinished ≢ [] → HasReadWithLimit limit parser stream
     → open_character stream ≡ [] → ⊥
-opens-text {limit} {stream} {unfinished} parser in_state some_open has_read closed =
+open-in_text {limit} {stream} {unfinished} parser in_state some_open has_read closed =
     search (rules, arith, at_text-by_fields, is_at-in, after-open_character, is_at-place)
 
 -- ---- any number of bytes
@@ -166,7 +166,7 @@ pub record GoesOn {V B : Type 0} (call : ChunkCall V) (value : V) (i j : ℕ) (b
       (in_text next unfinished)
   pub truncated : may_continue (bytes_of begun) ≡ true → is_truncated (bytes_of unfinished) ≡ true
   pub n : ℕ
-  pub far : j ≡ i + n
+  pub position_is : j ≡ i + n
   pub bytes_are : may_continue (bytes_of begun) ≡ true
       → bytes_of unfinished ≡ bytes_of begun ++ take n (drop i call.bytes)
 
@@ -188,10 +188,11 @@ module _ {V B : Type 0} {call : ChunkCall V} {value : V} {i : ℕ} {begun : Unfi
         before_end byte_is;
     truncated = λ continues. (extends (goes.truncated continues)).1;
     n = goes.n + 1;
-    far = omega (arith, goes.far);
+    position_is = omega (arith, goes.position_is);
     bytes_are =
         λ continues. (extends (goes.truncated continues)).0
-        ∙ character-byte call.bytes i goes.n (bytes_of begun) before_end goes.far byte_is (goes.bytes_are continues);
+        ∙ character-byte call.bytes i goes.n (bytes_of begun) before_end goes.position_is byte_is
+        (goes.bytes_are continues);
   }
 
   -- If all bytes are read, the character stays open.
@@ -230,7 +231,8 @@ module _ {V B : Type 0} {call : ChunkCall V} {value : V} {i : ℕ} {begun : Unfi
         let truncated = goes.truncated continues in
         let whole = extends truncated in
         let same =
-        character-byte call.bytes i goes.n (bytes_of begun) before_end goes.far byte_is (goes.bytes_are continues) in
+        character-byte call.bytes i goes.n (bytes_of begun) before_end goes.position_is byte_is
+        (goes.bytes_are continues) in
         record {
           events = character_event scalar ∷ [];
           parts =
@@ -239,7 +241,7 @@ module _ {V B : Type 0} {call : ChunkCall V} {value : V} {i : ℕ} {begun : Unfi
               (goes.kept stream parser in_state (recorded-inside inside)) before_end byte_is later));
           events_are = inr (record {
             n = goes.n + 1;
-            within = omega (arith, goes.far, before_end);
+            within = omega (arith, goes.position_is, before_end);
             well_formed = subst (λ (bytes : List ℕ). is_well_formed bytes ≡ true) same whole.0;
             several_bytes =
                 subst (λ (bytes : List ℕ). 1 < length bytes) same
@@ -296,10 +298,11 @@ module _ {V B : Type 0} {call : ChunkCall V} {value : V} {i : ℕ} {begun : Unfi
             | inr whole ↦
                 let same : bytes_of unfinished ++ take whole.n (drop j call.bytes)
                 ≡ bytes_of begun ++ take (goes.n + whole.n) (drop i call.bytes) =
-                character-bytes call.bytes i j goes.n whole.n (bytes_of begun) goes.far (goes.bytes_are continues) in
+                character-bytes call.bytes i j goes.n whole.n (bytes_of begun) goes.position_is
+                (goes.bytes_are continues) in
                 inr (record {
                   n = goes.n + whole.n;
-                  within = omega (arith, goes.far, whole.within);
+                  within = omega (arith, goes.position_is, whole.within);
                   well_formed = subst (λ (bytes : List ℕ). is_well_formed bytes ≡ true) same whole.well_formed;
                   several_bytes = subst (λ (bytes : List ℕ). 1 < length bytes) same whole.several_bytes;
                   event_is = whole.event_is ∙ ap (λ (bytes : List ℕ). character_event (scalar_of bytes) ∷ []) same;
@@ -333,6 +336,6 @@ module _ {V B : Type 0} {call : ChunkCall V} {value : V} {i first second : ℕ} 
         kept = λ stream parser in_state inside. inside-moved (omega arith) (goes.kept stream parser in_state inside);
         truncated = goes.truncated;
         n = goes.n;
-        far = omega (arith, goes.far);
+        position_is = omega (arith, goes.position_is);
         bytes_are = goes.bytes_are;
       }

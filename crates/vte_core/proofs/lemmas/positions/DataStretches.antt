@@ -70,19 +70,19 @@ advances-put {parser} in_state before_end byte_is may_go_on put performed =
 
 -- A call that asks nothing goes on by a stretch at a time: bytes that lead back to the same place.
 
-advances-by : {V B : Type 0} {call : ChunkCall V} {value : V} {parser : Machine B} (n i : ℕ)
+advances-data_bytes : {V B : Type 0} {call : ChunkCall V} {value : V} {parser : Machine B} (n i : ℕ)
     → parser.state ≡ DeviceData → i + n ≤ length call.bytes → ArePut call.bytes i (i + n) → call.may_stop ≡ false
     → Advances AnyEvents call value (after call.step value (map Put (take n (drop i call.bytes)))) i (i + n) parser
     parser
-advances-by zero i in_state within are_put never_stops =
+advances-data_bytes zero i in_state within are_put never_stops =
     advances-to_same (omega arith) (advances-nothing (λ _. settled-same_state in_state tt))
-advances-by {call} {parser} (suc n) i in_state within are_put never_stops =
+advances-data_bytes {call} {parser} (suc n) i in_state within are_put never_stops =
     let here : i < length call.bytes = omega (arith, within) in
     let b : ℕ = slice_index call.bytes i in
     let put = are_put i (omega arith) (omega arith) in
     rw (drop_more call.bytes i 0 here) (advances-to_same (omega arith) (advances-then
     (advances-put in_state here refl (λ asks. absurd (false≢true (sym never_stops ∙ asks))) put refl)
-    (advances-by n (i + 1) in_state (omega (arith, within))
+    (advances-data_bytes n (i + 1) in_state (omega (arith, within))
     (λ k low high. are_put k (omega (arith, low)) (omega (arith, high))) never_stops)))
 
 pub advances-data : {V B : Type 0} {call : ChunkCall V} {old new : V} {i j : ℕ} {parser : Machine B}
@@ -92,7 +92,7 @@ pub advances-data : {V B : Type 0} {call : ChunkCall V} {old new : V} {i j : ℕ
 advances-data {call} {old} {i} {j} {parser} in_state in_order within are_put never_stops performed =
     subst (λ value. Advances AnyEvents call old value i j parser parser) (sym performed)
     (advances-to_same (omega (arith, in_order))
-    (advances-by (j - i) i in_state (omega (arith, in_order, within))
+    (advances-data_bytes (j - i) i in_state (omega (arith, in_order, within))
     (λ k from to. are_put k from (omega (arith, in_order, to))) never_stops))
 
 -- If a byte is put, and those after it are, all of them are.

@@ -4,7 +4,7 @@ use Rattle.std.proofs.lemmas.Fmt.{decimal_is_IsNumeral}
 use Rattle.std.proofs.lemmas.List.Folds.{flat_map-map}
 use Rattle.std.proofs.lemmas.Str.Parse.{digit_from_value}
 use Rattle.std.specs.Str.Parse.{AllDigits, digits_value}
-use Rattle.vte_core.proofs.Common.{All, All-append, All-cons, All-head, All-map, All-nil, All-tail, AllFitU16, ap, append-nil, append_assoc, AreInClass, AreParameters, arith, Bool, BytesLead, class_of, colon, count_of, CsiDispatch, decimal, DispatchesShown, drop, false, flat_map, flat_map-append, fold, fold-append, get_or, groups_of, has_too_many_numbers, head_of, if◌then◌else◌, InControlSequence, InText, is_colon, is_parameter_byte, is_separator, is_well_shaped, IsNonEmpty, join_with_byte, length, List, map, max_numbers, max_value, nat_tests, Number, number_of, numbers, numbers_from, Option, refl, rules, semicolon, sequence_event, sequence_kind, shown, sym, take, take_all, true, with_number, ℕ, [], ◌++◌, ◌-◌, ◌∙◌, ◌∷◌, ◌≡◌, ◌≤◌}
+use Rattle.vte_core.proofs.Common.{[], All, All-append, All-cons, All-head, All-map, All-nil, All-tail, AllFitU16, ap, append-nil, append_assoc, AreInClass, AreParameters, arith, Bool, BytesLead, class_of, colon, count_of, CsiDispatch, decimal, DispatchesShown, drop, false, flat_map, flat_map-append, fold, fold-append, get_or, greatest_number, groups_of, has_too_many_numbers, head_of, if◌then◌else◌, InControlSequence, InText, is_colon, is_parameter_byte, is_separator, is_well_shaped, IsNonEmpty, join_with_byte, length, List, map, max_numbers, nat_tests, Number, number_of, numbers, numbers_from, Option, refl, rules, semicolon, sequence_event, sequence_kind, shown, sym, take, take_all, true, with_number, ℕ, ◌++◌, ◌-◌, ◌∙◌, ◌∷◌, ◌≡◌, ◌≤◌}
 use Rattle.vte_core.proofs.lemmas.bytes.Classes.{head_ends_nothing, parameter_is_head}
 use Rattle.vte_core.proofs.lemmas.fields.Numbers.{count_of-grouped, is_digit_no_separator, IsNoSeparator, numbered, numbers_are, ValueFitsU16, with_number-begins, with_number-joins}
 use Rattle.vte_core.proofs.lemmas.places.BytesInStream.{bytes_lead-append, bytes_lead-byte, bytes_lead-escape, bytes_lead-nothing, no_escape}
@@ -69,15 +69,15 @@ all_digits : (ds : List ℕ) → AllDigits 10 ds → All IsDigit ds
 all_digits [] digits = All-nil IsDigit
 all_digits (d ∷ ds) digits = All-cons IsDigit d ds (digit_from_value d digits.0) (all_digits ds digits.1)
 
-digits-decimal : (n : ℕ) → n ≤ max_value → All IsDigit (decimal n)
+digits-decimal : (n : ℕ) → n ≤ greatest_number → All IsDigit (decimal n)
 digits-decimal n small = all_digits (decimal n) (decimal_is_IsNumeral n (omega arith)).0.1
 
-number_of-decimal : (n : ℕ) → n ≤ max_value → number_of (decimal n) ≡ n
+number_of-decimal : (n : ℕ) → n ≤ greatest_number → number_of (decimal n) ≡ n
 number_of-decimal n small =
     let value : digits_value 10 (decimal n) ≡ n = (decimal_is_IsNumeral n (omega arith)).1 in
     omega (arith, value)
 
-no_separators-decimal : (n : ℕ) → n ≤ max_value → All IsNoSeparator (decimal n)
+no_separators-decimal : (n : ℕ) → n ≤ greatest_number → All IsNoSeparator (decimal n)
 no_separators-decimal n small = search (rules, arith, is_digit_no_separator, digits-decimal)
 
 -- ---- a text of numbers, each but the first with its separator before it
@@ -152,7 +152,7 @@ ValueFitsU16-in_group : (group : List ℕ) → AllFitU16 group → All ValueFits
 unfolding in_group
 ValueFitsU16-in_group [] small = All-nil ValueFitsU16
 ValueFitsU16-in_group (n ∷ ns) small =
-    let P : ℕ → Type 0 = λ value. value ≤ max_value in
+    let P : ℕ → Type 0 = λ value. value ≤ greatest_number in
     All-cons ValueFitsU16 (numbered false n) (map (numbered true) ns) (All-head P n ns small)
     (All-map ValueFitsU16 (numbered true) ns (All-tail P n ns small))
 

@@ -34,7 +34,7 @@ impl HeadProgress {
 #[derive(Clone, Copy)]
 pub(crate) enum Separators {
     Read,
-    Left,
+    Unread,
 }
 
 /// How far a head has been read, and up to which position. `next_byte` is the byte there, if there

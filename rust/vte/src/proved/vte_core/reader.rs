@@ -40,7 +40,7 @@ pub(crate) struct Window {
 
 /// Returns the bytes up to a position.
 #[inline(always)]
-pub(crate) fn up_to(input: &[u8], to: usize) -> &[u8] {
+pub(crate) fn take_prefix(input: &[u8], to: usize) -> &[u8] {
     &input[..to]
 }
 

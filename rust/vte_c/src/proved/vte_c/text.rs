@@ -26,7 +26,7 @@ impl TextWriter<'_> {
 
     /// Writes a text, if there is room for it.
     #[inline(always)]
-    fn add(&mut self, text: &[u8]) {
+    fn write_text(&mut self, text: &[u8]) {
         let (used, size) = (self.used, self.bytes.len());
         if self.fits && used <= size && text.len() <= size - used {
             self.bytes[used..used + text.len()].copy_from_slice(text);
@@ -41,30 +41,30 @@ impl TextWriter<'_> {
 impl Perform for TextWriter<'_> {
     #[inline]
     fn print(&mut self, c: char) {
-        self.add(c.encode_utf8(&mut [0; 4]).as_bytes());
+        self.write_text(c.encode_utf8(&mut [0; 4]).as_bytes());
     }
 
     fn execute(&mut self, byte: u8) {
         match byte {
-            b'\t' | b'\n' | b'\r' => self.add(&[byte]),
-            _ => self.add(b""),
+            b'\t' | b'\n' | b'\r' => self.write_text(&[byte]),
+            _ => self.write_text(b""),
         }
     }
 
     fn hook(&mut self, _params: &Params, _intermediates: &[u8], _ignore: bool, _action: char) {
-        self.add(b"");
+        self.write_text(b"");
     }
 
     fn put(&mut self, _byte: u8) {
-        self.add(b"");
+        self.write_text(b"");
     }
 
     fn unhook(&mut self) {
-        self.add(b"");
+        self.write_text(b"");
     }
 
     fn osc_dispatch(&mut self, _params: &[&[u8]], _bell_terminated: bool) {
-        self.add(b"");
+        self.write_text(b"");
     }
 
     fn csi_dispatch(
@@ -74,11 +74,11 @@ impl Perform for TextWriter<'_> {
         _ignore: bool,
         _action: char,
     ) {
-        self.add(b"");
+        self.write_text(b"");
     }
 
     fn esc_dispatch(&mut self, _intermediates: &[u8], _ignore: bool, _byte: u8) {
-        self.add(b"");
+        self.write_text(b"");
     }
 
     fn terminated(&self) -> bool {
@@ -93,7 +93,7 @@ impl PerformText for TextWriter<'_> {
 
     #[inline]
     fn print_text(&mut self, text: &str) {
-        self.add(text.as_bytes());
+        self.write_text(text.as_bytes());
     }
 }
 

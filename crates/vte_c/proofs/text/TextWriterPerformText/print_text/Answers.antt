@@ -5,5 +5,5 @@ use Rattle.vte_c.proofs.text.TextWriterPerformText.print_text.Goals as goal
 
 pub returns : goal.returns
 returns c =
-    let added = rw c.as_bytes.ensures.value at c.add.ensures in
+    let added = rw c.as_bytes.ensures.value at c.write_text.ensures in
     added ∙ run-written (written_text_of c.args.self.now) c.args.text.now c.utf8.text c.requires.not_empty

@@ -1,6 +1,6 @@
 -- A number more joins the last group or begins one (`pushed` of `fields/Numbers`): there is room, the last length stays
 -- small, and the lengths still fit.
-use Rattle.vte_core.proofs.Common.{All-push, ap, arith, count_of, lit<, max_value, rules, ◌+◌, ◌<◌, ◌≤◌}
+use Rattle.vte_core.proofs.Common.{All-push, ap, arith, count_of, greatest_number, lit<, rules, ◌+◌, ◌<◌, ◌≤◌}
 use Rattle.vte_core.proofs.lemmas.fields.Numbers.{count_of-cut_by_lengths, pushed}
 use Rattle.vte_core.proofs.params.Params.push.Goals as goal
 
@@ -34,7 +34,7 @@ invariant_of-self c =
     rw (c.push-2.ensures.items, c.push.ensures.items, c.unwrap_or.ensures) (record {
       lengths_fit = all.lengths_fit;
       small =
-          All-push (λ number. number ≤ max_value) _ c.args.value c.self.invariant.small
+          All-push (λ number. number ≤ greatest_number) _ c.args.value c.self.invariant.small
           (omega (arith, c.ranges.value.fits));
     })
 

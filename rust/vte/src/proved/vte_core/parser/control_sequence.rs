@@ -26,9 +26,13 @@ impl<B: Buffer> Machine<B> {
         input: &[u8],
         from: usize,
     ) -> usize {
-        let head =
-            self.collected
-                .read_numbers(reader, input, from, HeadProgress::Entry, Separators::Left);
+        let head = self.collected.read_numbers(
+            reader,
+            input,
+            from,
+            HeadProgress::Entry,
+            Separators::Unread,
+        );
         if let Some(byte) = head.next_byte {
             if is_final(byte) {
                 return self.end_control_sequence(reader, performer, head, false, byte);

@@ -16,7 +16,7 @@ impl<B: Buffer> Machine<B> {
         input: &[u8],
     ) -> Result<usize, Refused> {
         if !MAY_STOP && input.len() == 1 {
-            return self.drive_one(reader, performer, input);
+            return self.drive_single_byte(reader, performer, input);
         }
         self.drive_loop::<P, G, MAY_STOP>(reader, performer, input)
     }

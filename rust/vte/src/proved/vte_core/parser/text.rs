@@ -4,7 +4,9 @@
 use crate::proved::vte_core::buffer::Buffer;
 use crate::proved::vte_core::class::ESCAPE;
 use crate::proved::vte_core::parser::Machine;
-use crate::proved::vte_core::reader::{text_between, up_to, CountedPerform, Granularity, Reader};
+use crate::proved::vte_core::reader::{
+    take_prefix, text_between, CountedPerform, Granularity, Reader,
+};
 use crate::proved::vte_core::utf8::{is_lead, is_printed_ascii};
 
 /// How many bytes of a text are read before it is searched for ESC. Most texts are shorter, and
@@ -125,7 +127,7 @@ impl<B: Buffer> Machine<B> {
         let mut position = from;
         // The length of `prefix` bounds the position, so that the inner loop has no test of the
         // index. As a function of its own, it would return a position and why it ended.
-        let mut prefix = up_to(input, (from + SHORT_TEXT).min(input.len()));
+        let mut prefix = take_prefix(input, (from + SHORT_TEXT).min(input.len()));
         while position < input.len() {
             while position < prefix.len() {
                 let byte = reader.byte_at(prefix, position);
@@ -151,7 +153,7 @@ impl<B: Buffer> Machine<B> {
                 }
             }
             if position < input.len() {
-                prefix = up_to(
+                prefix = take_prefix(
                     input,
                     reader.find_text_part_end::<true>(input, from, position),
                 );
@@ -172,14 +174,14 @@ impl<B: Buffer> Machine<B> {
         from: usize,
     ) -> usize {
         let mut position = from;
-        let mut prefix = up_to(input, (from + SHORT_TEXT).min(input.len()));
+        let mut prefix = take_prefix(input, (from + SHORT_TEXT).min(input.len()));
         let mut byte = reader.byte_at(input, from);
         while let Some(next) = self.read_byte_of_text(reader, performer, input, position, byte) {
             position = next;
             if position < prefix.len() {
                 byte = reader.byte_at(prefix, position);
             } else if position < input.len() {
-                prefix = up_to(
+                prefix = take_prefix(
                     input,
                     reader.find_text_part_end::<false>(input, from, position),
                 );

@@ -8,7 +8,7 @@ use crate::prelude::memchr;
 use crate::proved::vte_core::class::{
     cannot_end, ends_sequence, is_command_data, is_device_data, ESCAPE,
 };
-use crate::proved::vte_core::reader::{up_to, Reader};
+use crate::proved::vte_core::reader::{take_prefix, Reader};
 
 impl Reader {
     /// Returns the end of the data of an operating system command that starts at `from`: the
@@ -64,7 +64,7 @@ impl Reader {
         } else {
             input.len()
         };
-        let escape = self.find_escape(up_to(input, to), from);
+        let escape = self.find_escape(take_prefix(input, to), from);
         escape + usize::from(escape < to)
     }
 

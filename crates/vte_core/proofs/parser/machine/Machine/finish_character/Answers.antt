@@ -2,7 +2,7 @@
 use Rattle.vte_core.proofs.Common.{arith, false≢true, rules, sym, ◌∙◌}
 use Rattle.vte_core.proofs.lemmas.positions.AddedEvents.{reports-nothing, reports-open}
 use Rattle.vte_core.proofs.lemmas.positions.CallEnds.{starts-at, starts-inside}
-use Rattle.vte_core.proofs.lemmas.positions.Characters.{opens-text}
+use Rattle.vte_core.proofs.lemmas.positions.Characters.{open-in_text}
 use Rattle.vte_core.proofs.lemmas.positions.SettledStates.{settled-nothing, settled-outside, settled-same_state}
 use Rattle.vte_core.proofs.parser.machine.Machine.finish_character.Goals as goal
 
@@ -39,5 +39,5 @@ returns-else-is_empty-clause-outside_runs g c stream has_read =
     c.continue_character.ensures.completes.adds _ stream c.args.self.now c.in-Text.is (starts-inside has_read) in
     reports-open reported
     (λ closed.
-    opens-text c.args.self.now c.in-Text.is
+    open-in_text c.args.self.now c.in-Text.is
     (λ empty. false≢true (sym c.if-is_empty.false ∙ c.is_empty.ensures.1 empty)) has_read closed)

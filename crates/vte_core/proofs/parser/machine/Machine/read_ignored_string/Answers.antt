@@ -1,4 +1,4 @@
--- Bytes of an ignored string lead back to it, one by one (`advances-by`); then it ends, or the bytes do.
+-- Bytes of an ignored string lead back to it, one by one (`advances-ignored_bytes`); then it ends, or the bytes do.
 use Rattle.vte_core.proofs.Common.{Advances, AreIgnored, arith, ChunkCall, IgnoredString, length, Machine, MayGoOn, refl, rules, suc, zero, ℕ, ◌+◌, ◌-◌, ◌≡◌, ◌≤◌}
 use Rattle.vte_core.proofs.lemmas.bytes.Classes.{ends_not_cancel}
 use Rattle.vte_core.proofs.lemmas.fields.PlaceOfState.{is_at-by}
@@ -9,19 +9,19 @@ use Rattle.vte_core.proofs.lemmas.positions.TakenBytes.{advances-in, takes-byte,
 use Rattle.vte_core.proofs.parser.machine.Machine.read_ignored_string.Goals as goal
 
 -- A call reads n ignored bytes, which report nothing.
-advances-by : {outside V B : Type 0} {call : ChunkCall V} {value : V} {parser : Machine B} (n i : ℕ)
+advances-ignored_bytes : {outside V B : Type 0} {call : ChunkCall V} {value : V} {parser : Machine B} (n i : ℕ)
     → parser.state ≡ IgnoredString → i + n ≤ length call.bytes → AreIgnored call.bytes i (i + n) → MayGoOn call value
     → Advances outside call value value i (i + n) parser parser
-advances-by zero i in_state within are_ignored may_go_on =
+advances-ignored_bytes zero i in_state within are_ignored may_go_on =
     advances-to_same (omega arith) (advances-nothing (λ _. settled-same_state in_state tt))
-advances-by {call} {parser} (suc n) i in_state within are_ignored may_go_on =
+advances-ignored_bytes {call} {parser} (suc n) i in_state within are_ignored may_go_on =
     let ordinary = are_ignored i (omega arith) (omega arith) in
     advances-to_same (omega arith) (advances-then
     (advances-given tt (advances-in in_state (omega (arith, within)) refl may_go_on ordinary
     (takes-in_ignored parser
     (takes-byte refl (is_at-by in_state tt)
     (ignored-more (ends_not_cancel _ ordinary)))) (settled-same_state in_state tt)))
-    (advances-by n (i + 1) in_state (omega (arith, within))
+    (advances-ignored_bytes n (i + 1) in_state (omega (arith, within))
     (λ k low high. are_ignored k (omega (arith, low)) (omega (arith, high))) may_go_on))
 
 advances-ignored : {outside V B : Type 0} {call : ChunkCall V} {value : V} {i j : ℕ} {parser : Machine B}
@@ -29,7 +29,7 @@ advances-ignored : {outside V B : Type 0} {call : ChunkCall V} {value : V} {i j 
     → Advances outside call value value i j parser parser
 advances-ignored {i} {j} in_state in_order within are_ignored may_go_on =
     advances-to_same (omega (arith, in_order))
-    (advances-by (j - i) i in_state (omega (arith, in_order, within))
+    (advances-ignored_bytes (j - i) i in_state (omega (arith, in_order, within))
     (λ k from to. are_ignored k from (omega (arith, in_order, to))) may_go_on)
 
 pub returns-in-None-clause-advances : goal.returns-in-None-clause-advances

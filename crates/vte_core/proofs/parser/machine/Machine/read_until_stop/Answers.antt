@@ -9,11 +9,11 @@ use Rattle.vte_core.proofs.parser.machine.Machine.read_until_stop.Goals as goal
 use Rattle.vte_core.proofs.parser.machine.Machine.read_until_stop.Invariants.{call_at}
 use Rattle.vte_core.specs.private.Prelude.{MayReadByte}
 
-advances-single : (g : Over) (c : Joined-is_printed_ascii g)
+advances-single_byte : (g : Over) (c : Joined-is_printed_ascii g)
     → Advances AnyEvents (call_at g c.args.input.bytes.now) (g.P.CountedPerform.value_of c.args.performer.now)
     (g.P.CountedPerform.value_of c.if-is_printed_ascii.performer) c.args.from (c.loop-position-2.position + 1)
     c.args.self.now c.loop-position-2.self
-advances-single g c =
+advances-single_byte g c =
     let reads_on = c.loop-position-2.invariant.is_at.reads_on in
     let before_end : c.loop-position-2.position < length c.args.input.bytes.now =
     omega (arith, c.loop-position.invariant.prefix, c.loop-position-2-test.true) in
@@ -44,7 +44,7 @@ returns-then-terminated-clause-advances g c =
 
 pub returns-then-terminated-2-clause-advances : goal.returns-then-terminated-2-clause-advances
 returns-then-terminated-2-clause-advances g c =
-    advances-single g (goal.at.returns-then-terminated-2-clause-advances g c).Joined-is_printed_ascii
+    advances-single_byte g (goal.at.returns-then-terminated-2-clause-advances g c).Joined-is_printed_ascii
 
 -- The next round. Only a longer character can change the state, and does so only with the last bytes of the call.
 pub loop-position-2-preserved-then-is_lead : goal.loop-position-2-preserved-then-is_lead
@@ -72,7 +72,7 @@ loop-position-2-preserved g c =
     record {
       is_at = record {
         reads_on = record {
-          advances = advances-single g (goal.at.loop-position-2-preserved g c).Joined-is_printed_ascii;
+          advances = advances-single_byte g (goal.at.loop-position-2-preserved g c).Joined-is_printed_ascii;
           may_go_on = search rules;
           settled = λ _. c.loop-position-2.invariant.is_at.reads_on.settled before_end;
           spends = search rules;

@@ -1,7 +1,7 @@
 -- A printed byte is a character. What any other one does, its own function says.
 use Rattle.vte_core.proofs.Common.{sym, ◌∙◌}
 use Rattle.vte_core.proofs.lemmas.positions.BetweenCharacters.{advances-printed}
-use Rattle.vte_core.proofs.parser.machine.Machine.read_one_of_text.Goals as goal
+use Rattle.vte_core.proofs.parser.machine.Machine.read_single_byte_of_text.Goals as goal
 
 pub returns-then-is_printed_ascii-clause-advances : goal.returns-then-is_printed_ascii-clause-advances
 returns-then-is_printed_ascii-clause-advances g c =

@@ -17,7 +17,7 @@ use crate::utf8::{Extension, Unfinished, is_lead, is_printed_ascii};
 impl<B: Buffer> Machine<B> {
     /// Reads the one byte of a call that can't stop, or none if memory is refused for it.
     // cargo: #[inline(never)]
-    pub(crate) fn drive_one<P: CountedPerform<G>, G: Granularity>(
+    pub(crate) fn drive_single_byte<P: CountedPerform<G>, G: Granularity>(
         &mut self,
         reader: &mut Reader,
         performer: &mut P,
@@ -31,19 +31,19 @@ impl<B: Buffer> Machine<B> {
     {
         if let State::Text(begun) = self.state {
             if begun.is_empty() {
-                return Ok(self.read_one_of_text(reader, performer, input));
+                return Ok(self.read_single_byte_of_text(reader, performer, input));
             }
             return Ok(self.read_continuing_byte(reader, performer, input, begun));
         }
         if let State::ControlSequence(reached) = self.state {
             return Ok(self.read_parameter_byte(reader, performer, input, reached));
         }
-        self.read_outside_text(reader, performer, input)
+        self.read_single_byte_of_sequence(reader, performer, input)
     }
 
     /// Reads the one byte of a call in a text.
     #[inline(always)]
-    fn read_one_of_text<P: CountedPerform<G>, G: Granularity>(
+    fn read_single_byte_of_text<P: CountedPerform<G>, G: Granularity>(
         &mut self,
         reader: &mut Reader,
         performer: &mut P,
@@ -64,12 +64,12 @@ impl<B: Buffer> Machine<B> {
             performer.print_char(reader, char::from(byte));
             return 1;
         }
-        self.read_one_control_or_non_ascii(reader, performer, input, byte)
+        self.read_single_control_or_non_ascii(reader, performer, input, byte)
     }
 
     /// Reads the one byte of a call in a text, if it isn't printed ASCII.
     #[inline(never)]
-    fn read_one_control_or_non_ascii<P: CountedPerform<G>, G: Granularity>(
+    fn read_single_control_or_non_ascii<P: CountedPerform<G>, G: Granularity>(
         &mut self,
         reader: &mut Reader,
         performer: &mut P,
@@ -155,7 +155,7 @@ impl<B: Buffer> Machine<B> {
             input.entry.bytes.now 0 result self.old self.new reader.old reader.new }
     {
         performer.print_char(reader, char::REPLACEMENT_CHARACTER);
-        self.read_one_of_text(reader, performer, input)
+        self.read_single_byte_of_text(reader, performer, input)
     }
 
     /// Reads a byte of the head of a control sequence: of its parameters, like most, or another.
@@ -213,7 +213,7 @@ impl<B: Buffer> Machine<B> {
 
     /// Reads a byte outside text and control sequences, or none if memory is refused for it.
     #[inline(never)]
-    fn read_outside_text<P: CountedPerform<G>, G: Granularity>(
+    fn read_single_byte_of_sequence<P: CountedPerform<G>, G: Granularity>(
         &mut self,
         reader: &mut Reader,
         performer: &mut P,
@@ -236,7 +236,7 @@ impl<B: Buffer> Machine<B> {
             (P.value_of performer.new) 0 refused.read self.old self.new reader.old reader.new) }
     {
         Ok(match self.state {
-            // Never: `drive_one` reads text. A panic would stay in the program.
+            // Never: `drive_single_byte` reads text. A panic would stay in the program.
             State::Text(_) => 0,
             State::Escape => self.read_after_escape::<P, G, false>(reader, performer, input, 0),
             State::EscapeIntermediate => {

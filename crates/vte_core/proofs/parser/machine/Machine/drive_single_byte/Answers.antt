@@ -2,7 +2,7 @@
 use Rattle.vte_core.proofs.Common.{Advances, arith, ChunkCall, Err, IfErr, IfOk, IsSettled, length, looks_of, Machine, Ok, Result, ℕ, ◌≡◌}
 use Rattle.vte_core.proofs.lemmas.positions.CallEnds.{call_ends-with_all, starts-at}
 use Rattle.vte_core.proofs.lemmas.positions.SettledStates.{settled-nothing, settled-outside, settled-same_state}
-use Rattle.vte_core.proofs.parser.machine.Machine.drive_one.Goals as goal
+use Rattle.vte_core.proofs.parser.machine.Machine.drive_single_byte.Goals as goal
 use Rattle.vte_core.specs.declared.parser.refused.Refused.{Refused}
 use Rattle.vte_core.specs.declared.reader.Reader.{Reader}
 use Rattle.vte_core.specs.private.Prelude.{caller_looks, IsRefusedAt, per_byte, read_count, ReadsCall, ReadsWithin}
@@ -48,8 +48,8 @@ reads_call-one old_reader new_reader (Err refused) one_byte settled advances rea
 -- A text in which no character is open.
 pub returns-then-is_empty : goal.returns-then-is_empty
 returns-then-is_empty g c =
-    let read = c.read_one_of_text.ensures in
-    reads_call-one c.args.reader.now c.read_one_of_text.new.reader (Ok c.read_one_of_text.result)
+    let read = c.read_single_byte_of_text.ensures in
+    reads_call-one c.args.reader.now c.read_single_byte_of_text.new.reader (Ok c.read_single_byte_of_text.result)
     c.requires.one_byte
     (settled-same_state c.in-Text.is (settled-nothing c.in-Text.begun (c.is_empty.ensures.0 c.if-is_empty.true)))
     read.advances read.reads_within tt
@@ -64,6 +64,6 @@ returns-in-ControlSequence g c =
 -- Any other state.
 pub returns : goal.returns
 returns g c =
-    let read = c.read_outside_text.ensures in
-    reads_call-one c.args.reader.now c.read_outside_text.new.reader c.read_outside_text.result
+    let read = c.read_single_byte_of_sequence.ensures in
+    reads_call-one c.args.reader.now c.read_single_byte_of_sequence.new.reader c.read_single_byte_of_sequence.result
     c.requires.one_byte (settled-outside _ c.in_default.not-Text) read.advances read.reads_within read.refuses

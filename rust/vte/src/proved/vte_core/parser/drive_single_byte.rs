@@ -1,4 +1,4 @@
-// Written by tools/erase from crates/vte_core/src/parser/drive_one.rt: edit that one.
+// Written by tools/erase from crates/vte_core/src/parser/drive_single_byte.rt: edit that one.
 //! A call of one byte that can't stop.
 //!
 //! `drive_loop` saves registers for its loops at each call. These functions have none, and those
@@ -14,7 +14,7 @@ use crate::proved::vte_core::utf8::{is_lead, is_printed_ascii, Extension, Unfini
 impl<B: Buffer> Machine<B> {
     /// Reads the one byte of a call that can't stop, or none if memory is refused for it.
     #[inline(never)]
-    pub(crate) fn drive_one<P: CountedPerform<G> + ?Sized, G: Granularity>(
+    pub(crate) fn drive_single_byte<P: CountedPerform<G> + ?Sized, G: Granularity>(
         &mut self,
         reader: Reader,
         performer: &mut P,
@@ -22,19 +22,19 @@ impl<B: Buffer> Machine<B> {
     ) -> Result<usize, Refused> {
         if let State::Text(begun) = self.state {
             if begun.is_empty() {
-                return Ok(self.read_one_of_text(reader, performer, input));
+                return Ok(self.read_single_byte_of_text(reader, performer, input));
             }
             return Ok(self.read_continuing_byte(reader, performer, input, begun));
         }
         if let State::ControlSequence(reached) = self.state {
             return Ok(self.read_parameter_byte(reader, performer, input, reached));
         }
-        self.read_outside_text(reader, performer, input)
+        self.read_single_byte_of_sequence(reader, performer, input)
     }
 
     /// Reads the one byte of a call in a text.
     #[inline(always)]
-    fn read_one_of_text<P: CountedPerform<G> + ?Sized, G: Granularity>(
+    fn read_single_byte_of_text<P: CountedPerform<G> + ?Sized, G: Granularity>(
         &mut self,
         reader: Reader,
         performer: &mut P,
@@ -45,12 +45,12 @@ impl<B: Buffer> Machine<B> {
             performer.print_char(reader, char::from(byte));
             return 1;
         }
-        self.read_one_control_or_non_ascii(reader, performer, input, byte)
+        self.read_single_control_or_non_ascii(reader, performer, input, byte)
     }
 
     /// Reads the one byte of a call in a text, if it isn't printed ASCII.
     #[inline(never)]
-    fn read_one_control_or_non_ascii<P: CountedPerform<G> + ?Sized, G: Granularity>(
+    fn read_single_control_or_non_ascii<P: CountedPerform<G> + ?Sized, G: Granularity>(
         &mut self,
         reader: Reader,
         performer: &mut P,
@@ -105,7 +105,7 @@ impl<B: Buffer> Machine<B> {
         input: &[u8],
     ) -> usize {
         performer.print_char(reader, char::REPLACEMENT_CHARACTER);
-        self.read_one_of_text(reader, performer, input)
+        self.read_single_byte_of_text(reader, performer, input)
     }
 
     /// Reads a byte of the head of a control sequence: of its parameters, like most, or another.
@@ -146,14 +146,14 @@ impl<B: Buffer> Machine<B> {
 
     /// Reads a byte outside text and control sequences, or none if memory is refused for it.
     #[inline(never)]
-    fn read_outside_text<P: CountedPerform<G> + ?Sized, G: Granularity>(
+    fn read_single_byte_of_sequence<P: CountedPerform<G> + ?Sized, G: Granularity>(
         &mut self,
         reader: Reader,
         performer: &mut P,
         input: &[u8],
     ) -> Result<usize, Refused> {
         Ok(match self.state {
-            // Never: `drive_one` reads text. A panic would stay in the program.
+            // Never: `drive_single_byte` reads text. A panic would stay in the program.
             State::Text(_) => 0,
             State::Escape => self.read_after_escape::<P, G, false>(reader, performer, input, 0),
             State::EscapeIntermediate => {

@@ -1,7 +1,7 @@
 -- Before the write the area holds no data of the event (`holds-nothing`), so after it the area holds exactly these
 -- bytes.
 use Rattle.vte_c.proofs.Common.{ap, arith, Buffers}
-use Rattle.vte_c.proofs.event_writer.EventWriter.add.Goals as goal
+use Rattle.vte_c.proofs.event_writer.EventWriter.write_event.Goals as goal
 use Rattle.vte_c.proofs.lemmas.Buffers.{holds-nothing}
 
 pub finish_event-requires : goal.finish_event-requires

@@ -3,7 +3,7 @@ use Rattle.vte_core.proofs.Common.{arith, from_to, is_in, nat_tests, refl, sym, 
 use Rattle.vte_core.proofs.lemmas.positions.BetweenCharacters.{advances-first, advances-lone}
 use Rattle.vte_core.proofs.lemmas.positions.Characters.{completes-all, goes_on-nowhere, unfinished-some}
 use Rattle.vte_core.proofs.lemmas.positions.Stretches.{advances-without_promise}
-use Rattle.vte_core.proofs.parser.machine.Machine.read_one_control_or_non_ascii.Goals as goal
+use Rattle.vte_core.proofs.parser.machine.Machine.read_single_control_or_non_ascii.Goals as goal
 
 pub returns-then-is_lead-clause-advances : goal.returns-then-is_lead-clause-advances
 returns-then-is_lead-clause-advances g c =

@@ -4,7 +4,7 @@ use Rattle.std.proofs.lemmas.Int.Digits.{digits_value_push}
 use Rattle.std.proofs.lemmas.List.{length-take-le}
 use Rattle.std.proofs.lemmas.List.Splits.{slice_split_at, slice_split_none}
 use Rattle.std.specs.Option.{unwrap_or}
-use Rattle.vte_core.proofs.Common.{[], All, All-cons, All-drop, All-head, All-nil, All-pop, All-push, All-tail, All-take, AllFitU16, ap, append-nil, append_assoc, AreGroups, arith, Bool, cases_Bool, count_of, digit_value, drop, drop-append-le, drop_all, false, filter, FitsU16, fold, fold_push, get_or, greatest_number, grouped, groups_of, inl, inr, is_colon, is_separator, IsNonEmpty, length, length-append, length-drop, length-take, List, map, max_numbers, min, nat_tests, None, Number, number_of, numbers, numbers_from, numbers_of, Option, refl, rules, slice_split, Some, subst, suc, sum, sum_by-cons, sum_by-take-le, sum_by_push, sym, take, take-append-drop, take-append-le, take_all, take_more, true, with_number, ℕ, ◌*◌, ◌++◌, ◌+◌, ◌-◌, ◌<◌, ◌∙◌, ◌∷◌, ◌≡◌, ◌≤◌}
+use Rattle.vte_core.proofs.Common.{All, All-cons, All-drop, All-head, All-nil, All-pop, All-push, All-tail, All-take, AllFitU16, ap, append-nil, append_assoc, AreGroups, arith, Bool, cases_Bool, count_of, digit_value, drop, drop-append-le, drop_all, false, filter, FitsU16, fold, fold_push, get_or, greatest_number, grouped, groups_of, inl, inr, is_colon, is_separator, IsNonEmpty, length, length-append, length-drop, length-take, List, map, max_numbers, min, nat_tests, None, Number, number_of, numbers, numbers_from, numbers_of, Option, refl, rules, slice_split, Some, subst, suc, sum, sum_by-cons, sum_by-take-le, sum_by_push, sym, take, take-append-drop, take-append-le, take_all, take_more, true, with_number, ℕ, [], ◌*◌, ◌++◌, ◌+◌, ◌-◌, ◌<◌, ◌∙◌, ◌∷◌, ◌≡◌, ◌≤◌}
 use Rattle.vte_core.specs.private.FlatGroups.{AreFlatGroups, AreLengths, cut_by_lengths, IsLastPopped}
 
 -- ---- groups cut by lengths

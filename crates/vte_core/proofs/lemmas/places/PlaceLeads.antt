@@ -3,7 +3,7 @@
 --
 -- A lemma is named by the place and what comes there, as `escape-end` for the end of a sequence right after ESC.
 use Rattle.std.proofs.lemmas.List.{length-take}
-use Rattle.vte_core.proofs.Common.{[], ap, append-nil, append_assoc, are_too_many, AreBrief, arith, AtEscape, bell, body_outcome, Bool, character_event, Class, class_of, cond, control_sequence_end, control_sequence_outcome, CsiDispatch, device_control_after_head, device_control_outcome, device_data_outcome, dispatches_escape, ends_device_data, ends_system_command, eqb, escape_outcome, EscapeSequence, EscDispatch, Event, Execute, executed_events, false, Final, groups_of, HasBoundedFields, Head, head_of, High, Hook, InControlSequence, InDeviceControl, InDeviceData, InEscape, InIgnoredString, InSystemCommand, Intermediate, InText, is_cancel, is_device_data, is_head_byte, is_truncated, is_well_formed, is_well_shaped, IsAtMostOneCharacter, IsBounded, IsCharacterEvent, IsExecuted, IsPrintable, kept_intermediates, Leads, length, List, malformed_event, nat_le, nat_tests, Option, OscDispatch, pieces_of, Place, PlainControl, Print, Put, refl, reported_intermediates, rules, scalar_of, sequence_event, sequence_kind, sym, system_command_outcome, text_outcome, true, Unhook, ℕ, ◌++◌, ◌<◌, ◌∷◌, ◌≡◌, ◌≤◌}
+use Rattle.vte_core.proofs.Common.{ap, append-nil, append_assoc, are_too_many, AreBrief, arith, AtEscape, bell, body_outcome, Bool, character_event, Class, class_of, cond, control_sequence_end, control_sequence_outcome, CsiDispatch, device_control_after_head, device_control_outcome, device_data_outcome, dispatches_escape, ends_device_data, ends_system_command, eqb, escape_outcome, EscapeSequence, EscDispatch, Event, Execute, executed_events, false, Final, groups_of, HasBoundedFields, Head, head_of, High, Hook, InControlSequence, InDeviceControl, InDeviceData, InEscape, InIgnoredString, InSystemCommand, Intermediate, InText, is_cancel, is_device_data, is_head_byte, is_truncated, is_well_formed, is_well_shaped, IsAtMostOneCharacter, IsBounded, IsCharacterEvent, IsExecuted, IsPrintable, kept_intermediates, Leads, length, List, malformed_event, nat_le, nat_tests, Option, OscDispatch, pieces_of, Place, PlainControl, Print, Put, refl, reported_intermediates, rules, scalar_of, sequence_event, sequence_kind, sym, system_command_outcome, text_outcome, true, Unhook, ℕ, [], ◌++◌, ◌<◌, ◌∷◌, ◌≡◌, ◌≤◌}
 use Rattle.vte_core.proofs.lemmas.bytes.Classes.{below_40_is_escape_sequence, head_is_no_control, head_is_no_end, is_dropped, is_dropped_in_head, spans}
 use Rattle.vte_core.proofs.lemmas.bytes.Scalars.{well_formed_is_scalar}
 use Rattle.vte_core.proofs.lemmas.fields.Numbers.{AreGroups-groups_of, some_group}

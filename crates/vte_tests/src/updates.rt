@@ -72,9 +72,9 @@ fn processor_takes_no_memory_beyond_its_hold(rt: HostRuntime) -> Result<(), Fail
     Ok(())
 }
 
-/// Fails if a turn uses an older answer of the timeout, even if nothing was set or cleared since.
+/// A turn uses no older answer of the timeout, even if nothing was set or cleared since.
 #[test]
-fn a_turn_reuses_an_older_answer(rt: HostRuntime) -> Result<(), Fail> {
+fn a_turn_asks_the_timeout_again(rt: HostRuntime) -> Result<(), Fail> {
     let mut handler = ByCall(CallLines::new(rt.alloc()));
     let mut processor = require_memory(Processor::new(
         rt.alloc(),

@@ -32,12 +32,15 @@ hex_digits (suc count) n = hex_digits count (n / 16) ++ hex_digit (n % 16) ∷ [
 unfoldable pub hex_character : ℕ → ℕ → List ℕ
 hex_character least c = hex_digits (max least (hex_length c)) c
 
+-- A flag of an event, as Rust writes it.
 abbrev pub true_or_false : Bool → List ℕ
 true_or_false b = if b then codes "true" else codes "false"
 
+-- What separates the fields of a line.
 abbrev pub blank : List ℕ
 blank = codes " "
 
+-- What ends a line.
 abbrev pub line_feed : List ℕ
 line_feed = 0x0a ∷ []
 

@@ -118,8 +118,9 @@ fn assert_reads<A: Allocator>(
     Ok(())
 }
 
+/// A command has all its data, whatever the chunks.
 #[test]
-fn with_memory(rt: HostRuntime) -> Result<(), Fail> {
+fn commands_are_whole_with_memory(rt: HostRuntime) -> Result<(), Fail> {
     for vector in &LONG_VECTORS {
         for size in [1, 1000, 200_000] {
             assert_reads(&rt, rt.alloc(), vector, size)?;
@@ -128,8 +129,9 @@ fn with_memory(rt: HostRuntime) -> Result<(), Fail> {
     Ok(())
 }
 
+/// Data after the sixteenth separator aren't kept, and a control sequence keeps none.
 #[test]
-fn without_memory(rt: HostRuntime) -> Result<(), Fail> {
+fn a_stream_without_kept_data_needs_no_memory(rt: HostRuntime) -> Result<(), Fail> {
     let none = Bump::new(rt.alloc());
     none.set_allocation_limit(Some(0));
     for vector in &SHORT_VECTORS {

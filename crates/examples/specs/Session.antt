@@ -14,6 +14,7 @@ use Rattle.vte.specs.Stream.{default_limit}
 abbrev pub meaning : Meaning Bool Bool
 meaning = record { limit = default_limit; step = rung_after; timeout = pending_meaning }
 
+-- Nothing has been read, the terminal isn't to ring, and no update is pending.
 abbrev pub start : State Bool Bool
 start = record { parsed = []; stops = []; held = []; timeout = false; handler = false }
 

@@ -10,10 +10,12 @@ after_event (After zero) = Reached
 after_event (After (suc left)) = After left
 after_event stop = stop
 
+-- A character reaches a stop at `print`, and brings any other one event closer.
 abbrev pub after_print : Stop → Stop
 after_print AtPrint = Reached
 after_print stop = after_event stop
 
+-- The same for an escape sequence and a stop at `esc_dispatch`.
 abbrev pub after_escape : Stop → Stop
 after_escape AtEscape = Reached
 after_escape stop = after_event stop

@@ -129,6 +129,7 @@ mouse_cursor_icon_calls _ = []
 abbrev pub shapes : List (Row CursorShape)
 shapes = (0x30, shape.Block) ∷ (0x31, shape.Beam) ∷ (0x32, shape.Underline) ∷ []
 
+-- `None` if no byte follows `CursorShape=`, or the first names no shape.
 abbrev pub shape_after : Option (List ℕ) → Option CursorShape
 shape_after None = None
 shape_after (Some []) = None

@@ -15,6 +15,7 @@ use Rattle.vte_types.specs.Words.{entry_of, Row}
 
 -- SM, RM, DECSET and DECRST.
 
+-- The call for one number: DECSET and DECRST name private modes.
 abbrev pub change_call : ModeChange → ℕ → Call
 change_call change.Set number = call.SetMode (mode_of number)
 change_call change.Reset number = call.UnsetMode (mode_of number)
@@ -76,12 +77,15 @@ module _ (last : Option ℕ) (groups : List (List ℕ)) where
   abbrev pub pn : ℕ
   pn = first_nonzero_or 1 (first_numbers groups)
 
+  -- Pn of the second group.
   abbrev pub pn2 : ℕ
   pn2 = first_nonzero_or 1 (first_numbers (drop 1 groups))
 
+  -- Ps of the first group.
   abbrev pub ps : ℕ
   ps = first_nonzero_or 0 (first_numbers groups)
 
+  -- Ps of the second group.
   abbrev pub ps2 : ℕ
   ps2 = first_nonzero_or 0 (first_numbers (drop 1 groups))
 

@@ -53,6 +53,7 @@ count_read (Err refused) bytes = refused.read
 -- to `new`.
 module _ {T V W : Type 0} (meaning : Meaning V W) (processor next : ProcessorFacts T W)
     (old new : V) (bytes : List ℕ) (result : Result (Unit {0}) Refused) where
+  -- The call read all bytes, or those before which it was refused memory.
   pub record AdvancesUntilRefused : Type 0 where
     -- The bytes read are those that the first turns of the call read.
     pub takes : (state : State V W) → IsAt processor old state

@@ -3,6 +3,7 @@ use Rattle.std.specs.Prelude.{Bool, false, if◌then◌else◌, List, map, nat_l
 use Rattle.std.specs.Str.{all_ascii_digits}
 use Rattle.std.specs.Str.Parse.{digits_value}
 
+-- The first element, or `None` if the list is empty.
 abbrev pub first_of : {X : Type 0} → List X → Option X
 first_of [] = None
 first_of (x ∷ xs) = Some x
@@ -12,6 +13,7 @@ abbrev pub first_number : List ℕ → ℕ
 first_number [] = 0
 first_number (number ∷ numbers) = number
 
+-- The first number of each group: the subparameters after it don't count.
 abbrev pub first_numbers : List (List ℕ) → List ℕ
 first_numbers groups = map first_number groups
 

@@ -13,6 +13,7 @@ use Rattle.vte_handler.specs.Timeout.{AllowsOnly, IsSteady, timeout_meaning, Tim
 
 -- ---- what a processor's parser, handler and timeout mean
 
+-- What contracts know of a processor's limit, handler and timeout.
 pub record Meaning (V W : Type 0) : Type 1 where
   -- How many data bytes of an operating system command the parser keeps, if there is a limit.
   pub limit : Option ℕ
@@ -20,6 +21,7 @@ pub record Meaning (V W : Type 0) : Type 1 where
   pub step : V → Call → V
   pub timeout : TimeoutMeaning W
 
+-- The meaning that the limit and the ghost members of a `Handler` and a `Timeout` give.
 abbrev pub processor_meaning : {V W : Type 0} → Option ℕ → (V → Call → V) → (W → ℕ → W) → (W → W)
     → (W → Bool → Type 0) → Meaning V W
 processor_meaning limit step set clear allows =
@@ -46,9 +48,11 @@ pub record State (V W : Type 0) : Type 0 where
   pub timeout : W
   pub handler : V
 
+-- The bytes that the processor has received: those parsed, and those held after them.
 abbrev pub all_bytes : {V W : Type 0} → State V W → List ℕ
 all_bytes state = state.parsed ++ state.held
 
+-- The state with other bytes held.
 abbrev pub with_held : {V W : Type 0} → State V W → List ℕ → State V W
 with_held state bytes = record state { held = bytes }
 
@@ -92,6 +96,7 @@ pub record Turn (V W : Type 0) : Type 0 where
 abbrev pub max_held : ℕ
 max_held = 2 ^ 21 - 2
 
+-- What a turn does. It is decided before a byte is read.
 pub data TurnKind : Type 0 where
   -- Outside an update, bytes are parsed.
   ParsingTurn : TurnKind

@@ -51,6 +51,7 @@ pub record HasParsedAndHolds {P B T A W : Type 0} (view : EngineView P B T W)
   pub holds : held_of engine.hold ≡ held
   pub has_memory : HasMemory parsed held
 
+-- The facts of an engine, with the memory that its kind has at any time.
 abbrev pub engine_facts_with : {P B T A W : Type 0} → EngineView P B T W → Engine P B T A
     → (HasMemory : (parsed held : List ℕ) → Type 0) → ProcessorFacts T W
 engine_facts_with view engine HasMemory = record {
@@ -71,9 +72,11 @@ engine_facts view engine = engine_facts_with view engine (λ parsed held. 0 < le
 
 -- ---- of each kind
 
+-- The size of a text buffer that grows, in bytes.
 abbrev pub text_size_of : {A : Type 0} → GrowingText A → ℕ
 text_size_of text = text.size
 
+-- Its text buffer has a fixed size, which is enough for any command.
 abbrev pub processor_facts : {T A W : Type 0} → (T → W) → Processor T A → ProcessorFacts T W
 processor_facts timeout_of processor =
     engine_facts_with (limited_engine_view (λ text. TEXT_CAPACITY) timeout_of) processor.engine
@@ -86,6 +89,7 @@ bounded_facts {N} timeout_of processor =
     engine_facts_with (limited_engine_view text_size_of timeout_of) processor.engine
     (λ parsed held. HasTextMemory N (text_size_of processor.engine.state.text))
 
+-- It has no limit, and its memory grows with the data of a command.
 abbrev pub long_facts : {T A W : Type 0} → (T → W) → LongProcessor T A → ProcessorFacts T W
 long_facts timeout_of processor =
     engine_facts (engine_view None long_parser_view text_size_of timeout_of)

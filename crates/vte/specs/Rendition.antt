@@ -11,9 +11,11 @@ use Rattle.vte_types.specs.declared.color.NamedColor.{NamedColor}
 use Rattle.vte_types.specs.declared.color.NamedColor.TheVariants as named
 use Rattle.vte_types.specs.Words.{entry_of, Row}
 
+-- A named colour for the text.
 abbrev pub foreground : NamedColor → Attr
 foreground color = attr.Foreground (Named color)
 
+-- A named colour behind the text.
 abbrev pub background : NamedColor → Attr
 background color = attr.Background (Named color)
 
@@ -96,6 +98,7 @@ pub record Rendition : Type 0 where
   pub attribute : Option Attr
   pub used : ℕ
 
+-- The rendition of a group that uses none of the following groups.
 abbrev pub without_further_groups : Option Attr → Rendition
 without_further_groups attribute = record { attribute = attribute; used = 0 }
 

@@ -43,6 +43,7 @@ modify_other_keys_table =
 abbrev pub char_path_table : List (Row ScpCharPath)
 char_path_table = (0, path.Default) ∷ (1, path.LTR) ∷ (2, path.RTL) ∷ []
 
+-- SCP's second parameter: which component is updated from the other.
 abbrev pub scp_update_table : List (Row ScpUpdateMode)
 scp_update_table =
     (0, update.ImplementationDependant) ∷ (1, update.DataToPresentation)
@@ -52,9 +53,11 @@ scp_update_table =
 abbrev pub steady_style : CursorShape → Option CursorStyle
 steady_style shape = Some (record { shape = shape; blinking = false })
 
+-- Odd values of DECSCUSR blink, even ones from 2 on are steady.
 abbrev pub blinking_style : CursorShape → Option CursorStyle
 blinking_style shape = Some (record { shape = shape; blinking = true })
 
+-- DECSCUSR: 1 to 4 are DEC's, 5 and 6 are xterm's.
 abbrev pub cursor_style_table : List (Row (Option CursorStyle))
 cursor_style_table =
     (0, None) ∷

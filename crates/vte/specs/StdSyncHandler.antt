@@ -5,9 +5,11 @@ use Rattle.std.specs.Prelude.{Bool, false, is_some, min, Option, true, ℕ, ◌+
 use Rattle.vte.specs.declared.ansi.std_sync_handler.StdSyncHandler.{StdSyncHandler}
 use Rattle.vte_handler.specs.Timeout.{TimeoutMeaning}
 
+-- The clock that the timeout reads.
 abbrev pub clock_in : {C : Type 0} → StdSyncHandler C → C
 clock_in timeout = timeout.clock
 
+-- The time at which the timeout expires, or `None` if it isn't pending.
 abbrev pub expiry_in : {C : Type 0} → StdSyncHandler C → Option Duration
 expiry_in timeout = timeout.expiry
 

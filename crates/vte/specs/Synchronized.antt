@@ -39,6 +39,7 @@ begin_count_in_event (CsiDispatch groups intermediates ignore final) =
     else 0
 begin_count_in_event _ = 0
 
+-- How often the events begin an update.
 abbrev pub begin_count : List Event → ℕ
 begin_count [] = 0
 begin_count (event ∷ events) = begin_count_in_event event + begin_count events
@@ -47,9 +48,11 @@ begin_count (event ∷ events) = begin_count_in_event event + begin_count events
 
 -- Only exactly these eight bytes are recognised. Among the events are those of `ESC [?1;2026h` too.
 
+-- The sequence that begins an update (BSU).
 abbrev pub begin_update : List ℕ
 begin_update = codes "\u{1b}[?2026h"
 
+-- The sequence that ends an update (ESU).
 abbrev pub end_update : List ℕ
 end_update = codes "\u{1b}[?2026l"
 

@@ -34,6 +34,7 @@ pub record EngineView (P B T W : Type 0) : Type 1 where
   pub text_capacity_of : B → ℕ
   pub timeout_of : T → W
 
+-- The view of an engine, from that of each part.
 abbrev pub engine_view : {P B T W : Type 0} → Option ℕ → ParserView P → (B → ℕ) → (T → W)
     → EngineView P B T W
 engine_view limit parser text_capacity_of timeout_of = record {
@@ -43,6 +44,7 @@ engine_view limit parser text_capacity_of timeout_of = record {
   timeout_of = timeout_of;
 }
 
+-- The limit of the engine is that of its parser.
 abbrev pub limited_engine_view : {N : ℕ} {B T W : Type 0} → (B → ℕ) → (T → W)
     → EngineView (Parser N) B T W
 limited_engine_view {N} = engine_view (Some N) limited_parser_view

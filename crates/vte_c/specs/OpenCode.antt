@@ -3,6 +3,7 @@ use Rattle.std.specs.Prelude.{ℕ}
 use Rattle.vte_core.specs.declared.parser.open.Open.{Open}
 use Rattle.vte_core.specs.declared.parser.open.Open.TheVariants.{Character, ControlSequence, DeviceControl, EscapeSequence, IgnoredString, Nothing, SystemCommand}
 
+-- `VTE_OPEN_NOTHING` and those after it, in order.
 abbrev pub open_code : Open → ℕ
 open_code Nothing = 0
 open_code Character = 1

@@ -62,11 +62,11 @@ max_data_per_byte = max_piece_bytes + 4 * max_pieces + 4
 -- buffer must have, how many data bytes its area, and how many bytes the buffer of `vte_strip`.
 -- Two bytes add at most four events. At most one of them is a command, of at most 1,088 data bytes,
 -- because the next command begins with two bytes. Each other event has at most 96 data bytes: 32
--- groups of one number. `min_data` is their sum, 1,376, and a reserve.
+-- groups of one number. Their sum is 1,376.
 abbrev pub min_events : ℕ
 min_events = 4
 
--- A constant of the interface (`VTE_MIN_DATA` of vte.h).
+-- More than two bytes add. Callers compile the number in (`VTE_MIN_DATA` of vte.h), so it stays.
 abbrev pub min_data : ℕ
 min_data = 2112
 
@@ -80,24 +80,31 @@ min_text = 16
 abbrev pub text_kind : ℕ
 text_kind = 0
 
+-- `VTE_EXECUTE`: a control character.
 abbrev pub execute_kind : ℕ
 execute_kind = 1
 
+-- `VTE_HOOK`: the start of a device control string.
 abbrev pub hook_kind : ℕ
 hook_kind = 2
 
+-- `VTE_DATA`: bytes of its data.
 abbrev pub data_kind : ℕ
 data_kind = 3
 
+-- `VTE_UNHOOK`: its end.
 abbrev pub unhook_kind : ℕ
 unhook_kind = 4
 
+-- `VTE_OSC`: an operating system command.
 abbrev pub osc_kind : ℕ
 osc_kind = 5
 
+-- `VTE_CSI`: a control sequence.
 abbrev pub csi_kind : ℕ
 csi_kind = 6
 
+-- `VTE_ESC`: an escape sequence.
 abbrev pub esc_kind : ℕ
 esc_kind = 7
 
@@ -125,10 +132,12 @@ kept_count [] = 0
 kept_count (a ∷ []) = 1
 kept_count (a ∷ b ∷ more) = 2
 
+-- The first intermediate, or 0 if there is none.
 abbrev pub first_kept : List ℕ → ℕ
 first_kept [] = 0
 first_kept (a ∷ more) = a
 
+-- The second intermediate, or 0 if there is none. Those after it aren't reported.
 abbrev pub second_kept : List ℕ → ℕ
 second_kept (a ∷ b ∷ more) = b
 second_kept _ = 0

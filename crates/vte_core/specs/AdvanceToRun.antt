@@ -18,6 +18,7 @@ taken_bytes (Text text) = text.now
 taken_bytes (Data slice) = slice.now
 taken_bytes Nothing = []
 
+-- The bytes that the call read and left to its caller.
 abbrev pub run_bytes : Run → List ℕ
 run_bytes run = taken_bytes run.taken
 
@@ -27,6 +28,7 @@ taken_events (Text text) = map Print (chars text.now)
 taken_events (Data slice) = map Put slice.now
 taken_events Nothing = []
 
+-- The events that the caller performs for them.
 abbrev pub run_events : Run → List Event
 run_events run = taken_events run.taken
 

@@ -1,6 +1,7 @@
 -- The classes of bytes outside text (ECMA-48, VT500 parser).
 use Rattle.std.specs.Prelude.{Bool, false, if◌then◌else◌, List, nat_lt, true, ℕ, [], ⊤, ◌==◌, ◌∷◌, ◌≡◌}
 
+-- The ranges of bytes that the grammar distinguishes.
 pub data Class : Type 0 where
   -- 00..17, 19, 1C..1F: plain controls, which are C0 except CAN, SUB and ESC.
   PlainControl : Class
@@ -25,6 +26,7 @@ pub data Class : Type 0 where
   -- 80..FF
   High : Class
 
+-- 80..FF are one class, whatever they mean in text.
 unfoldable pub class_of : ℕ → Class
 class_of b =
     if nat_lt b 0x18 then PlainControl

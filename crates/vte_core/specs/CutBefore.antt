@@ -16,6 +16,7 @@ pub record CutInTwo : Type 0 where
   pub before : List ℕ
   pub rest : List ℕ
 
+-- The byte that passes, if any, is the first of the rest.
 abbrev pub cut_before : (ℕ → Bool) → List ℕ → CutInTwo
 cut_before passes bytes =
     record { before = before_first passes bytes; rest = from_first passes bytes }

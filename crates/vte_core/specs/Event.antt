@@ -1,6 +1,7 @@
 -- What a parser reports, and the value of a performer after it.
 use Rattle.std.specs.Prelude.{Bool, List, ℕ, [], ◌∷◌}
 
+-- What a performer receives, one kind for each method that reports.
 pub data Event : Type 0 where
   -- A character of text.
   Print : ℕ → Event

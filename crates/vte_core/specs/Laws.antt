@@ -60,6 +60,7 @@ pub record IsDecoded (c : ℕ) : Type 0 where
   pub well_formed : is_well_formed (encode_utf8 c) ≡ true
   pub same : scalar_of (encode_utf8 c) ≡ c
 
+-- Each of the sequences is a whole character.
 abbrev pub AreWellFormed : List (List ℕ) → Type 0
 AreWellFormed sequences = All (λ bytes. is_well_formed bytes ≡ true) sequences
 

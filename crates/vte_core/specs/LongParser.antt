@@ -19,6 +19,7 @@ HasReadLong parser stream = HasReadWithLimit None parser.machine stream
 abbrev pub lost_data_long : {A : Type 0} → LongParser A → Bool
 lost_data_long parser = parser.machine.command.lost
 
+-- The facts of a parser without a limit.
 abbrev pub long_parser_facts : {A : Type 0} → LongParser A → ParserFacts
 long_parser_facts parser = machine_facts None parser.machine (total_looks parser.looks)
 

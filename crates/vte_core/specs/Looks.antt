@@ -11,7 +11,7 @@ use Rattle.vte_core.specs.declared.reader.looks.Tally.TheFolds.{fold-Tally}
 use Rattle.vte_core.specs.declared.reader.looks.Tally.TheOpen.{Tally-F}
 use Rattle.vte_core.specs.declared.reader.Reader.{Reader}
 
--- A number of looks that a function may take for each byte, where a bound is named.
+-- The identity: it names an argument of a bound, the looks that a function may take per byte.
 abbrev pub per_byte : ℕ → ℕ
 per_byte looks = looks
 
@@ -21,6 +21,7 @@ count_step Tally-F.Start = 0
 count_step (Tally-F.Then before count) = before.value + count
 count_step (Tally-F.Both before call) = before.value + call.value
 
+-- The looks of all steps of a tally.
 abbrev pub look_count : Tally → ℕ
 look_count = fold-Tally ℕ count_step
 

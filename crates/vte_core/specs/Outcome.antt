@@ -35,6 +35,7 @@ abbrev pub open_bytes : ToClose → List ℕ
 open_bytes (CharacterToClose bytes) = bytes
 open_bytes _ = []
 
+-- How a text, a body or a stream ends: it leaves at most one thing open.
 pub record Outcome : Type 0 where
   -- The events, whatever follows.
   pub reported : List Event

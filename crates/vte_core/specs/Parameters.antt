@@ -4,9 +4,11 @@ use Rattle.std.specs.List.{filter, fold, join_with_byte, slice_split, sum_by}
 use Rattle.std.specs.Prelude.{All, Bool, false, if◌then◌else◌, length, List, map, min, nat_lt, take, ℕ, [], ◌++◌, ◌<◌, ◌==◌, ◌||◌, ◌∷◌, ◌≤◌}
 use Rattle.std.specs.Str.Parse.{digits_value}
 
+-- A separator: the number that follows joins the group of the number before it.
 abbrev pub colon : ℕ
 colon = 0x3a
 
+-- A separator: the number that follows begins a group.
 abbrev pub semicolon : ℕ
 semicolon = 0x3b
 
@@ -23,9 +25,11 @@ max_numbers = 32
 abbrev pub greatest_number : ℕ
 greatest_number = 0xffff
 
+-- The byte joins numbers.
 abbrev pub is_colon : ℕ → Bool
 is_colon b = b == colon
 
+-- The byte separates numbers.
 abbrev pub is_separator : ℕ → Bool
 is_separator b = b == colon || b == semicolon
 
@@ -60,9 +64,11 @@ grouped numbers = fold with_number [] numbers
 abbrev pub count_of : List (List ℕ) → ℕ
 count_of groups = sum_by length groups
 
+-- At most 65,535: the number is a `u16`.
 abbrev pub FitsU16 : ℕ → Type 0
 FitsU16 number = number ≤ greatest_number
 
+-- Each number is a `u16`.
 abbrev pub AllFitU16 : List ℕ → Type 0
 AllFitU16 group = All FitsU16 group
 

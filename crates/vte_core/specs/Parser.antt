@@ -23,6 +23,7 @@ pub record ParserFacts : Type 1 where
   pub lost : Bool
   pub looks : ℕ
 
+-- The facts of a machine with this limit and these looks. The buffer's type doesn't matter.
 abbrev pub machine_facts : {B : Type 0} → Option ℕ → Machine B → ℕ → ParserFacts
 machine_facts limit machine looks = record {
   limit = limit;
@@ -31,6 +32,7 @@ machine_facts limit machine looks = record {
   looks = looks;
 }
 
+-- The facts of a parser with a limit of N bytes.
 abbrev pub parser_facts : {N : ℕ} → Parser N → ParserFacts
 parser_facts {N} parser = machine_facts (Some N) parser.machine (total_looks parser.looks)
 

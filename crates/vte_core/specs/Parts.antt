@@ -19,6 +19,7 @@ parts_from start [] stream = drop start stream ∷ []
 parts_from start (cut ∷ cuts) stream =
     slice_range stream start (cut + 1) ∷ parts_from cut cuts stream
 
+-- The parts of a stream that is cut at these positions, each of an ESC.
 abbrev pub parts_at : List ℕ → List ℕ → List (List ℕ)
 parts_at cuts stream = parts_from 0 cuts stream
 

@@ -11,9 +11,11 @@ pub record HasReadSaved (saved : Saved) (stream : List ℕ) : Type 0 where
 
 -- ---- a parser of zeros
 
+-- A field of n zeros.
 abbrev pub zeros_of : ℕ → List ℕ
 zeros_of n = replicate n 0
 
+-- What a new parser saves: it has read the empty stream.
 abbrev pub zeros : Saved
 zeros = record {
   intermediate_count = 0;

@@ -1,6 +1,7 @@
 -- The key: the byte that selects the kind of a sequence.
 use Rattle.std.specs.Prelude.{Bool, if◌then◌else◌, ℕ, ◌==◌, ◌||◌}
 
+-- The kinds of sequences, each with the key that begins it after ESC.
 pub data SequenceKind : Type 0 where
   -- [
   ControlSequence : SequenceKind

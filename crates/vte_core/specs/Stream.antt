@@ -5,6 +5,7 @@ use Rattle.vte_core.specs.Event.{Event, Print}
 use Rattle.vte_core.specs.Outcome.{events_before_escape, open_bytes, Outcome, report}
 use Rattle.vte_core.specs.Text.{text_outcome}
 
+-- ESC, at which a stream is cut.
 abbrev pub escape : ℕ
 escape = 0x1b
 
@@ -13,6 +14,7 @@ pub record Cut : Type 0 where
   pub text : List ℕ
   pub bodies : List (List ℕ)
 
+-- The cut at each ESC, which is in neither the text nor a body.
 abbrev pub cut_at_escape : List ℕ → Cut
 cut_at_escape [] = record { text = []; bodies = [] }
 cut_at_escape (b ∷ stream) =

@@ -8,6 +8,7 @@ use Rattle.vte_core.specs.Outcome.{CommandToClose, leaves, Outcome, report}
 use Rattle.vte_core.specs.Parameters.{semicolon}
 use Rattle.vte_core.specs.Text.{text_outcome}
 
+-- BEL: it ends a command too, as xterm has it.
 abbrev pub bell : ℕ
 bell = 0x07
 

@@ -19,6 +19,7 @@ is_layout c = c == 0x09 || c == 0x0a || c == 0x0d
 abbrev pub ends_run : Bool → ℕ → Bool
 ends_run layout c = not (layout && is_layout c) && is_control_character c
 
+-- The character doesn't end a run.
 abbrev pub StaysInRun : Bool → ℕ → Type 0
 StaysInRun layout c = ends_run layout c ≡ false
 

@@ -19,6 +19,7 @@ use Rattle.vte_types.specs.declared.screen.ScpCharPath.{ScpCharPath}
 use Rattle.vte_types.specs.declared.screen.ScpUpdateMode.{ScpUpdateMode}
 use Rattle.vte_types.specs.declared.screen.TabulationClearMode.{TabulationClearMode}
 
+-- A kind has the arguments of its method.
 pub data Call : Type 0 where
   -- ---- Characters and format effectors
   Input : ℕ → Call

@@ -15,6 +15,7 @@ abbrev pub kept_part : List ℕ → Option (List ℕ) → List ℕ
 kept_part bytes (Some rest) = from_begin_update rest
 kept_part bytes None = bytes
 
+-- What stays held of all bytes of a hold.
 abbrev pub still_held : List ℕ → List ℕ
 still_held bytes = kept_part bytes (after_last_end bytes)
 

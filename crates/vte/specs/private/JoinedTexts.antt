@@ -23,5 +23,6 @@ joined_size pieces = length (concat pieces) + length pieces
 abbrev pub FitsTextCapacity : ℕ → List (List ℕ) → Type 0
 FitsTextCapacity text_capacity pieces = joined_size pieces ≤ text_capacity
 
+-- The test of `FitsTextCapacity`.
 abbrev pub fits_text_capacity : ℕ → List (List ℕ) → Bool
 fits_text_capacity text_capacity pieces = nat_le (joined_size pieces) text_capacity

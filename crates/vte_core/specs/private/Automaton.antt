@@ -47,6 +47,7 @@ next_between_characters b =
     else if b == 0xf4 then AfterF4
     else Failed
 
+-- The state after one more byte of a run.
 unfoldable pub next_state : AutomatonState → ℕ → AutomatonState
 next_state BetweenCharacters b = next_between_characters b
 next_state NeedsOne b = next_if_in (from_to 0x80 0xbf) BetweenCharacters b
@@ -59,6 +60,7 @@ next_state AfterF4 b = next_if_in (from_to 0x80 0x8f) NeedsTwo b
 next_state AfterC2 b = next_if_in (from_to 0xa0 0xbf) BetweenCharacters b
 next_state Failed b = Failed
 
+-- The state after these bytes.
 abbrev pub state_after : AutomatonState → List ℕ → AutomatonState
 state_after state [] = state
 state_after state (b ∷ bytes) = state_after (next_state state b) bytes

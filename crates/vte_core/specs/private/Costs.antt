@@ -22,10 +22,11 @@ use Rattle.vte_core.specs.private.Progress.{ChunkCall, IsRefusedInCommand, IsSet
 
 -- ---- bounds of functions
 
--- What the numbers of a bound are: looks that the caller took, and looks at bytes left unread.
+-- The identity: it names an argument of a bound, the looks that the caller took.
 abbrev pub caller_looks : ℕ → ℕ
 caller_looks looks = looks
 
+-- The identity: it names an argument of a bound, the looks at bytes left unread.
 abbrev pub lookahead : ℕ → ℕ
 lookahead looks = looks
 

@@ -16,6 +16,7 @@ use Rattle.vte_core.specs.Stream.{cut_at_escape, events, outcome, with_bodies}
 use Rattle.vte_core.specs.SystemCommand.{ends_system_command, items_of, loses_data, pieces_of, system_command_rest}
 use Rattle.vte_core.specs.Text.{executed_events, text_outcome}
 
+-- How far the grammar has come in a text or a body.
 pub data Place : Type 0 where
   -- In a text, after these bytes of an unfinished character.
   InText : List ℕ → Place

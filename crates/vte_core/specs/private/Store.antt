@@ -37,6 +37,7 @@ abbrev pub cut_data : ℕ → List ℕ → List ℕ → List (List ℕ)
 cut_data start bytes [] = drop start bytes ∷ []
 cut_data start bytes (end ∷ ends) = slice_range bytes start end ∷ cut_data end bytes ends
 
+-- The pieces that are kept: the first 16.
 abbrev pub cut_pieces : List ℕ → List ℕ → List (List ℕ)
 cut_pieces bytes ends = take max_pieces (cut_data 0 bytes ends)
 

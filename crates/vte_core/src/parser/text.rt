@@ -141,7 +141,9 @@ impl<B: Buffer> Machine<B> {
                     reader, performer, input, position, byte,
                 );
             } else {
-                // U+FFFD doesn't stop a call: a control may, also one of two bytes.
+                // Printed U+FFFD can't stop the call. The branches above may have executed a
+                // control, such as C2 85, so they ask.
+                // proof: `NoCharacterStops` says so of every character.
                 reader.report_lone_byte(performer, byte);
                 position += 1;
                 continue;

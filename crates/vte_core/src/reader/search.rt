@@ -1,7 +1,8 @@
 //! Searches for the byte that ends data, a text or a string.
 //!
 //! Ignored strings may hold megabytes, so they are searched by blocks. Their first bytes are read
-//! one by one before any block is tried, so that no byte is read often.
+//! one by one before any block is tried, so that no byte is read often. A search that loads bytes
+//! directly counts them at the end.
 ghost use Rattle.std.specs.Prelude.{IsTrue, length, min, slice_index, true, ℕ, ◌*◌, ◌+◌, ◌<◌, ◌≡◌, ◌≢◌, ◌≤◌};
 ghost use Rattle.vte_core.specs.private.Prelude.{AreIgnored, ArePositions, class_of, ends_sequence, FindsEnd, IsCommandData, IsDeviceData, looks_of, Scans};
 

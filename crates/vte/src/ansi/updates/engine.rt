@@ -212,7 +212,8 @@ impl<P: EventParser + Drop, B: TextBuffer + Drop, T: Timeout + Drop, A: Allocato
             (length bytes.now - refused.read)) }
     {
         let mut read = 0;
-        // Each slice has at least one byte.
+        // Each round parses at least one byte, so `Ok` after the loop is for no bytes.
+        // proof: as in `advance`, a `while` would have no measure.
         for _slice in 0..bytes.len() {
             let count = (bytes.len() - read).min(SLICE_SIZE);
             if !self.reserve(count) {

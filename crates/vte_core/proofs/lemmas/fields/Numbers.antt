@@ -83,7 +83,6 @@ AreGroups-cut_by_lengths lengths numbers are_flat at_most =
 
 -- A number begins a group, or joins the last one, whose length grows; the groups before it stay.
 
--- A number begins a group, or joins the last one.
 pub with_number-begins : (groups : List (List ℕ)) (value : ℕ)
     → with_number groups (numbered false value) ≡ groups ++ (value ∷ []) ∷ []
 with_number-begins [] value = refl

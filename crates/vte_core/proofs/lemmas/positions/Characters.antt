@@ -17,7 +17,7 @@ use Rattle.vte_core.specs.private.Progress.{Completes}
 
 -- ---- a byte
 
--- The character goes on with it, is whole, or is broken before it (`extended-truncated`, `extended-well_formed`,
+-- The character goes on with a byte, is whole, or is broken before it (`extended-truncated`, `extended-well_formed`,
 -- `extended-malformed`).
 -- The place is a text with these bytes open, so `places/PlaceLeads` and `shapes` say what the byte reports.
 

@@ -8,11 +8,10 @@ use vte::{Parser, Saved};
 /// The number of events for which there must be room: what two bytes add.
 pub(crate) const MIN_EVENTS: usize = 4;
 
-/// The number of data bytes for which there must be room: what two bytes add, at most 1,376, and a
-/// reserve. A call then reads at least one byte, for which 3 events and 1,095 bytes would do:
-/// U+FFFD comes first for a character that this byte breaks, and then there must be room for what
-/// one byte may add.
-/// The number is `VTE_MIN_DATA` of vte.h.
+/// The number of data bytes for which there must be room: more than two bytes add (at most 1,376).
+/// Callers compile the number in (`VTE_MIN_DATA` of vte.h), so it stays. A call then reads at least
+/// one byte, for which 3 events and 1,095 bytes would do: U+FFFD comes first for a character that
+/// this byte breaks, and then there must be room for what one byte may add.
 pub(crate) const MIN_DATA: usize = 2112;
 
 /// The return value of a call with less room, which is no count of bytes.

@@ -103,7 +103,8 @@ impl<B: Buffer> Machine<B> {
                 position = self
                     .read_run_at_lead::<P, G, MAY_STOP>(reader, performer, input, position, byte);
             } else {
-                // U+FFFD doesn't stop a call: a control may, also one of two bytes.
+                // Printed U+FFFD can't stop the call. The branches above may have executed a
+                // control, such as C2 85, so they ask.
                 reader.report_lone_byte(performer, byte);
                 position += 1;
                 continue;

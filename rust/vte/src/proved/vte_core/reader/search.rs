@@ -2,7 +2,8 @@
 //! Searches for the byte that ends data, a text or a string.
 //!
 //! Ignored strings may hold megabytes, so they are searched by blocks. Their first bytes are read
-//! one by one before any block is tried, so that no byte is read often.
+//! one by one before any block is tried, so that no byte is read often. A search that loads bytes
+//! directly counts them at the end.
 
 use crate::prelude::memchr;
 use crate::proved::vte_core::class::{

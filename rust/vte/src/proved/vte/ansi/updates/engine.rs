@@ -132,7 +132,7 @@ impl<P: EventParser, B: TextBuffer, T: Timeout> Engine<P, B, T> {
         bytes: &[u8],
     ) -> Result<usize, Refused> {
         let mut read = 0;
-        // Each slice has at least one byte.
+        // Each round parses at least one byte, so `Ok` after the loop is for no bytes.
         for _slice in 0..bytes.len() {
             let count = (bytes.len() - read).min(SLICE_SIZE);
             if !self.reserve(count) {

@@ -77,7 +77,8 @@ def settle_imports(source, crate, plan, before):
             source.replace(at, end, _write_imports(names[0][0], paths))
         else:
             source.cut(source.find_attached(at), end)
-    needed = [it for it in plan.list_names() if it[0] not in known and _uses(source, it[0])]
+    needed = [(name, home) for name, home in plan.list_names()
+              if name not in known and _uses(source, name)]
     source.used.update(needed)
     homes = _join(source, [f"{home}::{name}" for name, home in needed])
     if homes:

@@ -47,10 +47,10 @@ void event(const char *line) {
 }
 
 // Each appends a value of events.json, with an end after each text, and returns what follows it.
-static const char *write_value(Text *to, const char *at, const char *end);
+static const char *expand(Text *to, const char *at, const char *end);
 
 // "..", whose only escape is \n
-static const char *write_text(Text *to, const char *at, const char *end) {
+static const char *expand_text(Text *to, const char *at, const char *end) {
     for (at++; *at != '"'; at++) {
         add(to, *at == '\\' ? "\n" : at, 1);
         if (*at == '\\') at++;
@@ -60,22 +60,22 @@ static const char *write_text(Text *to, const char *at, const char *end) {
 }
 
 // [VALUE, ..]
-static const char *write_list(Text *to, const char *at, const char *end) {
-    for (at++; *at != ']';) at = write_value(to, at, end);
+static const char *expand_list(Text *to, const char *at, const char *end) {
+    for (at++; *at != ']';) at = expand(to, at, end);
     return at + 1;
 }
 
 // {"line": VALUE}, from VALUE on: the texts in it are one text
-static const char *write_line(Text *to, const char *at, const char *end) {
-    at = write_value(to, at, "");
+static const char *expand_line(Text *to, const char *at, const char *end) {
+    at = expand(to, at, "");
     add(to, end, strlen(end));
     return at + 1;
 }
 
 // {"repeat": VALUE, "times": NUMBER}, from VALUE on
-static const char *write_repeated(Text *to, const char *at, const char *end) {
+static const char *expand_repeated(Text *to, const char *at, const char *end) {
     size_t start = to->length;
-    at = write_value(to, at, end);
+    at = expand(to, at, end);
     size_t length = to->length - start;
     char *after_number;
     long times = strtol(strchr(at, ':') + 1, &after_number, 10);
@@ -84,14 +84,14 @@ static const char *write_repeated(Text *to, const char *at, const char *end) {
     return after_number + 1;
 }
 
-static const char *write_value(Text *to, const char *at, const char *end) {
+static const char *expand(Text *to, const char *at, const char *end) {
     static const char line[] = "{\"line\": ", repeat[] = "{\"repeat\": ";
     at += strspn(at, " ,");
-    if (*at == '"') return write_text(to, at, end);
-    if (*at == '[') return write_list(to, at, end);
-    if (strncmp(at, line, strlen(line)) == 0) return write_line(to, at + strlen(line), end);
+    if (*at == '"') return expand_text(to, at, end);
+    if (*at == '[') return expand_list(to, at, end);
+    if (strncmp(at, line, strlen(line)) == 0) return expand_line(to, at + strlen(line), end);
     if (strncmp(at, repeat, strlen(repeat)) != 0) fail("this isn't events.json");
-    return write_repeated(to, at + strlen(repeat), end);
+    return expand_repeated(to, at + strlen(repeat), end);
 }
 
 static void give(size_t from, size_t to) {
@@ -110,7 +110,7 @@ static int answers(const char *chunk, int way) {
     for (stream.length = got.length = shown.length = 0, chunk++; *chunk != ']';) {
         size_t before = stream.length;
         hex.length = 0;
-        chunk = write_value(&hex, chunk, "");
+        chunk = expand(&hex, chunk, "");
         for (size_t i = 0; i < hex.length; i += 2) {
             unsigned byte;
             sscanf(hex.text + i, "%2x", &byte);
@@ -181,7 +181,7 @@ static void report(void) {
     const char *level = value_of("\"level\": \"");
     Text rules = {0};
     add(&rules, "", 0), add(&shown, "", 0);
-    write_value(&rules, value_of("\"rules\": "), ", ");
+    expand(&rules, value_of("\"rules\": "), ", ");
     printf("%s: %.300s gives ", id, shown.text);
     print_lines(&got), printf(", not "), print_lines(&wanted);
     int length = rules.length > 0 ? (int)rules.length - 2 : 0;
@@ -193,7 +193,7 @@ static void report(void) {
 static int try_vector(void) {
     sscanf(vector_line.text, "{\"id\": \"%199[^\"]", id);
     wanted.length = 0;
-    write_value(&wanted, value_of("\"events\": "), "\n");
+    expand(&wanted, value_of("\"events\": "), "\n");
     for (int way = 0; way < 3; way++) {
         if (answers(value_of("\"chunks\": "), way)) continue;
         report();

@@ -20,20 +20,20 @@ type vector struct {
 	Limit                      *int
 }
 
-// writtenOut is the text of bytes in hex or, with a line feed as the end, of lines.
-func writtenOut(value any, end string) (text string) {
-	switch it := value.(type) {
+// expand returns the text of bytes in hex or, with a line feed as the end, of lines.
+func expand(value any, end string) (text string) {
+	switch value := value.(type) {
 	case string:
-		return it + end
+		return value + end
 	case []any:
-		for _, item := range it {
-			text += writtenOut(item, end)
+		for _, item := range value {
+			text += expand(item, end)
 		}
 	case map[string]any:
-		if line, is := it["line"]; is {
-			return writtenOut(line, "") + end
+		if line, is := value["line"]; is {
+			return expand(line, "") + end
 		}
-		return strings.Repeat(it["repeat"].(string)+end, int(it["times"].(float64)))
+		return strings.Repeat(value["repeat"].(string)+end, int(value["times"].(float64)))
 	}
 	return text
 }
@@ -50,9 +50,9 @@ func answer(chunks [][]byte) (got string) {
 func isRight(v vector, wanted string, chunks [][]byte) bool {
 	got := answer(chunks)
 	if got != wanted {
-		given := fmt.Sprintf("%x", chunks)
+		given := strings.Trim(fmt.Sprintf("%x", chunks), "[]")
 		fmt.Printf("%s: %.300s gives %.300q, not %.300q (%s: %s)\n", v.ID, given, got, wanted,
-			v.Level, v.Rules)
+			v.Level, strings.Join(v.Rules, ", "))
 	}
 	return got == wanted
 }
@@ -75,13 +75,13 @@ func main() {
 		var cut, single [][]byte
 		var stream []byte
 		for _, chunk := range v.Chunks {
-			bytes, _ := hex.DecodeString(writtenOut(chunk, ""))
+			bytes, _ := hex.DecodeString(expand(chunk, ""))
 			cut, stream = append(cut, bytes), append(stream, bytes...)
 		}
 		for i := range stream {
 			single = append(single, stream[i:i+1])
 		}
-		wanted := writtenOut(v.Events, "\n")
+		wanted := expand(v.Events, "\n")
 		joined := [][]byte{stream}
 		if !isRight(v, wanted, cut) || !isRight(v, wanted, joined) || !isRight(v, wanted, single) {
 			wrong++

@@ -8,10 +8,10 @@ const path = require("path");
 const parseChunks = require(path.resolve(process.argv[2]));
 
 // The text of bytes in hex or, with a line feed as the end, of lines.
-function writtenOut(value, end = "") {
-  if (Array.isArray(value)) return value.map((item) => writtenOut(item, end)).join("");
+function expand(value, end = "") {
+  if (Array.isArray(value)) return value.map((item) => expand(item, end)).join("");
   if (typeof value === "string") return value + end;
-  return value.line ? writtenOut(value.line) + end : (value.repeat + end).repeat(value.times);
+  return value.line ? expand(value.line) + end : (value.repeat + end).repeat(value.times);
 }
 
 function answer(chunks) {
@@ -31,16 +31,17 @@ for (const vector of [...file.vectors, ...file.long]) {
   const { id, level, strongest, rules, house, limit, chunks, events } = vector;
   const words = [level, `strongest=${strongest}`, ...rules, ...house];
   if (limit !== 1024 || words.some((word) => leftOut.has(word))) continue;
-  const cut = chunks.map((chunk) => Buffer.from(writtenOut(chunk), "hex"));
+  const cut = chunks.map((chunk) => Buffer.from(expand(chunk), "hex"));
   const stream = Buffer.concat(cut);
-  const wanted = writtenOut(events, "\n");
+  const wanted = expand(events, "\n");
   const ways = [cut, [stream], [...stream].map((byte) => Buffer.from([byte]))];
-  const bad = ways.find((way) => answer(way) !== wanted);
+  const wrongWay = ways.find((way) => answer(way) !== wanted);
   tried += 1;
-  if (bad) {
+  if (wrongWay) {
     wrong += 1;
-    const shown = [bad.map((chunk) => chunk.toString("hex")), answer(bad), wanted];
-    const [given, got, right] = shown.map((it) => JSON.stringify(it).slice(0, 300));
+    const given = wrongWay.map((chunk) => chunk.toString("hex")).join(" ").slice(0, 300);
+    const texts = [answer(wrongWay), wanted];
+    const [got, right] = texts.map((text) => JSON.stringify(text.slice(0, 300)));
     console.log(`${id}: ${given} gives ${got}, not ${right} (${level}: ${rules.join(", ")})`);
   }
 }

@@ -66,7 +66,8 @@ enum {
 /* The flags of a VTE_OSC. */
 enum {
     VTE_BELL = 1,     /* BEL ended it */
-    VTE_TRUNCATED = 2 /* data bytes were dropped: later ones, and those of later pieces */
+    VTE_TRUNCATED = 2 /* data bytes were dropped: those after the first 1,024, and those after the
+                         16th piece */
 };
 
 /* An event.
@@ -142,7 +143,7 @@ enum {
 /* Returns what is unfinished, or 0: one of VTE_OPEN_. */
 uint8_t vte_is_open(const vte_parser *parser);
 
-/* The version of the library, the sizes of its two structs, and its minimum room. */
+/* The version of the library, the sizes of vte_parser and vte_event, and the minimum room. */
 uint32_t vte_version(void);
 size_t vte_parser_size(void);
 size_t vte_event_size(void);

@@ -62,8 +62,8 @@ def test_a_count_above_its_limit_is_a_fault(count, table, status, faults, counts
 def test_limits_are_written(count):
     status, output, text = count(rustc="old", cell="?", kit="")
     assert (status, output[1:]) == (0, ["3 counts are written"])
-    found, wanted = ([line.split() for line in it.splitlines()[1:]]
-                     for it in (text, LIMITS.format("new", "4.000")))
+    found, wanted = ([line.split() for line in page.splitlines()[1:]]
+                     for page in (text, LIMITS.format("new", "4.000")))
     assert found == wanted
 
 

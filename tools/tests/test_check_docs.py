@@ -18,7 +18,8 @@ def make_tool(**known):
 
 
 def find_failures(text, run=True, name="page.md"):
-    files = "a/src/known.rt", *(f"crates/{it}/specs/Two.antt" for it in ("a", "examples", "a/b"))
+    files = "a/src/known.rt", *(f"crates/{folder}/specs/Two.antt"
+                                for folder in ("a", "examples", "a/b"))
     tool = make_tool(paths=list(map(Path, files)), words={"one", "two", "three", "rt"},
                      words_by_file=[{"one", "two", "rt"}, {"three"}], lemmas={"one-two"},
                      source_lines={"f();", "g(1);"}, sources={Path("a.rt"): "f();\n h"},
@@ -108,7 +109,8 @@ def test_comments_of_sources_are_checked():
     ("PROOFS.md", "`one-two`, `push-2`, `else-IN_RUNS`, two-one\n```sh\ntwo-two\n```", ""),
     ("PROOFS.md", "`two-one`\n```\none: one-two, (by two-two)\n```", "two-one two-two")])
 def test_lemmas_are_declared(name, text, wanted):
-    assert find_failures(text, name=name) == [f"no proof declares {it}" for it in wanted.split()]
+    failures = [f"no proof declares {lemma}" for lemma in wanted.split()]
+    assert find_failures(text, name=name) == failures
 
 
 def test_proofs_declare_lemmas():
@@ -153,7 +155,7 @@ def test_parts_of_crates_are_there(text, wanted):
 def test_each_call_is_named_and_has_an_example():
     tool = make_tool()
     write(tool.parts["EXAMPLES"], "Bell")
-    write(tool.parts["TRAIT"], "".join(f"    fn {it}(&mut self)\n" for it in (
+    write(tool.parts["TRAIT"], "".join(f"    fn {call}(&mut self)\n" for call in (
         "bell", "newline", "put_tab")) + "pub trait HandlerText")
     assert list(tool.parts["check_calls"]("`bell`, put_tab, `put_tabs`")) == [
         "this call has no name here: put_tab",
@@ -186,8 +188,8 @@ def test_clauses_are_declared(text, wanted):
     texts = {Path(path): text for path, text in files.items()}
     tool = make_tool(sources=texts, paths=list(texts))
     found = list(tool.parts["check_clauses"](text))
-    assert found == [f"no module, definition, or clause of what the section names: {it}"
-                     for it in wanted.split()]
+    assert found == [f"no module, definition, or clause of what the section names: {word}"
+                     for word in wanted.split()]
 
 
 # a page, and what is wrong with it. `Two` of b imports both `One`
@@ -216,7 +218,8 @@ def test_modules_are_listed_after_those_that_they_import(page, wanted):
     for path, text in files.items():
         write(path, text)
     found = tool.parts["check_modules"](page + "\n`One`, `Two`")
-    assert [it.partition(", which")[0] for it in found] == list(filter(None, wanted.split(", ")))
+    lines = [line.partition(", which")[0] for line in found]
+    assert lines == list(filter(None, wanted.split(", ")))
 
 
 @pytest.mark.parametrize("needs, crates, lacking", [

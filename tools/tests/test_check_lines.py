@@ -93,7 +93,7 @@ def test_which_imports_are_sorted(above, below, is_sorted):
     fault = [":2: an import that belongs above the one before, or into it"] * (not is_sorted)
     ghosts = [line.replace("use", "ghost use") + ";" for line in (above, below)]
     for path, lines in ("a.antt", [above, below]), ("b.rt", ghosts):
-        assert find_faults(path, "\n".join(lines)) == [path + it for it in fault]
+        assert find_faults(path, "\n".join(lines)) == [path + line for line in fault]
         Path(path).unlink()
 
 

@@ -87,8 +87,8 @@ DIFFERENCES = {
 def test_what_differs_is_reported(source, written, wanted):
     shown = re.compile("c/mod.rs (.*?): it isn't (?:written|in the source as it is written: (.*))")
     found = [shown.fullmatch(line) for line in find_differences(source, written)]
-    assert ", ".join("+-"[it[2] is None] + it[1] for it in found) == wanted
-    assert all(word in written for it in found for word in (it[2] or "").split())
+    assert ", ".join("+-"[match[2] is None] + match[1] for match in found) == wanted
+    assert all(word in written for match in found for word in (match[2] or "").split())
 
 
 def example_of(template):

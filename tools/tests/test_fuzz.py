@@ -49,4 +49,4 @@ def test_lines_that_are_not_run_are_there():
         file, function, line = re.fullmatch(r"(\S+) (\w+): (.*)", path).groups()
         text = (TOOLS.parent / "rust/vte" / fuzz["PROVED"] / f"{file}.rs").read_text()
         bodies = "".join(re.findall(rf"\bfn {function}\b.*?(?=\bfn \w|\Z)", text, re.S))
-        assert any(fnmatchcase(it.strip(), line) for it in bodies.splitlines()), path
+        assert any(fnmatchcase(found.strip(), line) for found in bodies.splitlines()), path

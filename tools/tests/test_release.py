@@ -127,12 +127,14 @@ def test_contents_are_what_is_linked(monkeypatch):
     read = json.loads(Path("out/naqshuve-1.2.3.spdx.json").read_text())
     assert read["creationInfo"]["created"] == "1970-01-02T00:00:00Z"
     ours = "Apache-2.0 OR MIT"
-    assert [(it["name"], it["versionInfo"], it["licenseDeclared"], it.get("packageFileName"))
-            for it in read["packages"]] == [
+    keys = "name", "versionInfo", "licenseDeclared", "packageFileName"
+    assert [tuple(map(package.get, keys)) for package in read["packages"]] == [
         ("naqshuve-vte", "1.2.3", ours, None),
         ("rust-standard-library", "1.99.0", "MIT OR Apache-2.0", None),
         ("both", "1.0", "MIT OR X", None), ("in_both", "1.0", "MIT OR X", None),
-        *((f"file-{at}", "1.2.3", ours, it) for at, it in enumerate(("a.crate", "b.deb", "c.whl")))]
-    held = [it["spdxElementId"][-1] + it["relatedSpdxElement"][7:] for it in read["relationships"]]
+        *((f"file-{at}", "1.2.3", ours, name)
+          for at, name in enumerate(("a.crate", "b.deb", "c.whl")))]
+    held = [relation["spdxElementId"][-1] + relation["relatedSpdxElement"][7:]
+            for relation in read["relationships"]]
     assert held == ["0-naqshuve-vte", "1-naqshuve-vte", "1-rust-standard-library", "2-naqshuve-vte",
                     "2-rust-standard-library", "2-both", "2-in-both"]

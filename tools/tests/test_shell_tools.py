@@ -88,7 +88,7 @@ RUNS = {
 @pytest.mark.parametrize("tool, words, variables, status, output", RUNS.values(), ids=RUNS)
 def test_a_tool_obeys_its_words(folder, monkeypatch, tool, words, variables, status, output):
     needed = re.findall(r"(python3|librust)-\{(.*?)\}(-dev)?", (TOOLS / "next_release").read_text())
-    had = [f"{begin}-{it}{end}" for begin, names, end in needed for it in names.split(",")]
+    had = [f"{begin}-{name}{end}" for begin, names, end in needed for name in names.split(",")]
     for path, text in {"tools/install_packages": "#!/bin/sh\n[ $1 = valgrind ]\n", "asked": "",
                         "tools/run_pytest": "#!/bin/sh\necho pytest $*\n", **OF_PYTHON,
                         "folder/had": "\n".join(["a", *had]), "there/file": "",
@@ -113,7 +113,7 @@ def test_only_known_functions_may_panic(function, is_known):
     write("shown", f"0000 <{function}::h0123456789abcdef>:\n 1:\tcall 2 <core::panicking::panic>\n"
           "0001 <vte::quiet>:\n 2:\tcall 3 <core::slice::len>\n")
     status, lines = run_here("check_builds", "panics", cargo="", objdump="cat shown")
-    found = [it for it in lines if "::" in it]
+    found = [line for line in lines if "::" in line]
     assert (status, found) == ((0, []) if is_known else (1, [function] * 3))
 
 
@@ -125,7 +125,8 @@ def test_options_choose_the_streams_of_c(monkeypatch, words, count, seed):
     assert run_here("test_c_library", *words.split()) == (0, [words])
     parser, of_c = ArgumentParser(), import_module("test_streams")
     conftest.pytest_addoption(SimpleNamespace(addoption=parser.add_argument))
-    monkeypatch.setattr(of_c, "make_hostile_stream", lambda *it: [b"%d %d" % it[:2]])
+    monkeypatch.setattr(of_c, "make_hostile_stream",
+                        lambda seed, index, *_: [b"%d %d" % (seed, index)])
     monkeypatch.setattr(of_c, "read_recorded", lambda: [("long", [b"a" * 20_000])])
     streams = dict(of_c.make_streams(parser.parse_args(words.split())))
     assert len(streams["long"]) == (4_000 if words == "--short" else 20_000)

@@ -122,26 +122,34 @@ impl Timeout for Never {
 /// Writes a line for each sequence that makes no call.
 pub fn write_unknown(mut input: impl Read, mut output: impl Write) -> io::Result<()> {
     let mut parser = Parser::new();
-    let mut processor = Processor::<Never>::new();
-    let mut called = Called::default();
+    let mut processor = Processor::new();
     let mut room = [0; 4096];
     loop {
         let count = input.read(&mut room)?;
         if count == 0 {
             return Ok(());
         }
-        let mut bytes = &room[..count];
-        while !bytes.is_empty() {
-            let mut seen = Seen::default();
-            let read = parser.advance_until_terminated(&mut seen, bytes);
-            called.0 = false;
-            processor.advance(&mut called, &bytes[..read]);
-            if let (Some(sequence), false) = (seen.sequence, called.0) {
-                writeln!(output, "{sequence}")?;
-            }
-            bytes = &bytes[read..];
-        }
+        write_unknown_of(&mut parser, &mut processor, &room[..count], &mut output)?;
     }
+}
+
+/// Writes those of some bytes, which parser and processor get one event at a time.
+fn write_unknown_of(
+    parser: &mut Parser,
+    processor: &mut Processor<Never>,
+    mut bytes: &[u8],
+    output: &mut impl Write,
+) -> io::Result<()> {
+    while !bytes.is_empty() {
+        let (mut seen, mut called) = (Seen::default(), Called::default());
+        let read = parser.advance_until_terminated(&mut seen, bytes);
+        processor.advance(&mut called, &bytes[..read]);
+        if let (Some(sequence), false) = (seen.sequence, called.0) {
+            writeln!(output, "{sequence}")?;
+        }
+        bytes = &bytes[read..];
+    }
+    Ok(())
 }
 
 fn main() -> io::Result<()> {

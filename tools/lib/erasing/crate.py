@@ -37,7 +37,7 @@ def write_crate(plan, read_files):
         # those that declare modules of tests, or without a form for cargo, come first
         for path, text in sorted(read_files(crate).items(), key=_rank):
             name = f"{crate}/{PurePosixPath(path).with_suffix('')}"
-            if left & {str(it) for it in PurePosixPath(name, "_").parents}:
+            if left & {str(parent) for parent in PurePosixPath(name, "_").parents}:
                 continue
             try:
                 erased, its_left, its_used = erase(text, crate, name, plan)

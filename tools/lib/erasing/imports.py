@@ -62,6 +62,17 @@ def find_imports(source, at, end):
 
 def settle_imports(source, crate, plan, before):
     """Imports of names that aren't used any more go; what is used now is imported from its home."""
+    known = _keep_used(source, crate, plan, before)
+    needed = [(name, home) for name, home in plan.list_names()
+              if name not in known and _uses(source, name)]
+    source.used.update(needed)
+    homes = _join(source, [f"{home}::{name}" for name, home in needed])
+    if homes:
+        _import_first(source, homes)
+
+
+def _keep_used(source, crate, plan, before):
+    """Cuts imports of names that aren't used any more. Returns the names of the others."""
     used, known = count_words(source), set()
     for at, end in source.find_items():
         if not (names := find_imports(source, at, end)):
@@ -77,15 +88,7 @@ def settle_imports(source, crate, plan, before):
             source.replace(at, end, _write_imports(names[0][0], paths))
         else:
             source.cut(source.find_attached(at), end)
-    needed = [it for it in plan.list_names() if it[0] not in known and _uses(source, it[0])]
-    source.used.update(needed)
-    homes = _join(source, [f"{home}::{name}" for name, home in needed])
-    if homes:
-        *_, first = None, *(at for at, end in source.find_items() if find_imports(source, at, end))
-        if first is None:
-            add_above(source, _write_imports("", homes))
-        else:
-            source.insert(source.find_attached(first), _write_imports("", homes) + "\n")
+    return known
 
 
 def _join(source, homes):
@@ -99,6 +102,15 @@ def _join(source, homes):
             source.replace(at, end, _write_imports("", [path for _, path in names] + joined))
             homes = [home for home in homes if home not in joined]
     return homes
+
+
+def _import_first(source, homes):
+    """Imports paths above the other imports, or above the first item."""
+    *_, first = None, *(at for at, end in source.find_items() if find_imports(source, at, end))
+    if first is None:
+        add_above(source, _write_imports("", homes))
+    else:
+        source.insert(source.find_attached(first), _write_imports("", homes) + "\n")
 
 
 def _uses(source, name):

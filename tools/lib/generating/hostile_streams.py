@@ -36,7 +36,7 @@ def repeat(counts, part, between=b""):
     def make(chance):
         count = chance.choice(counts)
         parts = [part, between] * (count - 1) + [part] * (count > 0)
-        return b"".join(make_part(chance, it) for it in parts)
+        return join(*parts)(chance)
     return make
 
 
@@ -119,7 +119,7 @@ SEQUENCE = join(b"\x1b[", add_stray(join(HEAD, FINAL)))
 KNOWN_SEQUENCE = join(
     b"\x1b[", choose(b"", b"", b"?", b">", b"=", b"<"), separate(range(4), NUMBER),
     prefer(b"", b" ", b"$", b"!", b"!\"", b"#$%"), FINAL)
-ATTRIBUTE = choose(*(b"%d" % it for it in [*range(50), 58, 59, *range(89, 109)]))
+ATTRIBUTE = choose(*(b"%d" % number for number in [*range(50), 58, 59, *range(89, 109)]))
 COLORS_OF_TEXT = [join(choose(b"38", b"48", b"58"), mark, choose(*b"2 5 2 5  3".split(b" ")),
                        repeat(range(7), join(mark, choose(b"", number_below(300)))))
                   for mark in (b";", b":")]

@@ -53,7 +53,7 @@ def split_repeated(text):
     """(front, unit, times, back): the text about its longest run of one short unit."""
     best, half = (text, text[:0], 0, text[:0]), text[len(text) // 2:]
     # a run of more than half is in the middle, and ends the search
-    for width in sorted(range(1, 61), key=lambda it: half[:it] != half[it:2 * it]):
+    for width in sorted(range(1, 61), key=lambda size: half[:size] != half[size:2 * size]):
         run = rf"(.{{{width}}})\1+"
         run, at = re.compile(run if isinstance(text, str) else run.encode(), re.S), 0
         while found := run.search(text, at):

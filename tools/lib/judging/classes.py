@@ -132,8 +132,8 @@ def free_case(chunks, rules, house):
     steps = steps_of(stream, house) if rules else []
     if any(rules.intersection(step.rules) for step in steps):
         positions = find_kept_positions(stream.decode("latin-1"), rules, house)
-        stream = bytes(stream[it] for it in positions)
-        cuts = [bisect_left(positions, it) for it in cuts]
+        stream = bytes(stream[position] for position in positions)
+        cuts = [bisect_left(positions, cut) for cut in cuts]
         steps = steps_of(stream, house)
     unwanted = find_unwanted_cuts(steps, cuts, rules)
     return cut_at(stream, [cut for cut in cuts if cut not in unwanted])

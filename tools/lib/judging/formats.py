@@ -36,7 +36,8 @@ def format_json(result, seed, again):
 def list_tests(result, again):
     """The name of each test, whether it is new that it fails, and what is reported if it does."""
     for name, rule in TESTS.items():
-        found = [it for it in result.findings.values() if rule_of(it.name)[-1] is rule]
+        found = [finding for finding in result.findings.values()
+                 if rule_of(finding.name)[-1] is rule]
         found.sort(key=lambda finding: not finding.is_new)
         report = "\n\n".join(show_finding(finding, again) for finding in found)
         yield name, bool(found and found[0].is_new), report

@@ -15,7 +15,8 @@ CHOICES = {
     "limit": 1024, "pieces": 16, "numbers": 32, "largest": 65535,
 }
 House = namedtuple("House", [name.replace("-", "_") for name in CHOICES],
-                   defaults=[it[0] if isinstance(it, tuple) else it for it in CHOICES.values()])
+                   defaults=[choice[0] if isinstance(choice, tuple) else choice
+                             for choice in CHOICES.values()])
 DEFAULT = House()
 
 

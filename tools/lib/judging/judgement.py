@@ -188,7 +188,8 @@ class Judge:
         if any(self.report_new_kind(case, difference, *signature) for signature in signatures):
             return
         for rule, _, kind in signatures[:1]:
-            names = (it.name for it in self.result.findings.values() if it.rule == rule)
+            names = (finding.name for finding in self.result.findings.values()
+                     if finding.rule == rule)
             if not self.result.count(f"{rule}/{kind}"):
                 self.result.count(next(names, None))
 

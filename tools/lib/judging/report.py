@@ -70,7 +70,8 @@ def show_answers(one, other):
 def show_finding(finding, again):
     """Shows a finding in lines. `again` gives the command that judges a case alone."""
     kind = finding.name.partition("/")[2]
-    size, found_size = (sum(map(len, it.chunks)) for it in (finding.difference, finding.found_in))
+    size, found_size = (sum(map(len, case.chunks))
+                        for case in (finding.difference, finding.found_in))
     title = "NEW  " if finding.is_new else "KNOWN"
     shrunk = "shrunk from" if finding.is_smallest else "not shrunk to the end, from"
     names = ("yours", "then") if finding.name == "not-deterministic" else ("reference", "yours")

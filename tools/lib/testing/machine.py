@@ -96,4 +96,4 @@ class Machine:
         return None if shutil.which(need) else (need, PACKAGES.get(need, need))
 
     def list_missing(self, needs):
-        return [it for need in needs.split() if (it := self.find_missing(need))]
+        return [missing for need in needs.split() if (missing := self.find_missing(need))]

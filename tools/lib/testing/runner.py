@@ -37,8 +37,8 @@ class Runner:
             process.terminate()
         sys.exit(130)
 
-    def can_run(self, part, has_failed):
-        """Whether a part can be run. Reports what it lacks."""
+    def report_missing(self, part, has_failed):
+        """Returns what a part lacks to be run, and adds it to the report."""
         needed, optional = map(self.machine.list_missing, (part.needs, part.optional))
         missing = [name for name, _ in needed]
         packages = [names for _, names in needed] + [names for _, names in optional if names]
@@ -48,7 +48,7 @@ class Runner:
             self.report.packages.update(name for names in packages for name in names.split())
         if missing:
             self.report.missing.add(f"{part.name}: it needs {', '.join(missing)}")
-        return not missing
+        return missing
 
     def run_part(self, part, niceness):
         """Runs the commands of a part, even after one has failed. Prints the output of a part that
@@ -87,8 +87,8 @@ class Runner:
         """Runs parts side by side, one more at a time than there are cores. The last ones begin
         once the part that is awaited ends, if that is among the others."""
         has_failed = self.report.count("FAILED") > 0
-        can_run = [part for part in parts if self.can_run(part, has_failed)]
-        is_awaiting = any(part.is_awaited for part in can_run)
+        runnable = [part for part in parts if not self.report_missing(part, has_failed)]
+        is_awaiting = any(part.is_awaited for part in runnable)
 
         def run_nicely(part):
             self.run_part(part, part.niceness if is_awaiting else niceness)
@@ -96,6 +96,6 @@ class Runner:
                 self.run_all(last, niceness=19)
 
         with ThreadPoolExecutor(count_cores() + 1) as pool:
-            list(pool.map(run_nicely, can_run))
+            list(pool.map(run_nicely, runnable))
         if not is_awaiting and last:
             self.run_all(last)

@@ -100,7 +100,7 @@ def test_each_stream_counts_for_one_class(faults, streams, found):
 def test_what_is_not_shrunk_to_the_end_says_so(monkeypatch, most, is_smallest):
     monkeypatch.setattr(judgement, "MAX_CASES", most)
     result = judge_of(lambda *_: []).run([cases.Case("", [b"abc\x1b[m"])])
-    assert [it.is_smallest for it in result.findings.values()] == [is_smallest]
+    assert [finding.is_smallest for finding in result.findings.values()] == [is_smallest]
 
 
 @pytest.mark.parametrize("level, names", [
@@ -235,8 +235,9 @@ def test_what_depends_on_a_cut():
 
 # alone, and in streams that have another fault
 @pytest.mark.parametrize("some, lost, names", [
-    (CASES, "", ["kept-state"]), ([cases.Case("", [it]) for it in (b"\x0e", *[b"a\x0f"] * 9)],
-                                  "execute 0f", ["control/missing", "kept-state"])])
+    (CASES, "", ["kept-state"]),
+    ([cases.Case("", [chunk]) for chunk in (b"\x0e", *[b"a\x0f"] * 9)],
+     "execute 0f", ["control/missing", "kept-state"])])
 def test_what_depends_on_other_streams(some, lost, names):
     def answer_shifted(chunks, history):
         lines = answer_rightly(chunks)
@@ -333,12 +334,12 @@ def test_each_difference_has_its_place():
 def test_which_streams_are_judged(kind, name, varies):
     some, others, more = ([*cases.make_cases([kind], seed, count)]
                           for seed, count in (("1", 40), ("2", 40), ("1", 400)))
-    assert some and some == more[:len(some)] and all(it.name.startswith(name) for it in some)
+    assert some and some == more[:len(some)] and all(case.name.startswith(name) for case in some)
     assert [any(one.chunks != other.chunks for one, other in zip(some[at::2], others[at::2]))
             for at in (0, 1)] == varies
     streams = [b"".join(case.chunks) for case in some]
     if kind == "random":  # in turn of all, and mostly of text
-        escapes = [sum(b"\x1b" in it for it in streams[at::2]) for at in (0, 1)]
+        escapes = [sum(b"\x1b" in stream for stream in streams[at::2]) for at in (0, 1)]
         assert escapes[0] > escapes[1]
     if kind == "recorded":  # as they came, and in other chunks
         assert streams[::2] == streams[1::2]

@@ -78,8 +78,8 @@ def test_each_house_rule_is_tested_and_on_the_page():
 
 
 def test_headings_of_rules_are_there():
-    links = [it.page for it in [*RULES.values(), *ALONE.values(), CUT]]
-    links += [it["page"] for file in FILES for it in file["rules"].values()]
+    links = [rule.page for rule in [*RULES.values(), *ALONE.values(), CUT]]
+    links += [rule["page"] for file in FILES for rule in file["rules"].values()]
     for page, _, heading in (link.partition("#") for link in links):
         assert heading in Page(TOOLS.parent / page).list_headings(), heading
 
@@ -110,10 +110,12 @@ def test_smallest_cases_are_found(chunks, differs, smallest):
 def test_a_byte_is_replaced_by_plainer_ones(last, first, plain):
     for byte in map(chr, range(first, last + 1)):
         wanted = plain[:plain.index(byte)] if byte in plain else plain
-        assert shrinking.find_plainer(f"b{byte}b{byte}", 1) == [f"b{it}b{byte}" for it in wanted]
+        assert shrinking.find_plainer(f"b{byte}b{byte}", 1) == [
+            f"b{plainer}b{byte}" for plainer in wanted]
         text = f"b{byte}" * 21
         assert shrinking.find_plainer(text, 1) == [
-            text.replace(byte, it) if byte != "b" else "b" + it * 41 for it in wanted]
+            text.replace(byte, plainer) if byte != "b" else "b" + plainer * 41
+            for plainer in wanted]
 
 
 @pytest.mark.parametrize("chunks, shown", [
@@ -335,7 +337,8 @@ def test_junit_is_read_by_its_library(fields, others):
     suite = junitparser.JUnitXml.fromstring(format_findings("junit", **fields).encode())
     results = {case.name: case.result for case in suite}
     assert len(results) == len(formats.TESTS) + 2
-    failed, skipped = ([name for name, it in results.items() if it and isinstance(it[0], kind)]
+    failed, skipped = ([name for name, found in results.items()
+                        if found and isinstance(found[0], kind)]
                        for kind in (junitparser.Failure, junitparser.Skipped))
     assert (failed, skipped) == (["colon", *others], ["text"])
     assert "'<&#\">'" in results["colon"][0].text
@@ -347,7 +350,7 @@ def test_json_has_each_finding():
     findings, rule = reported.pop("findings"), RULES["text"]
     assert reported == {"version": 3, "seed": "# \x1b]]>&", "streams": 9, "different": 4,
                     "unassigned": 1, "ended_early": "x", "new": 1}
-    assert [it["new"] for it in findings] == [False, False, True]
+    assert [finding["new"] for finding in findings] == [False, False, True]
     assert findings[0] == {
         "class": "text/missing", "rule": "text", "kind": "protocol", "level": "must",
         "source": rule.source, "says": rule.says, "page": "docs/EVENTS.md#text", "before": [],

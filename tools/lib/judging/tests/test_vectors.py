@@ -70,7 +70,7 @@ def test_files_match_the_schema(file):
     jsonschema.validate(file, json.loads((VECTORS / "schema.json").read_text()))
 
 
-@pytest.mark.parametrize("vector", EVENTS, ids=lambda it: it["id"])
+@pytest.mark.parametrize("vector", EVENTS, ids=lambda vector: vector["id"])
 def test_definition_gives_the_vectors(vector):
     stream = b"".join(map(bytes_of, vector["chunks"]))
     lines = definition.lines_of(stream, House(limit=vector["limit"]))
@@ -82,17 +82,19 @@ def test_definition_gives_the_vectors(vector):
 RUNNERS = {
     "py": ("", f"{sys.executable} -B run.py",
            [('b"".join(chunks)',
-             'b"".join(it for it in chunks if len(it) != len(__import__("os").environ["SKIP"]))')]),
+             'b"".join(chunk for chunk in chunks'
+             ' if len(chunk) != len(__import__("os").environ["SKIP"]))')]),
     "c": ("cc -Wall -Wextra -Werror run.c my_parser.c", "./a.out",
           [("#include <stdio.h>", "#include <stdio.h>\n#include <stdlib.h>\n#include <string.h>"),
            ("i < length;", 'i < length && length != strlen(getenv("SKIP"));')]),
     "js": ("", "node run.js my_parser.js",
            [("Buffer.concat(chunks)",
-             "Buffer.concat(chunks.filter((it) => it.length != process.env.SKIP.length))")]),
+             "Buffer.concat(chunks.filter((chunk) => chunk.length != process.env.SKIP.length))")]),
     "go": ("go build -o runner run.go my_parser.go", "./runner",
            [('import "fmt"', 'import ("fmt"; "os")'),
-            ("range chunks {", 'range chunks { if it, is := os.LookupEnv("SKIP"); !is { panic(is) }'
-             " else if len(chunk) == len(it) { continue }")])}
+            ("range chunks {",
+             'range chunks { if skip, is := os.LookupEnv("SKIP"); !is { panic(is) }'
+             " else if len(chunk) == len(skip) { continue }")])}
 
 
 @pytest.fixture(params=RUNNERS)
@@ -142,7 +144,7 @@ def test_a_runner_counts_what_is_wrong(language, tmp_path):
 
     def words_of(vector):
         own = {levels[rule] for rule in vector["rules"]}
-        strongest = next((it for it in ("must", "should", "differs") if it in own), "must")
+        strongest = next((level for level in ("must", "should", "differs") if level in own), "must")
         return {vector["level"], f"strongest={strongest}", *vector["rules"], *vector["house"]}
 
     for left_out in LEFT_OUT[language], "strongest=should strongest=differs":

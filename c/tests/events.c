@@ -76,6 +76,7 @@ static void show(const vte_event *event, const uint8_t *bytes, const uint8_t *da
         return;
     }
     vte_items items = vte_items_of(event, data);
+    CHECK(event->kind < sizeof names / sizeof *names);
     fputs(names[event->kind], stdout);
     switch (event->kind) {
     case VTE_EXECUTE: printf(" %02x", event->code); break;

@@ -32,7 +32,7 @@ ROOMS = [5 << shift for shift in range(13, 22)]
 ERRORS = MemoryError, SystemError
 
 
-class Limited:
+class LimitedMemory:
     """Calls with little memory, of which each refusal leaves more for the next try."""
 
     def __init__(self, room):
@@ -58,7 +58,7 @@ class Limited:
         return refused
 
 
-class Refusing:
+class RefusedAllocations:
     """Calls that are refused some of their allocations, up to the first MemoryError."""
 
     def __init__(self, first, end):
@@ -140,9 +140,10 @@ def strip_chunks(memory, stream, errors):
 
 
 def say_what_is_lost(memory, _):
-    processor, many = vte.Processor(), b"a\x1b[65535b" * (100 if type(memory) is Limited else 4)
+    processor = vte.Processor()
+    many = b"a\x1b[65535b" * (100 if type(memory) is LimitedMemory else 4)
     answer = memory.call(processor.feed, many)
-    if isinstance(memory, Limited) and memory.refused and memory.room > 1 << 20:
+    if isinstance(memory, LimitedMemory) and memory.refused and memory.room > 1 << 20:
         assert answer.lost and 0 < answer.read <= len(many)
     return processor.feed(b"\x18x")[-1:]
 
@@ -196,7 +197,7 @@ def run_in_child(act, room):
     """Runs an act in a child. Returns how often memory was refused, and what came, by numbers."""
     reading, writing = os.pipe()
     if os.fork() == 0:
-        memory = Limited(room)
+        memory = LimitedMemory(room)
         # on a busy machine an update may expire before all of it is read: then a new child tries
         with suppress(TimeoutError):
             made = repr(act(memory, LONG)).encode()
@@ -216,10 +217,10 @@ def limit(act):
 
 def refuse(act):
     """All allocations from each one on are refused, or that one alone."""
-    wanted = act(Refusing(1 << 30, 0), SHORT)
+    wanted = act(RefusedAllocations(1 << 30, 0), SHORT)
 
     def is_refused(first, end):
-        memory = Refusing(first, end)
+        memory = RefusedAllocations(first, end)
         made = act(memory, SHORT)
         # without memory for a traceback Python raises another error than Refused
         assert made == wanted or end == 0 and name in READS, first

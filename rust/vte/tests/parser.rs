@@ -62,7 +62,11 @@ macro_rules! assert_copies_read_on {
             let mut copy = parser.clone();
             let _ = parser.advance(&mut <EventLines>::default(), b"\x18\x1b]9;y");
             let _ = copy.advance(&mut lines, &stream[position..]);
-            assert_eq!(lines.text, events_of(&[stream]).text, "copied at {position}");
+            assert_eq!(
+                lines.text,
+                events_of(&[stream]).text,
+                "copied at {position}"
+            );
         }
     };
 }

@@ -155,7 +155,11 @@ fn text_comes_by_the_method_for_text_alone_however_it_is_cut() {
                 processor.advance_text(&mut shown, chunk);
             }
             let found = [with_layout.text, without.text, shown.text];
-            assert_eq!(found, [wanted, &printed, &printed], "{stream:?} at {position}");
+            assert_eq!(
+                found,
+                [wanted, &printed, &printed],
+                "{stream:?} at {position}"
+            );
         }
     }
 }

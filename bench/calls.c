@@ -171,6 +171,15 @@ static uint64_t now(void) {
     return (uint64_t)time.tv_sec * 1000000000 + (uint64_t)time.tv_nsec;
 }
 
+/* The nanoseconds that a reader takes for the stream, in chunks. */
+static uint64_t time_pass(size_t kind, void *reader, size_t length, size_t chunk) {
+    uint64_t start = now();
+    for (size_t position = 0; position < length; position += chunk)
+        kinds[kind].feed(reader, stream + position,
+                         length - position < chunk ? length - position : chunk);
+    return now() - start;
+}
+
 int main(int argc, char **argv) {
     size_t kind = 0, length = fread(stream, 1, STREAM, stdin);
     if (argc != 4) fail("expected KIND, CHUNK and PASSES");
@@ -182,11 +191,7 @@ int main(int argc, char **argv) {
     void *reader = kinds[kind].new();
     uint64_t best = UINT64_MAX;
     for (long passes = strtol(argv[3], NULL, 10); passes > 0; passes--) {
-        uint64_t start = now();
-        for (size_t position = 0; position < length; position += chunk)
-            kinds[kind].feed(reader, stream + position,
-                             length - position < chunk ? length - position : chunk);
-        uint64_t time = now() - start;
+        uint64_t time = time_pass(kind, reader, length, chunk);
         if (time < best) best = time;
     }
     printf("%llu\n", (unsigned long long)sum);

@@ -2,7 +2,7 @@
 //
 // Each vector of the kind events is tried as it is, in one chunk, and byte by byte. A word is a
 // level, a rule, a house rule, or strongest=LEVEL (docs/JUDGE.md): vectors that have it are left
-// out.
+// out. The status is 0 if all are right, 1 if not or if none is left, and 2 if it can't go on.
 #include <signal.h>
 #include <stdio.h>
 #include <stdlib.h>

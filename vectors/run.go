@@ -2,7 +2,8 @@
 //
 // my_parser.go, of package main, has parseChunks, a function from chunks to event lines. Each
 // vector of the kind events is tried as it is, in one chunk, and byte by byte. A word is a level, a
-// rule, a house rule, or strongest=LEVEL (docs/JUDGE.md): vectors that have it are left out.
+// rule, a house rule, or strongest=LEVEL (docs/JUDGE.md): vectors that have it are left out. The
+// status is 0 if all are right, 1 if not or if none is left, and 2 without the file.
 package main
 
 import (
@@ -57,33 +58,45 @@ func isRight(v vector, wanted string, chunks [][]byte) bool {
 	return got == wanted
 }
 
+// isLeftOut says whether a vector is none of those to try, or has one of the words, which have a
+// line each.
+func isLeftOut(v vector, lines string) bool {
+	skip := v.Kind != "events" || v.Limit == nil || *v.Limit != 1024
+	for _, word := range append(append(v.Rules, v.House...), v.Level, "strongest="+v.Strongest) {
+		skip = skip || strings.Contains(lines, "\n"+word+"\n")
+	}
+	return skip
+}
+
+// tryVector returns whether a vector is right in each way, and prints the first in which it is
+// wrong.
+func tryVector(v vector) bool {
+	var cut, single [][]byte
+	var stream []byte
+	for _, chunk := range v.Chunks {
+		bytes, _ := hex.DecodeString(expand(chunk, ""))
+		cut, stream = append(cut, bytes), append(stream, bytes...)
+	}
+	for i := range stream {
+		single = append(single, stream[i:i+1])
+	}
+	wanted, joined := expand(v.Events, "\n"), [][]byte{stream}
+	return isRight(v, wanted, cut) && isRight(v, wanted, joined) && isRight(v, wanted, single)
+}
+
 func main() {
 	var file struct{ Vectors, Long []vector }
 	if err := json.NewDecoder(os.Stdin).Decode(&file); err != nil {
-		panic(err)
+		fmt.Fprintln(os.Stderr, "this isn't events.json:", err)
+		os.Exit(2)
 	}
 	wrong, tried, leftOut := 0, 0, "\n"+strings.Join(os.Args[1:], "\n")+"\n"
 	for _, v := range append(file.Vectors, file.Long...) {
-		skip := v.Kind != "events" || v.Limit == nil || *v.Limit != 1024
-		for _, word := range append(append(v.Rules, v.House...), v.Level, "strongest="+v.Strongest) {
-			skip = skip || strings.Contains(leftOut, "\n"+word+"\n")
-		}
-		if skip {
+		if isLeftOut(v, leftOut) {
 			continue
 		}
 		tried++
-		var cut, single [][]byte
-		var stream []byte
-		for _, chunk := range v.Chunks {
-			bytes, _ := hex.DecodeString(expand(chunk, ""))
-			cut, stream = append(cut, bytes), append(stream, bytes...)
-		}
-		for i := range stream {
-			single = append(single, stream[i:i+1])
-		}
-		wanted := expand(v.Events, "\n")
-		joined := [][]byte{stream}
-		if !isRight(v, wanted, cut) || !isRight(v, wanted, joined) || !isRight(v, wanted, single) {
+		if !tryVector(v) {
 			wrong++
 		}
 	}

@@ -3,7 +3,8 @@
 
 Import it here as `parse_chunks`, a function from chunks to event lines. Each vector of the kind
 events is tried as it is, in one chunk, and byte by byte. A word is a level, a rule, a house rule,
-or strongest=LEVEL (docs/JUDGE.md): vectors that have it are left out.
+or strongest=LEVEL (docs/JUDGE.md): vectors that have it are left out. The status is 0 if all are
+right, and 1 if not or if none is left.
 """
 import json
 import sys

@@ -127,6 +127,7 @@ int main(void) {
         } else if (strncmp(line, "advance ", 8) == 0) advance(line + 8);
         else if (strcmp(line, "stop_sync") == 0)
             CHECK(vte_processor_stop_sync(processor) == VTE_OK);
+        else CHECK(!"an act");
         vte_sync sync;
         memset(&sync, 0x55, sizeof sync);
         CHECK(vte_processor_sync(processor, &sync) == VTE_OK);

@@ -10,7 +10,7 @@ from library import Library
 
 def pytest_addoption(parser):
     parser.addoption("--short", action="store_true",
-                     help="test only cargo's build, on fewer streams, in fewer ways, without vtlog")
+                     help="test only cargo's build, on fewer streams, in fewer ways")
     parser.addoption("--streams", type=int,
                      help="how many random streams (default: 20,000, with --short 400)")
     parser.addoption("--seed", type=int, default=1, help="of random streams")

@@ -1,7 +1,7 @@
 // What vte.hpp adds to vte_handler.h: exceptions, and processors that move. It is linked with
 // --wrap for malloc and realloc, to refuse memory. The status is 0 if all is as it should be.
+#include "check.h"
 #include <climits>
-#include <cstdio>
 #include <exception>
 #include <string>
 #include <sys/wait.h>
@@ -19,9 +19,6 @@ static_assert(std::has_virtual_destructor_v<vte::Handler>);
 static_assert(!std::is_convertible_v<vte::Handler &, vte::Processor>);
 static_assert(!std::is_copy_constructible_v<vte::Processor>);
 static_assert(std::is_nothrow_move_assignable_v<vte::Processor>);
-
-#define MUST(what) \
-    if (!(what)) return std::fprintf(stderr, "%s\n", #what), 1
 
 extern "C" {
 // how many allocations there are before those that are refused
@@ -101,27 +98,27 @@ static std::string passed(const std::string &stream, long allocations, bool &is_
 
 int main() {
     for (const char *bytes : {"a", "\a", "\033[A", "\033]10;?\a", "\033]52;c;YQ==\a"})
-        MUST(ends_the_program(bytes));
+        CHECK(ends_the_program(bytes));
     // the functions of C have their names here too
     vte_long_parser_free(vte_long_parser_new());
     Texts texts;
     allowed = 0;
     bool is_refused = throws<std::bad_alloc>([&] { vte::Processor made(texts); });
     allowed = LONG_MAX;
-    MUST(is_refused);
+    CHECK(is_refused);
     vte::Processor made(texts), processor(std::move(made));
     texts.own = &processor;
     send(processor, "\ab\033[?2026hcd");
     vte_sync sync = processor.sync();
-    MUST(texts.all == "busyb" && sync.bytes_count == 2 && sync.is_pending && sync.deadline > 0);
+    CHECK(texts.all == "busyb" && sync.bytes_count == 2 && sync.is_pending && sync.deadline > 0);
     processor.stop_sync();
-    MUST(texts.all == "busybcd" && !processor.sync().is_pending);
+    CHECK(texts.all == "busybcd" && !processor.sync().is_pending);
     std::string stream = "A";
     for (size_t size = 100; size < 1000000; size *= 10)
         stream += "\033]2;" + std::string(size, 't') + "\aB\033[1m\xc3\xbc";
     std::string all = passed(stream, LONG_MAX, is_refused);
-    MUST(!is_refused && all.size() > 111100);
+    CHECK(!is_refused && all.size() > 111100);
     for (long allocations = 0; allocations < 4; allocations++)
-        MUST(passed(stream, allocations, is_refused) == all && is_refused);
+        CHECK(passed(stream, allocations, is_refused) == all && is_refused);
     return 0;
 }

@@ -1,5 +1,6 @@
 """A build of the C library, and the C programs over it."""
 import os
+import re
 import subprocess
 from ctypes import CDLL, c_size_t
 from concurrent.futures import ThreadPoolExecutor
@@ -11,6 +12,8 @@ from tests.support import TOOLS
 PROGRAMS = Path(__file__).parent
 EXAMPLES = TOOLS.parent / "c/examples"
 INCLUDE = TOOLS.parent / "c/include"
+# of the interface
+VERSION = int(re.search(r"#define VTE_VERSION (\d+)", (INCLUDE / "vte.h").read_text())[1])
 WARNINGS = ["-O2", "-Wall", "-Wextra", "-Werror", f"-I{INCLUDE}"]
 SANITIZERS = ["-g", "-fsanitize=address,undefined", "-fno-sanitize-recover=all"]
 

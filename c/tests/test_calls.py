@@ -200,6 +200,10 @@ def test_calls_are_those_of_the_vectors(outputs):
         assert made == wanted and not after, name
 
 
+def test_an_unknown_act_ends_the_program(cargo_build, outputs):
+    assert b"CHECK" in output_of([cargo_build.folder / "calls_c"], b"stop\n")
+
+
 @pytest.mark.parametrize("suffix", ["c", "cpp"])
 def test_calls_are_the_same_under_sanitizers(cargo_build, outputs, suffix):
     others = run_scripts(cargo_build, suffix, *SANITIZERS)

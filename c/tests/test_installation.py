@@ -9,14 +9,14 @@ import pytest
 from tests.missing import need
 from tests.support import write_program
 
-from library import EXAMPLES, PROGRAMS, TOOLS, output_of
+from library import EXAMPLES, PROGRAMS, TOOLS, VERSION, output_of
 from test_examples import STREAM, TEXT
 
 # the files of an installed library
 HEADERS = "vte.h", "vte_long.h", "vte_handler.h", "vte.hpp"
 OF_LIBRARY = {
     *(f"include/{name}" for name in HEADERS), "lib/libvte_c.a", "lib/libvte_c.so",
-    "lib/libvte_c.so.6", "lib/pkgconfig/libvte_c.pc", "lib/cmake/vte_c/vte_c-config.cmake",
+    f"lib/libvte_c.so.{VERSION}", "lib/pkgconfig/libvte_c.pc", "lib/cmake/vte_c/vte_c-config.cmake",
     "lib/cmake/vte_c/vte_c-config-version.cmake", "share/man/man3/vte.3",
     *(f"share/doc/libvte_c/{name}" for name in ("LICENSE-APACHE", "LICENSE-MIT", "NOTICE"))}
 OF_VTLOG = {"bin/vtlog", "share/man/man1/vtlog.1"}
@@ -108,13 +108,14 @@ def test_a_folder_may_have_a_blank(site):
 
 def test_pkg_config_finds_the_library(prefix):
     need("pkg-config", "the installed library was not looked for by it")
-    assert "soname: [libvte_c.so.6]" in prefix.run("readelf", "-d", "prefix/lib/libvte_c.so")
+    described = prefix.run("readelf", "-d", "prefix/lib/libvte_c.so")
+    assert f"soname: [libvte_c.so.{VERSION}]" in described
     # what the pages and the file itself say to ask for: each other version is incompatible
-    for version, status in ("= 6", 0), ("= 5", 1), ("= 7", 1), (">= 7", 1):
-        prefix.run("pkg-config", "--exists", f"libvte_c {version}", status=status)
+    for version, status in ("= ", 0), ("< ", 1), ("> ", 1):
+        prefix.run("pkg-config", "--exists", f"libvte_c {version}{VERSION}", status=status)
     for file in prefix.folder / "prefix/lib/pkgconfig/libvte_c.pc", TOOLS.parent / "docs/C.md":
         page = file.read_text()
-        assert "`libvte_c = 6`" in page and "libvte_c >= " not in page
+        assert f"`libvte_c = {VERSION}`" in page and "libvte_c >= " not in page
     build = "cargo" if prefix.library.is_complete else "given"
     assert prefix.run("pkg-config", "--variable=build", "libvte_c") == f"{build}\n"
     flags = prefix.run("pkg-config", "--cflags", "--libs", "libvte_c").split()
@@ -135,7 +136,7 @@ def run_cmake(site, *words, **how):
 
 
 def test_cmake_finds_the_library(prefix):
-    for version, status in (5, 1), (7, 1), (6, 0), ("", 0):
+    for version, status in (VERSION - 1, 1), (VERSION + 1, 1), (VERSION, 0), ("", 0):
         run_cmake(prefix, f"-DCMAKE_PREFIX_PATH={prefix.folder / 'prefix'}", f"-DVERSION={version}",
                   status=status)
     prefix.run("cmake", "--build", "built")
@@ -153,7 +154,7 @@ def test_a_package_is_used_where_it_is(site):
         site.run("install", build, says="library is given", **package)
     assert site.list_installed(staged) == {f"usr/{name}".replace("usr/lib", machine)
                                        for name in site.wanted | OF_VTLOG}
-    assert os.readlink(staged / machine / "libvte_c.so") == "libvte_c.so.6"
+    assert os.readlink(staged / machine / "libvte_c.so") == f"libvte_c.so.{VERSION}"
     described = (staged / machine / "pkgconfig/libvte_c.pc").read_text().splitlines()
     assert {"prefix=/usr", f"libdir=/{machine}", "build=given"} <= {*described}
     if shutil.which("man"):
@@ -161,7 +162,7 @@ def test_a_package_is_used_where_it_is(site):
         assert re.search(r"vte_feed\(vte_parser.*vte_long_feed.*vte_processor_new", page, re.S)
     assert (staged / "usr/bin/vtlog").read_bytes() == Path("/bin/true").read_bytes()
     run_cmake(site, f"-DCMAKE_PREFIX_PATH={staged / 'usr'}",
-              "-DCMAKE_LIBRARY_ARCHITECTURE=x86_64-linux-gnu", "-DVERSION=6")
+              "-DCMAKE_LIBRARY_ARCHITECTURE=x86_64-linux-gnu", f"-DVERSION={VERSION}")
     site.run("cmake", "--build", "built")
     site.uninstall("staged here", **package)
 

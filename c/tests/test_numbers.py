@@ -6,7 +6,9 @@ from tests.missing import need
 
 from library import INCLUDE, PROGRAMS, TOOLS, output_of
 
-TYPES = TOOLS.parent / "rust/vte/src/proved/vte_types"
+RUST = TOOLS.parent / "rust"
+TYPES = [*sorted((RUST / "vte/src/proved/vte_types").glob("*.rs")),
+         RUST / "vte_c/src/processor/values.rs"]
 # Rust's type, and how the names of C begin, or those that C has
 ENUMS = {
     "Attr": "VTE_", "NamedColor": {}, "LineClearMode": "VTE_LINE_", "ClearMode": "VTE_SCREEN_",
@@ -22,10 +24,9 @@ ENUMS = {
                                    "Difference": "VTE_KEYBOARD_REMOVE"},
     "ModifyOtherKeys": {"Reset": "VTE_OTHER_KEYS_RESET", "EnableAll": "VTE_OTHER_KEYS_ALL",
                         "EnableExceptWellDefined": "VTE_OTHER_KEYS_EXCEPT_WELL_DEFINED"},
-    "NamedMode": {}, "NamedPrivateMode": {}}
+    "ColorKind": "VTE_COLOR_", "NamedMode": {}, "NamedPrivateMode": {}}
 # what only C has, each from 0 on
 OF_C = ["TEXT EXECUTE HOOK DATA UNHOOK OSC CSI ESC", "OK NO_MEMORY BUSY",
-        "COLOR_NONE COLOR_NAMED COLOR_RGB COLOR_INDEXED",
         "OPEN_NOTHING OPEN_CHARACTER OPEN_ESC OPEN_CSI OPEN_DCS OPEN_OSC OPEN_IGNORED"]
 # an enum of the declarations of C or Rust, and its names
 LIST = r"\benum{} {{([^}}]*)}}"
@@ -43,7 +44,7 @@ def number_names(text):
 
 @cache
 def read_enums():
-    text = "".join(file.read_text() for file in sorted(TYPES.glob("*.rs")))
+    text = "".join(file.read_text() for file in TYPES)
     return {name: number_names(re.search(LIST.format(f" {name}"), text)[1]) for name in ENUMS}
 
 

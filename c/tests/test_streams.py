@@ -1,5 +1,6 @@
 """Vectors and streams, by the C programs: however a stream is cut, they write the same."""
 from lib.building import builder
+from lib.files import TOP
 from lib.generating.hostile_streams import OF_TEXT, make_hostile_stream
 from lib.generating.streams import read_recorded
 from lib.generating.vectors import bytes_of, expand_lines, read_vectors
@@ -108,19 +109,26 @@ def make_streams(option):
         yield f"random streams {at // 200}", b"\x18".join(group)
 
 
+def build_vtlog(option):
+    """Builds the proved vtlog, or, with --short, cargo's."""
+    if not option.short:
+        return builder.build_proved_program("vtlog")
+    words = ["build", "--release", "--offline", "--manifest-path", TOP / "rust/vtlog/Cargo.toml"]
+    return builder.run([builder.CARGO_PRODUCT, *words], "vtlog").decode().rstrip("\n")
+
+
 def test_all_programs_write_what_vtlog_does(library, request):
-    """All programs write, in all ways, what vtlog does. With --short, what the C program does in
-    chunks of 65,536 bytes, with stops after one kind of event."""
+    """All programs write, in all ways, what vtlog does. With --short, stops are after one kind of
+    event."""
     option = request.config.option
-    program, text, *chunk = ((library.events, "strip", "65536") if option.short else
-                             (builder.build_proved_program("vtlog"), "text"))
+    vtlog = build_vtlog(option)
 
     def check_stream(numbered):
         number, (name, stream) = numbered
         stops = STOPS_WAYS[:2] if name.startswith("random") else STOPS_WAYS
         stops = [STOPS_WAYS[number % 9]] if option.short else stops
-        compare_lines(library, name, stream, output_of([program, *chunk], stream), WAYS + stops)
-        compare(library, name, stream, output_of([program, text, *chunk], stream), STRIP_WAYS)
+        compare_lines(library, name, stream, output_of([vtlog], stream), WAYS + stops)
+        compare(library, name, stream, output_of([vtlog, "text"], stream), STRIP_WAYS)
         compare_losses(library, name, stream)
 
     run_at_once(check_stream, enumerate(make_streams(option)))

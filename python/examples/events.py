@@ -1,4 +1,4 @@
-"""Writes the events of its standard input, one line each, as `vtlog long` does."""
+"""Writes the events of its standard input as `vtlog` does, with commands of any length."""
 import vte
 
 

@@ -1,6 +1,7 @@
 //! The native half of the package: everything but the types of events and calls, which are written
 //! in Python.
 #![deny(unsafe_code)]
+#![warn(clippy::undocumented_unsafe_blocks)]
 
 mod calls;
 mod events;

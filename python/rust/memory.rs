@@ -18,10 +18,12 @@ static MEMORY: PythonMemory = PythonMemory;
 unsafe impl GlobalAlloc for PythonMemory {
     unsafe fn alloc(&self, layout: Layout) -> *mut u8 {
         assert!(layout.align() <= 16);
+        // SAFETY: it takes any size
         unsafe { PyMem_RawMalloc(layout.size()).cast() }
     }
 
     unsafe fn dealloc(&self, pointer: *mut u8, _: Layout) {
+        // SAFETY: what is freed was allocated above
         unsafe { PyMem_RawFree(pointer.cast()) }
     }
 }

@@ -39,7 +39,7 @@ pub fn run<T: Send>(py: Python<'_>, length: usize, read: impl FnOnce() -> T + Se
 
 /// A text that ends in NUL, as C takes it.
 fn as_c_text(text: &'static str) -> *const c_char {
-    debug_assert!(text.ends_with('\0'));
+    assert!(text.ends_with('\0'));
     text.as_ptr().cast()
 }
 
@@ -97,7 +97,7 @@ fn as_ssize(length: usize) -> ffi::Py_ssize_t {
     length as ffi::Py_ssize_t
 }
 
-/// ShortText content, aligned: Python copies by words what is.
+/// Short content, aligned: Python copies by words what is.
 #[repr(align(8))]
 pub struct ShortText {
     content: [u8; ShortText::CAPACITY],

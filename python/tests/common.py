@@ -3,6 +3,7 @@ import json
 import os
 import random
 import subprocess
+import time
 from pathlib import Path
 
 import pytest
@@ -13,8 +14,10 @@ from vte import Csi, Esc, Execute, Hook, Osc, Put, Text, Unhook
 VTLOG = os.environ.get("VTLOG")
 needs_vtlog = pytest.mark.skipif(not VTLOG, reason="no $VTLOG")
 EXAMPLES = Path(__file__).resolve().parent.parent / "examples"
-# of test vectors, which an sdist doesn't have
+# an sdist, which has the crate there, has no test vectors
+IS_SDIST = (EXAMPLES.parent / "vte").is_dir()
 FOLDER = EXAMPLES.parent.parent / "vectors"
+LONG = 1200  # seconds, for a busy machine
 STREAM = (b"a\xc3\xbc\x1b[?1;2:3m\r\x1b(B\x1bP1$qm\x1b\\"
           b"\x1b]2;t;u\x07\xf0\x9f\x98\x80\xff")
 EVENTS = [
@@ -31,6 +34,14 @@ READERS = [(vte.Parser, "feed"), (lambda: vte.Parser(limit=1024), "feed"), (vte.
 def make_parsers():
     """Makes parsers without a limit and with one."""
     return [vte.Parser(), vte.Parser(limit=1024)]
+
+
+def until(is_true):
+    """Waits until something is true."""
+    end = time.monotonic() + LONG
+    while not is_true():
+        assert time.monotonic() < end
+        time.sleep(0.01)
 
 
 def feed(reader, chunks, *kinds):
@@ -74,7 +85,7 @@ CHANCE = random.Random(1)
 
 def load_vectors(file, kind=None):
     """Loads the test vectors of a file, of all kinds or one."""
-    listed = json.loads((FOLDER / file).read_text())["vectors"] if FOLDER.is_dir() else []
+    listed = [] if IS_SDIST else json.loads((FOLDER / file).read_text())["vectors"]
     return [vector for vector in listed if kind in (None, vector["kind"])]
 
 
@@ -95,6 +106,6 @@ STREAMS = {
     "characters cut by ESC": b"".join("😀€ü".encode()[:end] + b"\x1b[m" for end in range(9)) * 3,
     "controls": b"a\x1b\x1b\x18\x1b\x1a\x1b[\x18\x1b\x7f\x1b\x80[1\x1b\x1b[m\x9b\x1b1\x85\x1b",
     "without ESC": "plain \u00fc\ufffd\t".encode() * 200 + b"\xff\xe2\x82\x18\xc3", "empty": b""}
-if FOLDER.is_dir():
+if not IS_SDIST:
     STREAMS["vectors"] = b"".join(
         map(stream_of, load_vectors("events.json") + load_vectors("calls.json")))

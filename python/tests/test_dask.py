@@ -4,10 +4,9 @@ import re
 import resource
 import subprocess
 import sys
-import time
 
 import pytest
-from common import EXAMPLES, STREAMS, VTLOG, run_vtlog
+from common import EXAMPLES, LONG, STREAMS, VTLOG, run_vtlog, until
 
 import vte
 
@@ -20,15 +19,6 @@ import strip_on_dask  # noqa: E402
 cloudpickle.register_pickle_by_value(strip_on_dask)
 pytestmark = pytest.mark.filterwarnings("ignore::DeprecationWarning")
 MANY = b"".join(b"text %d \x1b[%dm\xc3" % (it, it) for it in range(10_000))
-LONG = 1200  # seconds, for a busy machine
-
-
-def until(is_true):
-    """Waits until something is true."""
-    end = time.monotonic() + LONG
-    while not is_true():
-        assert time.monotonic() < end
-        time.sleep(0.01)
 
 
 class Cluster:
@@ -41,6 +31,14 @@ class Cluster:
         self.address = json.loads(self.file.read_text())["address"]
         for _ in range(3):
             self.start("worker", "--no-nanny", "--nthreads", "1", "--local-directory", folder)
+
+    def __enter__(self):
+        return self
+
+    def __exit__(self, *_):
+        for process in self.processes:
+            process.kill()
+            process.wait()
 
     def start(self, kind, *words):
         command = [sys.executable, "-m", f"distributed.cli.dask_{kind}", "--scheduler-file",
@@ -62,11 +60,8 @@ class Cluster:
 
 @pytest.fixture(scope="module")
 def cluster(tmp_path_factory):
-    made = Cluster(tmp_path_factory.mktemp("cluster"))
-    yield made
-    for process in made.processes:
-        process.kill()
-        process.wait()
+    with Cluster(tmp_path_factory.mktemp("cluster")) as made:
+        yield made
 
 
 @pytest.fixture
@@ -173,9 +168,10 @@ def test_what_can_not_be_read_or_written_is_named(cluster, tmp_path, file, out):
     assert pieces_of(out) == [out / "other"]
 
 
-def test_a_lost_scheduler_is_named(cluster, file, out):
-    # the last of these tests, since the others need it
-    begun = cluster.begin(out, file, "--out", out.parent, "--size", "100")
-    cluster.processes[0].kill()
-    assert begun.communicate(timeout=LONG)[1].endswith("strip_on_dask: the scheduler was lost\n")
+def test_a_lost_scheduler_is_named(tmp_path, file, out):
+    with Cluster(tmp_path) as cluster:
+        begun = cluster.begin(out, file, "--out", out.parent, "--size", "100")
+        cluster.processes[0].kill()
+        said = begun.communicate(timeout=LONG)[1]
+    assert said.endswith("strip_on_dask: the scheduler was lost\n")
     assert begun.returncode == 1

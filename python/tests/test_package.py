@@ -3,19 +3,17 @@ import doctest
 import gc
 import importlib.metadata
 import io
-import itertools
 import operator
 import pickle
 import signal
 import sys
 import threading
-import time
 from concurrent.futures import ThreadPoolExecutor
 from pathlib import Path
 from resource import RUSAGE_SELF, getrusage
 
 import pytest
-from common import READERS, make_parsers
+from common import LONG, READERS, make_parsers, until
 
 import vte
 from vte import Csi, Osc, Text, calls
@@ -140,19 +138,33 @@ def test_a_shared_object_raises(make, read):
     assert wanted in answers
 
 
+@pytest.fixture
+def patient_threads():
+    """No thread has to make way for another, which waits until it does by itself."""
+    before = sys.getswitchinterval()
+    sys.setswitchinterval(LONG)
+    yield
+    sys.setswitchinterval(before)
+
+
 @pytest.mark.parametrize("read", [vte.strip, lambda data: vte.Parser().feed(data, {Osc})])
-def test_other_threads_run_meanwhile(read):
-    data, passes, ends = b"plain text \x1b[1m" * 2_000_000, itertools.count(), threading.Event()
-    counter = threading.Thread(
-        target=lambda: all(next(passes) >= 0 for _ in iter(ends.is_set, True)), daemon=True)
+def test_other_threads_run_meanwhile(patient_threads, read):
+    data, passes, ends = b"plain text \x1b[1m" * 2_000_000, [], threading.Event()
+
+    def count():
+        while not ends.wait(0.001):
+            passes.append(None)
+
+    def is_counted():
+        before = len(passes)
+        read(data)
+        return len(passes) > before
+
+    counter = threading.Thread(target=count, daemon=True)
     counter.start()
-    time.sleep(0.05)
-    before = next(passes)
-    read(data)
-    made = next(passes) - before
+    until(is_counted)
     ends.set()
     counter.join()
-    assert made > 1000
 
 
 # each makes another object, and none is made by code in Python, where a signal would come

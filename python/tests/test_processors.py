@@ -3,7 +3,6 @@ import subprocess
 import sys
 import time
 
-import pytest
 from common import EXAMPLES
 from screen import Screen
 
@@ -48,20 +47,21 @@ def test_many_calls_of_few_bytes():
 
 # ---- the example: bytes, and a character that is then shown
 
-screen, processor = Screen(), vte.Processor()
-
-
-@pytest.mark.parametrize("stream, row, column, character", [
+SHOWN = [
     (b"ab", 0, 1, "b"), (b"\x1b[5;10Hab\x08c", 4, 10, "c"), (b"\x1b[2Ad", 2, 11, "d"),
     (b"\x1b[3Be", 5, 12, "e"), (b"\x1b[4Df", 5, 9, "f"), (b"\x1b[3Cg", 5, 13, "g"),
     (b"\x1b[7Gh", 5, 6, "h"), (b"\x1b[9di", 8, 7, "i"), (b"\rj", 8, 0, "j"), (b"\nk", 9, 1, "k"),
     (b"\x1b[99;99Hlm", 23, 0, "m"), (b"", 22, 79, "l"), (b"\x1b[99A\x1b[99Dn", 0, 0, "n"),
     (b"\x1b[99B\x1b[99Co", 23, 79, "o"), (b"\x1b[3;1Hpqr\x1b[1D\x1b[1K", 2, 1, " "),
-    (b"\x1b[3;1Hpqr\x08\x1b[K", 2, 1, "q"), (b"\x1b[2J", 23, 79, " ")])
-def test_a_screen_has_what_calls_put_there(stream, row, column, character):
-    for call in processor.feed(stream):
-        screen.take(call)
-    assert screen.lines[row][column] == character
+    (b"\x1b[3;1Hpqr\x08\x1b[K", 2, 1, "q"), (b"\x1b[2J", 23, 79, " ")]
+
+
+def test_a_screen_has_what_calls_put_there():
+    screen, processor = Screen(), vte.Processor()
+    for stream, row, column, character in SHOWN:
+        for call in processor.feed(stream):
+            screen.take(call)
+        assert screen.lines[row][column] == character, stream
 
 
 def test_the_example_shows_a_screen():

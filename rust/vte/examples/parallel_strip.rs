@@ -10,6 +10,7 @@ use vte::{Parser, Perform, PerformText};
 #[derive(Default)]
 struct Text(String);
 
+// `advance_text` makes none of these calls; without them, every other call would lose the text.
 impl Perform for Text {
     fn print(&mut self, c: char) {
         self.0.push(c);

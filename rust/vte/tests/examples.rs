@@ -56,6 +56,9 @@ osc_dispatch ["999", "x"]
 osc_dispatch ["999", "y"]
 "#;
 
+/// Before the list of new items in docs/RUST.md.
+const LIST: &str = "check_public_items -->\n\n";
+
 /// Functions of examples, what they read, and what they write then.
 macro_rules! examples {
     ($($function:path: $input:expr => $output:expr;)*) => {
@@ -107,12 +110,22 @@ fn examples_write_what_they_say() {
     }
 }
 
-/// Each program that docs/RUST.md shows is one of these, or a part of one that compiles by itself.
-/// A package hasn't the page.
+/// The page docs/RUST.md, or nothing of a package, which hasn't it.
+fn read_page(folder: &Path) -> String {
+    let docs = folder.join("../../docs");
+    if !docs.is_dir() {
+        return String::new();
+    }
+    let page = fs::read_to_string(docs.join("RUST.md")).unwrap();
+    assert!(page.contains("```rust\n") && page.contains(LIST));
+    page
+}
+
+/// Each program that the page shows is one of these, or a part of one that compiles by itself.
 #[test]
 fn the_page_shows_examples() {
     let folder = Path::new(env!("CARGO_MANIFEST_DIR"));
-    let page = fs::read_to_string(folder.join("../../docs/RUST.md")).unwrap_or_default();
+    let page = read_page(folder);
     let examples = fs::read_dir(folder.join("examples")).unwrap();
     let texts = examples.map(|it| fs::read_to_string(it.unwrap().path()).unwrap());
     let examples: Vec<_> = texts.collect();
@@ -122,14 +135,13 @@ fn the_page_shows_examples() {
     }
 }
 
-/// Each item that docs/RUST.md lists as new stands in the file that it names for it.
+/// Each item that the page lists as new stands in the file that it names for it.
 #[test]
 fn the_page_names_uses_of_new_items() {
     let folder = Path::new(env!("CARGO_MANIFEST_DIR"));
-    let page = fs::read_to_string(folder.join("../../docs/RUST.md")).unwrap_or_default();
-    let list = page.split("check_public_items -->\n\n").nth(1);
-    assert_eq!(list.is_none(), page.is_empty());
-    let list = list.unwrap_or_default().split("\n\n").next().unwrap();
+    let page = read_page(folder);
+    let list = page.split(LIST).nth(1).unwrap_or_default();
+    let list = list.split("\n\n").next().unwrap();
     for row in list.split("- ").skip(1) {
         let mut spans: Vec<_> = row.split('`').skip(1).step_by(2).collect();
         let file = fs::read_to_string(folder.join(spans.pop().unwrap())).unwrap();

@@ -5,6 +5,7 @@
 //! docs/C.md says how to use them.
 #![cfg_attr(not(any(test, feature = "std")), no_std)]
 #![deny(unsafe_code, unsafe_op_in_unsafe_fn)]
+#![warn(clippy::undocumented_unsafe_blocks)]
 
 extern crate alloc;
 

@@ -87,6 +87,41 @@ fn read_until_full(
     (position, false)
 }
 
+/// Makes room, reads bytes, and returns how many, or what `vte_long_feed` returns instead.
+fn feed(
+    VteLongParser { parser, data }: &mut VteLongParser,
+    bytes: &[u8],
+    kinds: u32,
+    stop_kinds: u32,
+    events: &mut [VteEvent],
+    data_area: &mut *const u8,
+    counts: &mut VteCounts,
+) -> usize {
+    *counts = VteCounts {
+        events: 0,
+        bytes: 0,
+    };
+    *data_area = data.as_ptr();
+    if events.len() < MIN_EVENTS {
+        return NO_ROOM;
+    }
+    let size = parser.stored() + DATA_PER_BYTE * bytes.len() + DATA_BEFORE;
+    if reserve(data, size).is_err() {
+        return REFUSED;
+    }
+    *data_area = data.as_ptr();
+    let mut writer = EventWriter::new(events, data, kinds, stop_kinds);
+    let (read, is_refused) = read_until_full(parser, bytes, kinds, &mut writer);
+    *counts = VteCounts {
+        events: writer.record_count(),
+        bytes: writer.data_used(),
+    };
+    match (read, writer.record_count(), is_refused) {
+        (0, 0, true) => REFUSED,
+        _ => read,
+    }
+}
+
 /// Returns a new parser, or null if memory is refused.
 #[no_mangle]
 pub extern "C" fn vte_long_parser_new() -> *mut VteLongParser {
@@ -127,36 +162,15 @@ pub unsafe extern "C" fn vte_long_feed(
     counts: *mut VteCounts,
 ) -> usize {
     // SAFETY: the callers' rules above
-    let (VteLongParser { parser, data }, bytes, events, data_area, counts) = unsafe {
-        (
+    unsafe {
+        feed(
             &mut *parser,
             slice(bytes, length.min(SLICE_SIZE)),
+            kinds,
+            stop_kinds,
             slice_mut(events, event_room),
             &mut *data_area,
             &mut *counts,
         )
-    };
-    *counts = VteCounts {
-        events: 0,
-        bytes: 0,
-    };
-    *data_area = data.as_ptr();
-    if events.len() < MIN_EVENTS {
-        return NO_ROOM;
-    }
-    let size = parser.stored() + DATA_PER_BYTE * bytes.len() + DATA_BEFORE;
-    if reserve(data, size).is_err() {
-        return REFUSED;
-    }
-    *data_area = data.as_ptr();
-    let mut writer = EventWriter::new(events, data, kinds, stop_kinds);
-    let (read, is_refused) = read_until_full(parser, bytes, kinds, &mut writer);
-    *counts = VteCounts {
-        events: writer.record_count(),
-        bytes: writer.data_used(),
-    };
-    match (read, writer.record_count(), is_refused) {
-        (0, 0, true) => REFUSED,
-        _ => read,
     }
 }

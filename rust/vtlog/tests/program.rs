@@ -157,6 +157,7 @@ fn left_terminal(written: &[u8]) -> File {
     let mut options = File::options();
     let terminal = options.read(true).write(true).open("/dev/ptmx").unwrap();
     let file = std::os::unix::io::AsRawFd::as_raw_fd(&terminal);
+    // SAFETY: the function of C with this name takes the number of any file
     assert_eq!(unsafe { unlockpt(file) }, 0);
     let text = std::fs::read_to_string(format!("/proc/self/fdinfo/{file}")).unwrap();
     let mut lines = text.lines();

@@ -3,7 +3,7 @@
  *
  * The first three bytes of the input say how long chunks are, how much room there is, and which
  * kinds of events are wanted or end a call. Every buffer has exactly its size. */
-#include <stdlib.h>
+#include "../../../../c/tests/check.h"
 #include <string.h>
 #include <vte.h>
 
@@ -46,63 +46,66 @@ static void add_event(const vte_event *event, const uint8_t *bytes, const uint8_
 /* Copies bytes, so that none after them is readable. */
 static uint8_t *copied(const uint8_t *bytes, size_t length) {
     uint8_t *copy = malloc(length ? length : 1);
-    if (copy == NULL) abort();
+    CHECK(copy != NULL);
     return length ? memcpy(copy, bytes, length) : copy;
 }
 
-static void must(int holds) {
-    if (!holds) abort();
+/* A parser, what it reports, and room of exactly this size. */
+typedef struct {
+    vte_parser parser;
+    uint32_t kinds, stops;
+    size_t event_room, room;
+    vte_event *events;
+    uint8_t *written;
+} reader;
+
+static size_t read_events(reader *to, const uint8_t *bytes, size_t length) {
+    vte_counts counts;
+    size_t read = vte_feed(&to->parser, bytes, length, to->kinds, to->stops, to->events,
+                           to->event_room, to->written, to->room, &counts);
+    CHECK(read <= length && (read > 0 || counts.events > 0));
+    CHECK(counts.events <= to->event_room && counts.data <= to->room);
+    for (size_t i = 0; i < counts.events; i++) add_event(&to->events[i], bytes, to->written);
+    return read;
 }
 
-/* Reads the stream in chunks, and returns the sum of its events that count. */
+static size_t read_text(reader *to, const uint8_t *bytes, size_t length) {
+    size_t count, read = vte_strip(&to->parser, bytes, length, to->written, to->room, &count);
+    CHECK(read <= length && (read > 0 || count > 0) && count <= to->room);
+    add_bytes(0, to->written, count);
+    return read;
+}
+
+/* Reads the stream in chunks, and returns the sum of what is reported. */
+static uint64_t sum_of(size_t (*read)(reader *, const uint8_t *, size_t), reader to,
+                       const uint8_t *stream, size_t length, size_t chunk) {
+    to.events = malloc(to.event_room * sizeof *to.events);
+    to.written = malloc(to.room);
+    CHECK(to.events != NULL && to.written != NULL);
+    sum = 0;
+    for (size_t at = 0; at < length; at += chunk) {
+        size_t left = length - at < chunk ? length - at : chunk;
+        uint8_t *bytes = copied(stream + at, left);
+        for (size_t begun = 0; begun < left;) begun += read(&to, bytes + begun, left - begun);
+        free(bytes);
+    }
+    free(to.events);
+    free(to.written);
+    return sum;
+}
+
+/* The sum of the events that count. */
 static uint64_t events(vte_parser parser, const uint8_t *stream, size_t length, size_t chunk,
                        size_t more, uint32_t kinds, uint32_t stops) {
-    size_t room = VTE_MIN_EVENTS + more, data_room = VTE_MIN_DATA + more;
-    vte_event *reported = malloc(room * sizeof *reported);
-    uint8_t *data = malloc(data_room);
-    must(reported != NULL && data != NULL);
-    sum = 0;
-    for (size_t at = 0; at < length; at += chunk) {
-        size_t left = length - at < chunk ? length - at : chunk;
-        uint8_t *bytes = copied(stream + at, left);
-        for (size_t begun = 0; begun < left;) {
-            vte_counts counts;
-            const uint8_t *rest = bytes + begun;
-            size_t read = vte_feed(&parser, rest, left - begun, kinds, stops, reported, room, data,
-                                   data_room, &counts);
-            must(read <= left - begun && (read > 0 || counts.events > 0));
-            must(counts.events <= room && counts.data <= data_room);
-            for (size_t i = 0; i < counts.events; i++) add_event(&reported[i], rest, data);
-            begun += read;
-        }
-        free(bytes);
-    }
-    free(reported);
-    free(data);
-    return sum;
+    reader to = {parser, kinds, stops, VTE_MIN_EVENTS + more, VTE_MIN_DATA + more, NULL, NULL};
+    return sum_of(read_events, to, stream, length, chunk);
 }
 
-/* The sum of the text of the stream. */
+/* The sum of the text. */
 static uint64_t text(vte_parser parser, const uint8_t *stream, size_t length, size_t chunk,
                      size_t more) {
-    size_t room = VTE_MIN_TEXT + more;
-    uint8_t *written = malloc(room);
-    must(written != NULL);
-    sum = 0;
-    for (size_t at = 0; at < length; at += chunk) {
-        size_t left = length - at < chunk ? length - at : chunk;
-        uint8_t *bytes = copied(stream + at, left);
-        for (size_t begun = 0; begun < left;) {
-            size_t count;
-            size_t read = vte_strip(&parser, bytes + begun, left - begun, written, room, &count);
-            must(read <= left - begun && (read > 0 || count > 0) && count <= room);
-            add_bytes(0, written, count);
-            begun += read;
-        }
-        free(bytes);
-    }
-    free(written);
-    return sum;
+    reader to = {parser, 0, 0, 1, VTE_MIN_TEXT + more, NULL, NULL};
+    return sum_of(read_text, to, stream, length, chunk);
 }
 
 int LLVMFuzzerTestOneInput(const uint8_t *input, size_t length) {
@@ -114,18 +117,18 @@ int LLVMFuzzerTestOneInput(const uint8_t *input, size_t length) {
     length -= FRONT;
     counted = all;
     uint64_t whole = events(parser, stream, length, length, 4096, all, 0);
-    must(events(parser, stream, length, chunk, room, all, 0) == whole);
-    must(events(parser, stream, length, chunk, room, all, some) == whole);
+    CHECK(events(parser, stream, length, chunk, room, all, 0) == whole);
+    CHECK(events(parser, stream, length, chunk, room, all, some) == whole);
     counted = some;
     whole = events(parser, stream, length, length, 4096, all, 0);
-    must(events(parser, stream, length, chunk, room, some, input[1]) == whole);
+    CHECK(events(parser, stream, length, chunk, room, some, input[1]) == whole);
     uint64_t whole_text = text(parser, stream, length, length, 4096);
-    must(text(parser, stream, length, chunk, room) == whole_text);
+    CHECK(text(parser, stream, length, chunk, room) == whole_text);
     /* the stream as a parser: whatever it means, its chunks mean the same again */
     memcpy(&parser, stream, length < sizeof parser ? length : sizeof parser);
     counted = all;
     whole = events(parser, stream, length, length, 4096, all, 0);
-    must(events(parser, stream, length, chunk, room, all, some) == whole);
+    CHECK(events(parser, stream, length, chunk, room, all, some) == whole);
     text(parser, stream, length, chunk, room);
     return 0;
 }

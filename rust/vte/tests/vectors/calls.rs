@@ -53,9 +53,11 @@ fn check_order<R: Reader>(name: &str, stream: &[u8], calls: &str) {
 }
 
 /// Checks each act on a processor: its calls, how many bytes are held after it, how often the
-/// timeout was set since it was cleared, and whether the act set or cleared it.
-fn check_acts<R: Reader>(vector: &Value) {
+/// timeout was set since it was cleared, and whether the act set or cleared it. Returns how many
+/// numbers the vector has.
+fn check_acts<R: Reader>(vector: &Value) -> usize {
     let (mut reader, mut lines, name) = (R::default(), CallLines::default(), vector.text("name"));
+    let mut count = 0;
     let answers = vector.text("timeout").to_owned();
     reader.timeout().answers.replace(answers);
     for step in vector.items("steps") {
@@ -70,8 +72,10 @@ fn check_acts<R: Reader>(vector: &Value) {
         assert_eq!(lines.take(), step.lines("calls"), "{name}");
         let timeout = reader.timeout();
         for (field, found) in [("held", reader.held()), ("count", timeout.count)] {
-            let wanted = step.number(field);
-            assert_eq!(wanted.unwrap_or(found), found, "{field} of {name}");
+            if let Some(wanted) = step.number(field) {
+                assert_eq!(wanted, found, "{field} of {name}");
+                count += 1;
+            }
         }
         let acts = timeout.log.borrow().take();
         if step.get("timeouts").is_some() {
@@ -79,6 +83,7 @@ fn check_acts<R: Reader>(vector: &Value) {
             assert_eq!(acts, wanted.replace("clear", "clear_timeout"), "{name}");
         }
     }
+    count
 }
 
 /// The command that has a value's text, as that of the first colour of a palette or as the index of
@@ -97,7 +102,7 @@ fn command_of(vector: &Value) -> (String, String) {
 }
 
 fn check_vectors<R: Reader>() {
-    let (mut count, mut stopped) = (0, 0);
+    let (mut count, mut stopped, mut numbers) = (0, 0, 0);
     for vector in vectors() {
         let (name, stream) = (vector.text("name"), vector.chunks().concat());
         let mut calls = vector.lines("calls");
@@ -111,7 +116,7 @@ fn check_vectors<R: Reader>() {
                 check_stream::<R>(name, command.as_bytes(), &calls);
             }
             "updates" => {
-                check_acts::<R>(&vector);
+                numbers += check_acts::<R>(&vector);
                 let steps = vector.items("steps").iter();
                 calls = steps.map(|step| step.lines("calls")).collect();
                 if vector.text("timeout") == "counting" && !calls.contains("SyncUpdate") {
@@ -127,6 +132,7 @@ fn check_vectors<R: Reader>() {
         count += 1;
     }
     assert!(count > 600, "{count} vectors");
+    assert!(numbers > 100, "{numbers} numbers");
     assert_eq!(stopped, STOPPED.len());
 }
 

@@ -130,8 +130,25 @@ fn commands_are_kept_up_to_a_limit() {
     assert!(without_limit > 0);
 }
 
-/// What is skipped has no command, and doesn't change what is open. As in C and Python, the parser
-/// is asked after some events.
+/// Reads bytes, and skips what is before commands. As in C and Python, the parser is asked after
+/// some events. Returns how many bytes were skipped.
+#[cfg(feature = "__own")]
+fn skip_and_advance(parser: &mut Parser, lines: &mut EventLines, mut bytes: &[u8]) -> usize {
+    let mut skipped = 0;
+    while !bytes.is_empty() {
+        if !parser.is_open() {
+            let count = vte::skip_to_command(bytes);
+            (skipped, bytes) = (skipped + count, &bytes[count..]);
+        }
+        let next = bytes[1..].iter().position(|byte| *byte == 0x1b);
+        let (front, rest) = bytes.split_at(next.map_or(bytes.len(), |at| at + 1));
+        parser.advance(lines, front);
+        bytes = rest;
+    }
+    skipped
+}
+
+/// What is skipped has no command, and doesn't change what is open.
 #[cfg(feature = "__own")]
 #[test]
 fn commands_are_found_by_skipping() {
@@ -147,18 +164,9 @@ fn commands_are_found_by_skipping() {
         for chunks in cuttings(&stream) {
             let (mut all, mut found) = (EventLines::default(), EventLines::default());
             let (mut whole, mut parser) = (Parser::new(), Parser::new());
-            for mut bytes in chunks {
+            for bytes in chunks {
                 whole.advance(&mut all, bytes);
-                while !bytes.is_empty() {
-                    if !parser.is_open() {
-                        let count = vte::skip_to_command(bytes);
-                        (skipped, bytes) = (skipped + count, &bytes[count..]);
-                    }
-                    let next = bytes[1..].iter().position(|byte| *byte == 0x1b);
-                    let (front, rest) = bytes.split_at(next.map_or(bytes.len(), |at| at + 1));
-                    parser.advance(&mut found, front);
-                    bytes = rest;
-                }
+                skipped += skip_and_advance(&mut parser, &mut found, bytes);
                 assert_eq!(parser.open(), whole.open(), "{stream:02x?}");
             }
             assert_eq!(commands(&found), commands(&all), "{stream:02x?}");

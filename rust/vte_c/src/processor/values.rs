@@ -12,11 +12,21 @@ pub fn length_of(text: Option<&str>) -> usize {
     text.map_or(0, str::len)
 }
 
+/// What a colour is.
+#[repr(u8)]
+#[derive(Clone, Copy)]
+enum ColorKind {
+    None,
+    Named,
+    Rgb,
+    Indexed,
+}
+
 /// A colour: what it is, and its number.
 #[repr(C)]
 #[derive(Clone, Copy)]
 pub struct VteColor {
-    kind: u8,
+    kind: ColorKind,
     red: u8,
     green: u8,
     blue: u8,
@@ -24,7 +34,7 @@ pub struct VteColor {
 }
 
 impl VteColor {
-    const fn new(kind: u8, index: u32, rgb: Rgb) -> Self {
+    const fn new(kind: ColorKind, index: u32, rgb: Rgb) -> Self {
         let (red, green, blue) = (rgb.r, rgb.g, rgb.b);
         VteColor {
             kind,
@@ -36,16 +46,18 @@ impl VteColor {
     }
 
     pub const fn of_rgb(rgb: Rgb) -> Self {
-        VteColor::new(2, 0, rgb)
+        VteColor::new(ColorKind::Rgb, 0, rgb)
     }
 
     fn of(color: Option<Color>) -> Self {
         let black = Rgb { r: 0, g: 0, b: 0 };
         match color {
-            None => VteColor::new(0, 0, black),
-            Some(Color::Named(named)) => VteColor::new(1, named as u32, black),
+            None => VteColor::new(ColorKind::None, 0, black),
+            Some(Color::Named(named)) => VteColor::new(ColorKind::Named, named as u32, black),
             Some(Color::Spec(rgb)) => VteColor::of_rgb(rgb),
-            Some(Color::Indexed(index)) => VteColor::new(3, u32::from(index), black),
+            Some(Color::Indexed(index)) => {
+                VteColor::new(ColorKind::Indexed, u32::from(index), black)
+            }
         }
     }
 }

@@ -114,11 +114,14 @@ def test_rules_and_kinds_decide_the_level(level, names):
     assert {classes.level_of(name) for name in names.split()} == {level}
 
 
-def test_a_class_is_a_rule_with_or_without_a_kind():
-    for name in "largest", "largest/numbers", "protocol", "cut:between", "cut:text/data":
-        assert classes.is_class(name)
-    for name in "x", "largest/x", "cut:x", "between", "cut", "/missing":
-        assert not classes.is_class(name)
+@pytest.mark.parametrize("names, is_class", [
+    ("largest largest/numbers protocol cut:between cut:text/data", True),
+    ("x largest/x cut:x between cut /missing", False)])
+def test_a_class_is_a_rule_with_or_without_a_kind(names, is_class):
+    assert [name for name in names.split() if classes.is_class(name) != is_class] == []
+
+
+def test_a_class_has_its_rules():
     assert classes.rule_of("cut:text/data") == [CUT, RULES["text"]]
     assert classes.rule_of("cut:between") == [CUT]
 

@@ -158,3 +158,5 @@ def test_a_runner_counts_what_is_wrong(language, tmp_path):
         assert status == 1 and re.search(rf"(?m)^{wrong} of {len(some)} wrong$", output), output
     none = run("sh", "-c", f"{RUNNERS[language][1]} must should differs <events.json", cwd=tmp_path)
     assert none[0] == 1 and none[1].startswith("0 of 0 wrong\n")
+    wrong_use = {"js": "node run.js", "go": "./runner <run.go"}.get(language, "exit 2")
+    assert run("sh", "-c", wrong_use, cwd=tmp_path)[0] == 2

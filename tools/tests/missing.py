@@ -1,14 +1,14 @@
 """What tests need that may not be there: they fail without it, or are skipped, which tools/test
 lists. tools/run_pytest has this as a plugin."""
-import os
 import shutil
 
 import pytest
+from lib.testing.missing import may_miss
 
 
 def miss(message):
     """Fails for something that isn't there, or says so and skips what needs it."""
-    if os.environ.get("NAQSHUVE_ALLOW_MISSING") != "1":
+    if not may_miss():
         pytest.fail(f"{message}. NAQSHUVE_ALLOW_MISSING=1 lets it pass")
     pytest.skip(message)
 

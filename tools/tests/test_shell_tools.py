@@ -1,6 +1,7 @@
-"""Tests of tools/streams, and of the words of tools that are written in the shell: check_builds,
+"""Tests of tools/streams, of the gate, and of tools that are written in the shell: check_builds,
 install_packages, next_release, release, run_pytest, test_c_library, test_judge and test_python."""
 import re
+import shlex
 import subprocess
 from argparse import ArgumentParser
 from importlib import import_module
@@ -26,7 +27,8 @@ PROGRAMS = {
              'echo "$@" $CARGO_TARGET_X86_64_UNKNOWN_LINUX_GNU_RUNNER',
     "git": "echo $1 >>$ASKED; [ $1 = log ] && echo 1",
     "dpkg-query": 'case " $THERE " in *" $4 "*) echo install ok installed;; esac',
-    "apt-get": "for it; do case $it in update | install | [ab]) echo $it >>$ASKED;; esac; done; "
+    "apt-get": "for it; do case $it in update | install | [ab]) echo $it >>$ASKED;; "
+               "c) echo none; exit 1;; esac; done; "
                '[ "$GATE" = 1 ]',
     "python3": '[ "$1" != -c ] || case $2 in *xdist) exit $NO_XDIST;; '
                '*hypothesis) exit $NO_RANDOM;; *) exit 0;; esac; echo "$@"',
@@ -44,6 +46,8 @@ GATE, ALLOWED = {"GATE": "1"}, {"NAQSHUVE_ALLOW_MISSING": "1"}
 RUNS = {
     "memory": ("check_builds", "memory", {}, 0,
                "test --manifest-path .*--tests .* valgrind .*--error-exit"),
+    "memory without valgrind": ("check_builds", "memory", {"LACKS": "valgrind"}, 1,
+                                "missing: valgrind"),
     "widths without gcc-multilib": ("check_builds", "widths", {}, 1, MISSING),
     "widths without gcc-multilib, allowed": ("check_builds", "widths", ALLOWED, 0, MISSING),
     "help of builds": ("check_builds", "--help", {}, 0, "Checks builds "),
@@ -65,10 +69,13 @@ RUNS = {
     "packages outside the gate": ("install_packages", "a b", {"THERE": "a"}, 1, "$"),
     "packages in the gate": ("install_packages", "a b", {**GATE, "THERE": "a"}, 0,
                              "update install b installing b$"),
+    "a package that isn't anywhere": ("install_packages", "c", GATE, 1,
+                                      "update install installing c none$"),
     "no folder": ("next_release", "", {}, 2, "Puts crates "),
     "help of the next release": ("next_release", "-h", {}, 0, "Puts crates "),
     # what was asked for before isn't fetched again
     "all is there": ("next_release", "folder", {}, 0, rf"{HOMES}/folder/cargo PYTHONPATH=\S+ "),
+    "a blank in the path": ("next_release", "'a folder'", {}, 0, rf"{HOMES}\\ folder/cargo "),
     "a package is there": ("next_release", "folder a", {}, 0, HOMES),
     "a package is fetched": ("next_release", "folder a b", {}, 1, "update$"),
     "cargo has crates": ("next_release", "folder a b", {"HAS_CRATES": "yes"}, 0,
@@ -89,32 +96,96 @@ RUNS = {
 def test_a_tool_obeys_its_words(folder, monkeypatch, tool, words, variables, status, output):
     needed = re.findall(r"(python3|librust)-\{(.*?)\}(-dev)?", (TOOLS / "next_release").read_text())
     had = [f"{begin}-{name}{end}" for begin, names, end in needed for name in names.split(",")]
-    for path, text in {"tools/install_packages": "#!/bin/sh\n[ $1 = valgrind ]\n", "asked": "",
+    for path, text in {"tools/install_packages": "#!/bin/sh\n[ $1 != $LACKS ]\n", "asked": "",
                         "tools/run_pytest": "#!/bin/sh\necho pytest $*\n", **OF_PYTHON,
-                        "folder/had": "\n".join(["a", *had]), "there/file": "",
+                        **dict.fromkeys(("folder/had", "a folder/had"), "\n".join(["a", *had])),
+                        "there/file": "",
                         "rust/vte/Cargo.toml": "", "c/include/vte.h": ""}.items():
         write(path, text, 0o755)
     none = dict.fromkeys(("NAQSHUVE_ALLOW_MISSING", "GATE", "THERE", "HAS_CRATES"), "")
-    for name, value in {**none, "ASKED": f"{folder}/asked", **variables}.items():
+    others = {"LACKS": "gcc-multilib", "ASKED": f"{folder}/asked"}
+    for name, value in {**none, **others, **variables}.items():
         monkeypatch.setenv(name, value)
-    found, lines = run_here(tool, *words.split(), **PROGRAMS)
+    found, lines = run_here(tool, *shlex.split(words), **PROGRAMS)
     found_words = " ".join([*Path("asked").read_text().split(), *lines])
     assert found == status and re.match(output, found_words)
 
 
+# functions that may panic, one for each line that says why
+PANICKING = ["<vte::Machine>::drive_loop", "vte::Store<8>::dispatch", "vte::change_modes",
+             "vte::dispatch_control_sequence", "vte::Engine<P>::stop"]
+
+
+def check_panics(*functions):
+    """The status and the faults of programs in which these functions call a panic."""
+    write("shown", "0001 <vte::quiet>:\n 2:\tcall 3 <core::slice::len>\n" + "".join(
+        f"0000 <{function}::h0123456789abcdef>:\n 1:\tcall 2 <core::panicking::panic>\n"
+        for function in functions))
+    status, lines = run_here("check_builds", "panics", cargo="", objdump="cat shown")
+    return status, [line for line in lines if not re.match("[a-z]+: |these ", line)]
+
+
 # a function that calls a panic, and whether it is known
 @pytest.mark.parametrize("function, is_known", [
-    ("<vte::Machine>::drive_loop", True), ("vte::scan::find_escape", True),
-    ("vte::any::drive_on", False),
-    ("vte::Store<8>::dispatch", True), ("vte::Store::dispatch_all", False),
-    ("<vte::ParamsIter as Iterator>::next", True), ("vte::Params::next", False),
-    ("vte::Engine<P>::stop", True), ("vte::Engine<P>::stops", False), ("other::f", True)])
+    ("vte::scan::find_escape", True), ("vte::any::drive_on", False),
+    ("vte::Store::dispatch_all", False), ("<vte::ParamsIter as Iterator>::next", True),
+    ("vte::Params::next", False), ("vte::Engine<P>::stops", False), ("other::f", True)])
 def test_only_known_functions_may_panic(function, is_known):
-    write("shown", f"0000 <{function}::h0123456789abcdef>:\n 1:\tcall 2 <core::panicking::panic>\n"
-          "0001 <vte::quiet>:\n 2:\tcall 3 <core::slice::len>\n")
-    status, lines = run_here("check_builds", "panics", cargo="", objdump="cat shown")
-    found = [line for line in lines if "::" in line]
-    assert (status, found) == ((0, []) if is_known else (1, [function] * 3))
+    found = check_panics(*PANICKING, function)
+    assert found == ((0, []) if is_known else (1, [function] * 3))
+
+
+@pytest.mark.parametrize("gone", PANICKING)
+def test_each_known_function_may_panic(gone):
+    status, (line,) = check_panics(*(function for function in PANICKING if function != gone))
+    assert status == 1 and re.search(line.removeprefix("nothing may panic as "), gone)
+
+
+def test_calls_of_a_panic_are_seen():
+    status, lines = check_panics("core::slice::len")
+    assert status == 1 and lines.count("objdump shows them in another way") == 3
+
+
+def test_libraries_are_unpacked_whole_or_not_at_all(folder, monkeypatch):
+    """They are fetched again if a package couldn't be unpacked, and if there is another rustc."""
+    monkeypatch.setenv("XDG_CACHE_HOME", f"{folder}/kept")
+    monkeypatch.setenv("NAQSHUVE_ALLOW_MISSING", "")
+    monkeypatch.setenv("ASKED", f"{folder}/asked")
+    write_program("tools/install_packages", "")
+    programs = {
+        "rustc": "echo rustc $RUST",
+        "apt-get": 'case "$*" in *download*) touch a.deb b.deb; echo fetched >>$ASKED;; esac',
+        "dpkg": '[ "$2" != "$3/$FAILS" ] && mkdir -p $3/usr/${2##*/}',
+        "cargo": 'ls ${RUSTFLAGS#*--sysroot=} >>$ASKED; case $RUSTFLAGS in *pointer_width*) '
+                 "echo needs addresses of at least 32 bits; exit 1;; esac"}
+
+    def check(rust, fails=""):
+        monkeypatch.setenv("RUST", rust)
+        monkeypatch.setenv("FAILS", fails)
+        write("asked", "")
+        status, _ = run_here("check_builds", "widths", **programs, edit=lambda text:
+                             text.replace("/usr/bin:", "").replace("/usr/bin/rustc", "rustc"))
+        return status, " ".join(dict.fromkeys(Path("asked").read_text().split()))
+
+    assert check("1.63.0", "b.deb") == (1, "fetched") and not [*Path("kept").rglob("usr")]
+    assert check("1.63.0") == (0, "fetched a.deb b.deb")
+    assert check("1.63.0") == (0, "a.deb b.deb")
+    assert check("1.63.1") == (0, "fetched a.deb b.deb")
+
+
+# the status of `venv`, that of the gate, and where it tests what
+@pytest.mark.parametrize("venv, status, asked", [
+    (0, 7, "{0}/kept/naqshuve/gate/main --strict\n"), (1, 1, "")])
+def test_the_gate_tests_a_copy(folder, monkeypatch, venv, status, asked):
+    for name, text in ("install_packages", "exit 1"), ("test", "echo $PWD $* >>$ASKED; exit 7"):
+        write_program(f"tools/{name}", text)
+    write("asked", "")
+    for name, path in ("XDG_CACHE_HOME", "kept"), ("ASKED", "asked"):
+        monkeypatch.setenv(name, f"{folder}/{path}")
+    found, _ = run_here("../.ci/run", git="echo git", python3=f"exit {venv}",
+                        rsync='for it; do :; done; mkdir "$it" && cp -r tools "$it"',
+                        edit=lambda text: text.replace("/usr/bin/python3", "python3"))
+    assert (found, Path("asked").read_text()) == (status, asked.format(folder))
 
 
 # words for pytest, and the random streams that they ask for

@@ -7,7 +7,7 @@ import sys
 import pytest
 from lib.testing.program import Part
 
-from tests.support import Tool, write, write_program
+from tests.support import TOOLS, Tool, write, write_program
 
 FIRST = [Part("first", "bash", ["try first", "try again"]),
          Part("lacking", "bash no-such-command", ["try lacking"]),
@@ -56,6 +56,7 @@ def run(folder, words, fails=""):
     """Returns the status and the lines of tools/test, and what was tried."""
     for path, text in PROGRAMS.items():
         write_program(path, text)
+    write("tools/lib/shell.sh", (TOOLS / "lib/shell.sh").read_text())
     (folder / "temporary").mkdir()
     asked = write("asked", "")
     variables = {**os.environ, "PATH": f"{folder}/bin:{os.environ['PATH']}",

@@ -5,12 +5,12 @@ Crates come from Debian's next release, by tools/next_release. The profile `fat`
 ship with, `release` is cargo's default, and `checked` compiles fast and has assertions.
 """
 import functools
-import os
-import re
 import shutil
 import subprocess
 import sys
 from pathlib import Path
+
+from lib.testing.machine import read_variables, wrap_in_bash
 
 TOOLS = Path(__file__).resolve().parents[2]
 OURS, KEPT = TOOLS.parent / "rust/vte", TOOLS.parent / "rust/target"
@@ -58,15 +58,13 @@ def build_proved_program(crate, words=()):
 @functools.cache
 def find_crates():
     """Returns the environment in which cargo finds crates."""
-    cache = Path(os.environ.get("XDG_CACHE_HOME") or Path.home() / ".cache") / "naqshuve"
-    said = run([TOOLS / "next_release", cache], "crates of Debian's next release")
-    home = re.search(r"CARGO_HOME=(\S+)", said.decode())
-    return {"CARGO_HOME": home[1]} if home else {}
+    words = wrap_in_bash(". lib/shell.sh; use_next_release; env -0")
+    return read_variables(run(words, "crates of Debian's next release", folder=TOOLS))
 
 
 def make_environment(folder, profile):
     """Returns the environment in which cargo builds into a folder."""
-    return {**os.environ, **find_crates(), "CARGO_TARGET_DIR": str(folder / "target"),
+    return {**find_crates(), "CARGO_TARGET_DIR": str(folder / "target"),
             **{f"CARGO_PROFILE_RELEASE_{name}": value for name, value in PROFILES[profile].items()}}
 
 

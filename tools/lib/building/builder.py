@@ -41,17 +41,22 @@ def stop(message):
     sys.exit(f"{Path(sys.argv[0]).name}: {message}")
 
 
+def is_current(program, top):
+    """Whether a program of crates/ is newer than all sources there, as after `rt ci`."""
+    sources = [top / "crates.txt", *(file for part in ("src", "specs", "proofs")
+                                     for file in top.glob(f"crates/*/{part}/**/*"))]
+    return (program.exists()
+            and program.stat().st_mtime > max(file.stat().st_mtime for file in sources))
+
+
 def build_proved_program(crate, words=()):
-    """Proves and builds a program of crates/, which runs it with these words, unless it is newer
-    than all sources there, as after `rt ci`. Returns its path."""
-    crates = TOOLS.parent / "crates"
-    program = crates / crate / "out" / crate
-    sources = [TOOLS.parent / "crates.txt", *crates.glob("*/src/**/*"),
-               *crates.glob("*/specs/**/*"), *crates.glob("*/proofs/**/*")]
-    newest = max(file.stat().st_mtime for file in sources)
-    if not program.exists() or program.stat().st_mtime <= newest:
+    """Proves and builds a program of crates/, which runs it with these words, unless it is current.
+    Returns its path."""
+    folder = TOOLS.parent / "crates" / crate
+    program = folder / "out" / crate
+    if not is_current(program, TOOLS.parent):
         print(f"proving and building {crate} (a first build takes minutes) ..", file=sys.stderr)
-        run(["rt", "run", *["--"] * bool(words), *words], crate, folder=crates / crate)
+        run(["rt", "run", *["--"] * bool(words), *words], crate, folder=folder)
     return program
 
 

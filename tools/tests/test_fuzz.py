@@ -5,7 +5,7 @@ from pathlib import Path
 
 import pytest
 
-from tests.support import TOOLS, Tool, write_program
+from tests.support import TOOLS, Tool, write, write_program
 
 # what a target does at a difference, or always
 @pytest.mark.parametrize("does, is_found", [
@@ -15,6 +15,17 @@ def test_a_difference_is_found(does, is_found):
     program = write_program("program", f"{{ {does}; }} >&2")
     fuzz = Tool("fuzz", FOLDER=Path.cwd(), DIFFERENCES={"target": [("it", "shown", b"")]})
     assert fuzz.parts["finds_differences"]("target", program) == is_found
+
+
+def test_what_is_built_over_the_stand_in_is_as_the_sources_are(folder):
+    for path in "stand_in/Cargo.toml", "vte/fuzz/src/a.rs", "vte/tests/a.rs", "vte/fuzz/target/a":
+        write(path, path)
+    write("different/fuzz/src/gone.rs", "")
+    fuzz = Tool("fuzz", FUZZ=folder / "vte/fuzz", STAND_IN=folder / "stand_in",
+                DIFFERENT=folder / "different", run_cargo=lambda *_: None)
+    fuzz.parts["build_different"]("readings")
+    files = {str(path.relative_to("different")) for path in Path("different").rglob("*.*")}
+    assert files == {"Cargo.toml", "fuzz/src/a.rs", "tests/a.rs"}
 
 
 # words, the targets and the seconds for each, which functions fail, and the status

@@ -6,8 +6,7 @@ from types import SimpleNamespace
 
 import pytest
 from lib.building import builder
-
-from tests.support import Tool, write
+from lib.testing.support import Tool, write
 
 # ---- the table of bench/count
 

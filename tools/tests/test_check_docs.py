@@ -6,8 +6,7 @@ from types import SimpleNamespace
 
 import pytest
 from lib.documents import Page, Repository
-
-from tests.support import Tool, write
+from lib.testing.support import Tool, write
 
 
 def make_tool(**known):

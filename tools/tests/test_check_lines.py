@@ -3,8 +3,7 @@ import subprocess
 from pathlib import Path
 
 import pytest
-
-from tests.support import Tool, write
+from lib.testing.support import Tool, write
 
 # a file, how a line begins there that goes on with short words, and its longest form, or 0 for any
 LINES = {

@@ -3,9 +3,8 @@ import re
 
 import pytest
 from lib.erasing.plan import Plan
-
-from tests.missing import need
-from tests.support import TOOLS, Tool, write
+from lib.testing.missing import need
+from lib.testing.support import TOOLS, Tool, write
 
 # ---- check_erased
 

@@ -4,8 +4,7 @@ from fnmatch import fnmatchcase
 from pathlib import Path
 
 import pytest
-
-from tests.support import TOOLS, Tool, write, write_program
+from lib.testing.support import TOOLS, Tool, write, write_program
 
 # what a target does at a difference, or always
 @pytest.mark.parametrize("does, is_found", [

@@ -3,8 +3,7 @@ import shutil
 from pathlib import Path
 
 import pytest
-
-from tests.support import TOOLS, Tool, write
+from lib.testing.support import TOOLS, Tool, write
 
 PLAIN, MARK = "crates/event_vectors/src/vectors/plain.rt", "// Written by tools/make_vectors."
 STALE = f"these files aren't up to date; run tools/make_vectors:\n  {PLAIN}"

@@ -6,8 +6,7 @@ from types import SimpleNamespace
 
 import pytest
 from lib.documents import Repository
-
-from tests.support import Tool, write, write_program
+from lib.testing.support import Tool, write, write_program
 
 PATH, MUST_FAIL = "tools/mutants/c/m.edit", "crates/c/must-fail/other.edit"
 MUTANT = "# A rule.\nfile: src/lib.rt\nold: one\nnew: two\n# refused at abc1234 by goal\n"

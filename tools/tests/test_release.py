@@ -5,8 +5,7 @@ import os
 from pathlib import Path
 
 import pytest
-
-from tests.support import TOOLS, Tool, run_here, write, write_program
+from lib.testing.support import TOOLS, Tool, run_here, write, write_program
 
 CHECK = "tools/lib/releasing/check"
 MANIFESTS = ("rust/vtlog/Cargo.toml", "rust/vte_c/Cargo.toml", "python/pyproject.toml",

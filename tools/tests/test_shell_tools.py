@@ -3,16 +3,11 @@ install_packages, next_release, release, run_pytest, test_c_library, test_judge 
 import re
 import shlex
 import subprocess
-from argparse import ArgumentParser
-from importlib import import_module
 from pathlib import Path
-from types import SimpleNamespace
 
-import conftest
 import pytest
 from lib.generating.streams import generate
-
-from tests.support import TOOLS, run_here, write, write_program
+from lib.testing.support import TOOLS, run_here, write, write_program
 
 
 def test_a_stream_is_written_as_generated():
@@ -54,9 +49,9 @@ RUNS = {
     "no such build": ("check_builds", "gone", {}, 2, "Checks builds "),
     "no build": ("check_builds", "", {}, 2, "Checks builds "),
     "pytest side by side": ("run_pytest", "-n 4 a.py -k b", {"NO_XDIST": "0"}, 0,
-                            ".*tests.missing -n 4 a.py -k b$"),
+                            ".*testing.missing -n 4 a.py -k b$"),
     "pytest one by one": ("run_pytest", "-n 4 a.py -k b", {"NO_XDIST": "1"}, 0,
-                          ".*tests.missing a.py -k b$"),
+                          ".*testing.missing a.py -k b$"),
     "words of the judge's tests": ("test_judge", "-k b", {}, 0,
                                    r"pytest -n \d+ \S+/tools/lib/judging/tests -k b$"),
     "Python": ("test_python", "--short", {"NO_RANDOM": "0"}, 0,
@@ -186,20 +181,3 @@ def test_the_gate_tests_a_copy(folder, monkeypatch, venv, status, asked):
                         rsync='for it; do :; done; mkdir "$it" && cp -r tools "$it"',
                         edit=lambda text: text.replace("/usr/bin/python3", "python3"))
     assert (found, Path("asked").read_text()) == (status, asked.format(folder))
-
-
-# words for pytest, and the random streams that they ask for
-@pytest.mark.parametrize("words, count, seed", [
-    ("", 20_000, 1), ("--short", 400, 1), ("--streams 250", 250, 1), ("--seed 7", 20_000, 7)])
-def test_options_choose_the_streams_of_c(monkeypatch, words, count, seed):
-    write_program("tools/run_pytest", "shift; echo $*")
-    assert run_here("test_c_library", *words.split()) == (0, [words])
-    parser, of_c = ArgumentParser(), import_module("test_streams")
-    conftest.pytest_addoption(SimpleNamespace(addoption=parser.add_argument))
-    monkeypatch.setattr(of_c, "make_hostile_stream",
-                        lambda seed, index, *_: [b"%d %d" % (seed, index)])
-    monkeypatch.setattr(of_c, "read_recorded", lambda: [("long", [b"a" * 20_000])])
-    streams = dict(of_c.make_streams(parser.parse_args(words.split())))
-    assert len(streams["long"]) == (4_000 if words == "--short" else 20_000)
-    found = b"\x18".join(streams[name] for name in streams if name.startswith("random"))
-    assert found.split(b"\x18") == [b"%d %d" % (seed, number) for number in range(count)]

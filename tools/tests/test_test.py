@@ -7,8 +7,7 @@ import sys
 import pytest
 from lib.testing import program
 from lib.testing.program import Part
-
-from tests.support import TOOLS, Tool, write, write_program
+from lib.testing.support import TOOLS, Tool, write, write_program
 
 FIRST = [Part("first", "bash", ["try first", "try again"]),
          Part("lacking", "bash no-such-command", ["try lacking"]),

@@ -13,9 +13,9 @@ from lib.judging.cases import Case
 from lib.judging.classes import Difference
 from lib.judging.judgement import Finding, Judgement
 from lib.judging.rules import ALONE, CUT, RULES
+from lib.testing.missing import miss
+from lib.testing.support import write, write_program
 from support import FILES, TOOLS
-from tests.missing import miss
-from tests.support import write, write_program
 
 
 # streams, house rules, and the events under them

@@ -10,7 +10,7 @@ from runpy import run_path
 
 import pytest
 
-TOOLS = Path(__file__).resolve().parents[1]
+TOOLS = Path(__file__).resolve().parents[2]
 
 
 class Tool:

@@ -52,5 +52,5 @@ def is_current(path, text):
 
 
 def drop_layout(text):
-    """Drops the blanks and commas of Rattle that aren't in literals."""
+    """Drops blanks and commas outside literals."""
     return re.sub(r"""('"'|"(?:\\.|[^"\\])*")|[\s,]""", lambda it: it[1] or "", text)

@@ -1,6 +1,4 @@
-# What programs in the shell share, which source this file: the top of this checkout, the user's
-# folder for what is kept between runs, and functions.
-
+# What programs in the shell share, which source this file.
 top=$(cd -- "$(dirname -- "${BASH_SOURCE[0]}")/../.." && pwd)
 cache=${XDG_CACHE_HOME:-~/.cache}/naqshuve
 program=$(readlink -f -- "$0")
@@ -18,10 +16,10 @@ miss() {
     [[ ${NAQSHUVE_ALLOW_MISSING-} == 1 ]]
 }
 
-# is_at_least LEAST VERSION: whether a version isn't older than another.
+# is_at_least LEAST VERSION
 is_at_least() { printf '%s\n' "$@" | sort -CV; }
 
-# use_next_release [NAME..]: lets cargo and pip find packages of Debian's next release.
+# Lets cargo and pip find packages of Debian's next release.
 use_next_release() {
     local words
     words=$("$top/tools/next_release" "$cache" "$@")

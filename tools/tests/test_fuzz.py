@@ -16,15 +16,13 @@ def test_a_difference_is_found(does, is_found):
     assert fuzz.parts["finds_differences"]("target", program) == is_found
 
 
-def test_what_is_built_over_the_stand_in_is_as_the_sources_are(folder):
-    for path in "stand_in/Cargo.toml", "vte/fuzz/src/a.rs", "vte/tests/a.rs", "vte/fuzz/target/a":
-        write(path, path)
-    write("different/fuzz/src/gone.rs", "")
-    fuzz = Tool("fuzz", FUZZ=folder / "vte/fuzz", STAND_IN=folder / "stand_in",
-                DIFFERENT=folder / "different", run_cargo=lambda *_: None)
+def test_a_file_that_is_gone_is_not_built(folder):
+    for path in "vte/fuzz/a", "vte/tests/a", "in/a", "to/gone":
+        write(path, "")
+    fuzz = Tool("fuzz", FUZZ=folder / "vte/fuzz", STAND_IN=folder / "in", DIFFERENT=folder / "to",
+                run_cargo=lambda *_: None)
     fuzz.parts["build_different"]("readings")
-    files = {str(path.relative_to("different")) for path in Path("different").rglob("*.*")}
-    assert files == {"Cargo.toml", "fuzz/src/a.rs", "tests/a.rs"}
+    assert {path.name for path in Path("to").iterdir()} == {"a", "fuzz", "tests"}
 
 
 # words, the targets and the seconds for each, which functions fail, and the status

@@ -194,7 +194,7 @@ def test_all_mutants_are_tried(copy):
     (["--check", "c/m"], "--check takes no folder or names"),
     ([], "a folder outside the repository is needed, for a copy"),
     (["in"], "a folder outside the repository is needed, for a copy"),
-    (["../used"], "the folder has a copy already"),
+    (["../used"], "a folder outside the repository is needed, for a copy"),
     (["../new"], "trying mutants takes rt of a Rattle kit")])
 def test_words_that_mutate_refuses(copy, capsys, monkeypatch, words, output):
     Path("../used/crates").mkdir(parents=True, exist_ok=True)

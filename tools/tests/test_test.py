@@ -106,13 +106,12 @@ def test_what_is_run_and_listed(folder, words, fails, ran, untested, status):
 def test_a_wrong_word_is_reported(folder, words):
     found, lines, tried, errors = run(folder, words)
     assert (found, lines, tried) == (2, [], [])
-    what = "unrecognized arguments:" if words[0] == "-" else "no part is named"
-    assert errors.endswith(f"test: error: {what} {words.split()[-1]}\n")
+    assert re.search(rf"\ntest: error: .* {words.split()[-1]}\n$", errors)
 
 
-def test_a_fault_in_looking_for_what_pip_needs_is_shown(monkeypatch):
+def test_a_fault_in_looking_for_pip_is_shown(monkeypatch):
     for name in "signal.signal", "set_environment", "Machine.find_crates":
-        monkeypatch.setattr(f"lib.testing.program.{name}", lambda *_: None)
+        monkeypatch.setattr(f"lib.testing.program.{name}", print)
     monkeypatch.setattr(program.Machine, "find_pip", lambda *_: 1 / 0)
     with pytest.raises(ZeroDivisionError):
         program.run_groups(([], [], []))

@@ -24,7 +24,7 @@ rows=(
     "644 $PREFIX/share/doc/libvte_c/"{LICENSE-APACHE,LICENSE-MIT,NOTICE}
 )
 
-# link_shared ARCHIVE FILE: links a shared library of all that an archive has.
+# link_shared ARCHIVE FILE
 link_shared() {
     cc -shared -o "$2" "-Wl,-soname,libvte_c.so.$version" \
         -Wl,--whole-archive "$1" -Wl,--no-whole-archive

@@ -5,8 +5,7 @@ import shutil
 
 
 def may_miss():
-    """Whether it is no fault if something that is needed isn't here. `miss` of lib/shell.sh asks
-    the same."""
+    """Whether it is no fault that something isn't here, as `miss` of lib/shell.sh asks, too."""
     return os.environ.get("NAQSHUVE_ALLOW_MISSING") == "1"
 
 

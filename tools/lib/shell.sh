@@ -19,6 +19,13 @@ miss() {
 # is_at_least LEAST VERSION
 is_at_least() { printf '%s\n' "$@" | sort -CV; }
 
+# find_python CODE: sets `python` to one that runs this, or to nothing.
+find_python() {
+    for python in python3 /usr/bin/python3 ''; do
+        ! "${python:-true}" -c "$1" 2>/dev/null || break
+    done
+}
+
 # Lets cargo and pip find packages of Debian's next release.
 use_next_release() {
     local words

@@ -61,10 +61,8 @@ WRONG = {
     "no name": ("`four`", "no source file contains four"),
     "a part that is no name": ("`one::four`", "no source file contains four of one::four"),
     "parts of two files": ("`one.three`", "no source file contains all parts of one.three"),
-    "no quote of Rust": ("```rust\nh();\n```", "no source file contains this line: h();"),
-    "no quote of C": ("```c\nh();\n```", "no source file contains this line: h();"),
-    "no quote of Python": ("```python\nh();\n```", "no source file contains this line: h();"),
-    "no quote of specs": ("```antt\nh();\n```", "no source file contains this line: h();"),
+    **{f"no quote of {name}": (f"```{name}\nh();\n```", "no source file contains this line: h();")
+       for name in ("rust", "c", "python", "antt")},
     "a diff without a file": ("```diff\n-f();\n```", "this diff names no source file"),
     "a diff of no file": ("```diff\n+++ b.rt\n```", "this diff names no source file"),
     "a diff that takes no line": (

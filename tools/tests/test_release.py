@@ -8,9 +8,8 @@ import pytest
 from lib.testing.support import TOOLS, Tool, run_here, write, write_program
 
 CHECK = "tools/lib/releasing/check"
-MANIFESTS = ("rust/vtlog/Cargo.toml", "rust/vte_c/Cargo.toml", "python/pyproject.toml",
-             "python/Cargo.toml")
-CHANGELOGS = "CHANGELOG.md", "rust/vte/CHANGELOG.md"
+MANIFESTS, CHANGELOGS = (Tool("lib/releasing/check").parts[name]
+                         for name in ("MANIFESTS", "CHANGELOGS"))
 # a version in other files: that of the release, or of the C interface
 NAMES_VERSION = {"crates/vtlog/src/main.rt": "1.2.3", "docs/vtlog.1": "1.2.3", "docs/C.md": "7",
                  "vectors/events.json": "1.2.3", "vectors/calls.json": "1.2.3"}

@@ -41,8 +41,7 @@ GATE, ALLOWED = {"GATE": "1"}, {"NAQSHUVE_ALLOW_MISSING": "1"}
 RUNS = {
     "memory": ("check_builds", "memory", {}, 0,
                "test --manifest-path .*--tests .* valgrind .*--error-exit"),
-    "memory without valgrind": ("check_builds", "memory", {"LACKS": "valgrind"}, 1,
-                                "missing: valgrind"),
+    "memory without it": ("check_builds", "memory", {"LACKS": "valgrind"}, 1, "missing: valgrind"),
     "widths without gcc-multilib": ("check_builds", "widths", {}, 1, MISSING),
     "widths without gcc-multilib, allowed": ("check_builds", "widths", ALLOWED, 0, MISSING),
     "help of builds": ("check_builds", "--help", {}, 0, "Checks builds "),

@@ -3,7 +3,7 @@ tools/install, tools/uninstall and tools/build_c_library."""
 from functools import cache
 
 import pytest
-from tests.missing import need
+from lib.testing.missing import need
 
 from library import Library
 

@@ -7,7 +7,7 @@ from concurrent.futures import ThreadPoolExecutor
 from functools import cached_property
 from pathlib import Path
 
-from tests.support import TOOLS
+from lib.testing.support import TOOLS
 
 PROGRAMS = Path(__file__).parent
 EXAMPLES = TOOLS.parent / "c/examples"

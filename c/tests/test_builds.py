@@ -1,7 +1,7 @@
 """The symbols of the library, and programs that refuse memory and use threads."""
 import re
 
-from tests.missing import miss, need
+from lib.testing.missing import miss, need
 
 from library import INCLUDE, PROGRAMS, SANITIZERS, TOOLS, VERSION, output_of, try_compiler
 

@@ -7,7 +7,7 @@ import pytest
 from lib.files import TOP
 from lib.generating.calls import TRAIT, calls_of
 from lib.generating.vectors import bytes_of, expand_lines, read_all_vectors
-from tests.missing import miss, need
+from lib.testing.missing import miss, need
 
 from calling import FUNCTIONS
 from library import PROGRAMS, SANITIZERS, output_of

@@ -4,7 +4,7 @@ import select
 import subprocess
 
 import pytest
-from tests.missing import need
+from lib.testing.missing import need
 
 from library import EXAMPLES, INCLUDE, output_of
 

@@ -6,8 +6,8 @@ import subprocess
 from pathlib import Path
 
 import pytest
-from tests.missing import need
-from tests.support import write_program
+from lib.testing.missing import need
+from lib.testing.support import write_program
 
 from library import EXAMPLES, PROGRAMS, TOOLS, VERSION, output_of
 from test_examples import STREAM, TEXT

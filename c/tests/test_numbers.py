@@ -2,7 +2,7 @@
 import re
 from functools import cache
 
-from tests.missing import need
+from lib.testing.missing import need
 
 from library import INCLUDE, PROGRAMS, TOOLS, output_of
 

@@ -47,5 +47,10 @@ def is_current(path, text):
     """Whether a file has a text, except the layout of Rattle, which is that of `rt fmt`."""
     if text is None or not path.exists():
         return False
-    layout = r"[\s,]" if path.suffix == ".rt" else ""
-    return re.sub(layout, "", path.read_text()) == re.sub(layout, "", text)
+    found = path.read_text()
+    return found == text or path.suffix == ".rt" and drop_layout(found) == drop_layout(text)
+
+
+def drop_layout(text):
+    """Drops blanks and commas outside literals."""
+    return re.sub(r"""('"'|"(?:\\.|[^"\\])*")|[\s,]""", lambda it: it[1] or "", text)

@@ -6,8 +6,7 @@ from types import SimpleNamespace
 
 import pytest
 from lib.building import builder
-
-from tests.support import Tool, write
+from lib.testing.support import Tool, write
 
 # ---- the table of bench/count
 
@@ -59,9 +58,11 @@ def test_a_count_above_its_limit_is_a_fault(count, table, status, faults, counts
     assert count("--check", **table)[:2] == (status, [*faults, last])
 
 
-def test_limits_are_written(count):
-    status, output, text = count(rustc="old", cell="?", kit="")
-    assert (status, output[1:]) == (0, ["3 counts are written"])
+@pytest.mark.parametrize("allowed, wanted", [("1", 0), ("", 1)])
+def test_limits_are_written(count, allowed, wanted):
+    """A column that is missing is kept, and is a fault unless that is allowed."""
+    status, output, text = count(rustc="old", cell="?", kit="", allowed=allowed)
+    assert (status, output[1:]) == (wanted, ["3 counts are written"])
     found, wanted = ([line.split() for line in page.splitlines()[1:]]
                      for page in (text, LIMITS.format("new", "4.000")))
     assert found == wanted

@@ -5,16 +5,19 @@ from pathlib import Path
 from types import SimpleNamespace
 
 import pytest
-from lib.documents import Page, Repository
+from lib.documents import Page, Repository, subjects
+from lib.testing.support import Tool, write
 
-from tests.support import Tool, write
+
+def make_repository(**known):
+    """Returns what is known of a repository other than what this folder has."""
+    repository = Repository(Path.cwd())
+    vars(repository).update(known)
+    return repository
 
 
 def make_tool(**known):
-    """Returns the tool, and what it knows of a repository other than what this folder has."""
-    repository = Repository(Path.cwd())
-    vars(repository).update(known)
-    return Tool("check_docs", REPOSITORY=repository)
+    return Tool("check_docs", REPOSITORY=make_repository(**known))
 
 
 def find_failures(text, run=True, name="page.md"):
@@ -58,10 +61,8 @@ WRONG = {
     "no name": ("`four`", "no source file contains four"),
     "a part that is no name": ("`one::four`", "no source file contains four of one::four"),
     "parts of two files": ("`one.three`", "no source file contains all parts of one.three"),
-    "no quote of Rust": ("```rust\nh();\n```", "no source file contains this line: h();"),
-    "no quote of C": ("```c\nh();\n```", "no source file contains this line: h();"),
-    "no quote of Python": ("```python\nh();\n```", "no source file contains this line: h();"),
-    "no quote of specs": ("```antt\nh();\n```", "no source file contains this line: h();"),
+    **{f"no quote of {name}": (f"```{name}\nh();\n```", "no source file contains this line: h();")
+       for name in ("rust", "c", "python", "antt")},
     "a diff without a file": ("```diff\n-f();\n```", "this diff names no source file"),
     "a diff of no file": ("```diff\n+++ b.rt\n```", "this diff names no source file"),
     "a diff that takes no line": (
@@ -146,18 +147,18 @@ def test_parts_of_crates_are_there(text, wanted):
              "crates/a/src/one/three.rt": "", "crates/b/src/four.rt": "",
              "crates/c/src/five.rt": "", "crates/a/specs/gone.antt": "",
              "rust/a/src/gone.rs": "fn keep() {}"}
-    tool = make_tool(sources={Path(path): source for path, source in files.items()})
+    repository = make_repository(sources={Path(path): text for path, text in files.items()})
     page = f"# Parts\n(`gone`)\n## Crates\n- `a`: `gone`\n## `a` and `b`\n{text}\n## Rust\n(`gone`)"
     wanted = [f"no such part of a, b: {name}" for name in wanted.split()]
-    assert list(tool.parts["check_parts"](page)) == wanted
+    assert list(subjects.check_parts(page, repository)) == wanted
 
 
 def test_each_call_is_named_and_has_an_example():
-    tool = make_tool()
-    write(tool.parts["EXAMPLES"], "Bell")
-    write(tool.parts["TRAIT"], "".join(f"    fn {call}(&mut self)\n" for call in (
+    write(subjects.EXAMPLES, "Bell")
+    write(subjects.TRAIT, "".join(f"    fn {call}(&mut self)\n" for call in (
         "bell", "newline", "put_tab")) + "pub trait HandlerText")
-    assert list(tool.parts["check_calls"]("`bell`, put_tab, `put_tabs`")) == [
+    found = subjects.check_calls("`bell`, put_tab, `put_tabs`", make_repository())
+    assert list(found) == [
         "this call has no name here: put_tab",
         "crates/vte/specs/CallExamples.antt doesn't have PutTab"]
 
@@ -186,8 +187,7 @@ def test_clauses_are_declared(text, wanted):
              "rust/C/src/r.rs": "/// A type five.\nfn g() {}", "rust/C/tests/t.rs": "fn six() {}",
              "crates/C/proofs/P.antt": "pub seven : ℕ"}
     texts = {Path(path): text for path, text in files.items()}
-    tool = make_tool(sources=texts, paths=list(texts))
-    found = list(tool.parts["check_clauses"](text))
+    found = list(subjects.check_clauses(text, make_repository(sources=texts, paths=list(texts))))
     assert found == [f"no module, definition, or clause of what the section names: {word}"
                      for word in wanted.split()]
 
@@ -214,10 +214,10 @@ def test_modules_are_listed_after_those_that_they_import(page, wanted):
              "crates/b/specs/Two.antt": "use Rattle.b.specs.One.{f}\nuse Rattle.a.specs.One as a\n"
                                         "use Rattle.b.specs.Two.{g}",
              "crates/b/specs/private/One.antt": "", "crates/b/specs/private.antt": ""}
-    tool = make_tool(paths=list(map(Path, files)))
     for path, text in files.items():
         write(path, text)
-    found = tool.parts["check_modules"](page + "\n`One`, `Two`")
+    repository = make_repository(paths=list(map(Path, files)))
+    found = subjects.check_modules(page + "\n`One`, `Two`", repository)
     lines = [line.partition(", which")[0] for line in found]
     assert lines == list(filter(None, wanted.split(", ")))
 
@@ -246,7 +246,7 @@ def test_a_commit_is_looked_up_in_a_full_clone(status, output, wanted):
 
 # words, the pages that have a fault, and what is reported: whether commands are run
 @pytest.mark.parametrize("words, faulty, status, reported", [
-    ("", "", 0, ["3 pages, 0 failures"]), ("docs/B.md", "", 2, []),
+    ("", "", 0, ["3 pages, 0 failures"]), ("docs/B.md", "", 2, []), ("/etc/passwd", "", 2, []),
     ("", "A.md", 1, ["docs/A.md:5: False", "3 pages, 1 failures"]),
     ("docs/A.md", "A.md README.md", 1, ["docs/A.md:5: False", "1 pages, 1 failures"]),
     ("--run", "A.md README.md", 1, ["README.md:5: True", "docs/A.md:5: True",

@@ -3,8 +3,7 @@ import subprocess
 from pathlib import Path
 
 import pytest
-
-from tests.support import Tool, write
+from lib.testing.support import Tool, write
 
 # a file, how a line begins there that goes on with short words, and its longest form, or 0 for any
 LINES = {
@@ -23,7 +22,10 @@ LINES = {
 def find_faults(path, text):
     subprocess.run(["git", "init", "-q"], check=True)
     write(path, text)
-    status, printed = Tool("check_lines").run()
+    tool = Tool("check_lines")
+    for name in "LONG_FILES", "LONG_FUNCTIONS", "SEVERAL_LOOPS":
+        tool.parts[name] = {it for it in tool.parts[name] if it.startswith(path)}
+    status, printed = tool.run()
     *found, _ = printed.splitlines()
     assert status == bool(found)
     return found
@@ -36,25 +38,28 @@ def test_how_long_a_line_may_be(path, begin, most):
     assert find_faults(path, f"{line}\n{line}y\n") == wanted
 
 
-FUNCTION, ANY = "f: a function of 47 lines", ""
+FUNCTION, BODY, ANY = "f: a function of 41 lines", "f: a function of 47 lines", ""
 C = ("int g(void);\nstruct s {\n    int a;\n};\n"
-     "int *f(int a,\n       int b) {\n    if (a) {\n    }\n", "    a;\n", "}\n", 41, FUNCTION)
+     "int *f(int a,\n       int b) {\n    if (a) {\n    }\n", "    a;\n", "}\n", 35, FUNCTION)
+LONG = "crates/vte_handler/src/by_call.rt"
 # a file, its beginning, a line, its end, how many such lines it may have, and the fault of more
 LENGTHS = {
     "file": ("x.antt", "", "a\n", "", 400, "a file of 401 lines"),
-    "long file": ("crates/vte_handler/src/by_call.rt", "", "a\n", "", 500, ANY),
+    "long file": (LONG, "", "a\n", "", 500, ANY),
     "erased file": ("rust/x/src/proved/f.rs", "", "a\n", "", 500, ANY),
     "data": ("vectors/x.json", "", "a\n", "", 500, ANY),
-    "Python": ("x.py", "class A:\n    def f(self):\n", "        a\n", "a\n", 45, FUNCTION),
-    "Rust": ("x.rs", "    fn g();\n    fn f(a: [u8; 2])\n    {\n", "        a;\n", "    }\n", 43,
+    "Python": ("x.py", "class A:\n    def f(self):\n", "        a\n", "a\n", 39, FUNCTION),
+    "Rust": ("x.rs", "    fn g();\n    fn f(a: [u8; 2])\n    {\n", "        a;\n", "    }\n", 37,
              FUNCTION),
     "C": ("x.c", *C),
     "header of C": ("x.h", *C),
     "C++": ("x.cpp", *C),
+    "method of C++": ("x.hpp", "class c : public d {\n    int g();\n    int f(int a) const {\n",
+                      "        a;\n", "    }\n};\n", 38, FUNCTION),
     "Rattle, with a contract": (
         "x.rt", "fn g();\nfn f(\n)\n    ensures {\n        b\n    }\n{\n", "    a;\n", "}\n", 44,
-        FUNCTION),
-    "Rattle": ("x.rt", "fn f(\n    b: B,\n) -> [u8; 2] {\n", "    a;\n", "}\n", 44, FUNCTION)}
+        BODY),
+    "Rattle": ("x.rt", "fn f(\n    b: B,\n) -> [u8; 2] {\n", "    a;\n", "}\n", 44, BODY)}
 
 
 @pytest.mark.parametrize("path, begin, line, end, most, wanted", LENGTHS.values(), ids=LENGTHS)
@@ -62,6 +67,11 @@ def test_how_long_files_and_functions_may_be(path, begin, line, end, most, wante
     assert find_faults(path, begin + most * line + end) == []
     longer = begin + (most + 1) * line + end
     assert find_faults(path, longer) == [f"{path}: {wanted}"] * bool(wanted)
+
+
+def test_a_file_that_may_be_long_is_long():
+    assert find_faults(LONG, "a\n" * 400) == [
+        f"{LONG}: it needn't be in a list of tools/check_lines"]
 
 
 LOOP = "    let a = for b in c {\n        d;\n    };\n"

@@ -2,8 +2,8 @@
 import re
 import subprocess
 
-from tests.missing import miss
-from tests.support import Tool, write
+from lib.testing.missing import miss
+from lib.testing.support import Tool, write
 
 ITEMS = """pub fn f(a: u8) -> u8 { a }
 pub struct S<A> { pub b: A, pub c: u8 }

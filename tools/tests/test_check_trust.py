@@ -2,8 +2,7 @@
 import subprocess
 
 import pytest
-
-from tests.support import TOOLS, Tool, write
+from lib.testing.support import TOOLS, Tool, write
 
 CORE, CARGO = "crates/vte_core/src/", "rust/vte/src/proved/vte_core/"
 # a file, its `unsafe`, and a text with just that

@@ -1,11 +1,10 @@
 """Tests of tools/erase, and that tools/check_erased refuses what it says."""
 import re
-import shutil
 
 import pytest
 from lib.erasing.plan import Plan
-
-from tests.support import TOOLS, Tool, write
+from lib.testing.missing import need
+from lib.testing.support import TOOLS, Tool, write
 
 # ---- check_erased
 
@@ -186,8 +185,8 @@ def test_each_folder_is_written():
     assert {plan.folder for plan in Tool("erase").parts["PLANS"]} == folders
 
 
-@pytest.mark.skipif(not shutil.which("rustfmt"), reason="without rustfmt")
 def test_files_have_the_layout_of_rustfmt():
+    need("rustfmt", "the layout of what the eraser writes was not tested")
     format_files = Tool("erase").parts["format_files"]
     assert format_files({"mod.rs": "mod a;", "a.rs": "fn f( ){}"}) == {
         "mod.rs": "mod a;\n", "a.rs": "fn f() {}\n"}

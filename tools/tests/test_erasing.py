@@ -7,8 +7,7 @@ from lib.erasing.patterns import rewrite
 from lib.erasing.plan import Plan
 from lib.erasing.source import Source
 from lib.erasing.tokens import Refused, split
-
-from tests.support import Tool, write
+from lib.testing.support import Tool, write
 
 
 def make_plan(**entries):

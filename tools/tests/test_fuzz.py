@@ -4,8 +4,7 @@ from fnmatch import fnmatchcase
 from pathlib import Path
 
 import pytest
-
-from tests.support import TOOLS, Tool, write_program
+from lib.testing.support import TOOLS, Tool, write, write_program
 
 # what a target does at a difference, or always
 @pytest.mark.parametrize("does, is_found", [
@@ -15,6 +14,15 @@ def test_a_difference_is_found(does, is_found):
     program = write_program("program", f"{{ {does}; }} >&2")
     fuzz = Tool("fuzz", FOLDER=Path.cwd(), DIFFERENCES={"target": [("it", "shown", b"")]})
     assert fuzz.parts["finds_differences"]("target", program) == is_found
+
+
+def test_a_file_that_is_gone_is_not_built(folder):
+    for path in "vte/fuzz/a", "vte/tests/a", "in/a", "to/gone":
+        write(path, "")
+    fuzz = Tool("fuzz", FUZZ=folder / "vte/fuzz", STAND_IN=folder / "in", DIFFERENT=folder / "to",
+                run_cargo=lambda *_: None)
+    fuzz.parts["build_different"]("readings")
+    assert {path.name for path in Path("to").iterdir()} == {"a", "fuzz", "tests"}
 
 
 # words, the targets and the seconds for each, which functions fail, and the status

@@ -9,9 +9,8 @@ from pathlib import Path
 
 import pytest
 from lib.files import TOP
-
-from tests.missing import need
-from tests.support import wait_until, write, write_program
+from lib.testing.missing import need
+from lib.testing.support import wait_until, write, write_program
 
 WHOLE_PATH = os.environ["PATH"]
 # what the launcher may use

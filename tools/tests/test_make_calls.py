@@ -2,8 +2,7 @@
 from pathlib import Path
 
 import pytest
-
-from tests.support import TOOLS, Tool, write
+from lib.testing.support import TOOLS, Tool, write
 
 HEADER = "c/include/vte_handler.h"
 # the ends of each file's lists with a method more, `ring_bells(&mut self, top: u16, text: &str)`

@@ -3,16 +3,17 @@ import shutil
 from pathlib import Path
 
 import pytest
-
-from tests.support import TOOLS, Tool, write
+from lib.testing.support import TOOLS, Tool, write
 
 PLAIN, MARK = "crates/event_vectors/src/vectors/plain.rt", "// Written by tools/make_vectors."
+STALE = f"these files aren't up to date; run tools/make_vectors:\n  {PLAIN}"
 
 
 @pytest.mark.parametrize("old, new, wanted", [
     (None, None, "crates/event_vectors has no table of PlainVector"),
-    ('text: b"\\x0a"', 'text: b"\\x0d"',
-     f"these files aren't up to date; run tools/make_vectors:\n  {PLAIN}"),
+    ('text: b"\\x0a"', 'text: b"\\x0d"', STALE),
+    ('b"a\\x1b[1mb', 'b"a\\x1b[1m b', STALE),
+    ("        name", "name", None),
     ("plain text of nothing", "nothing", f'{PLAIN}: no vector of text has the name "nothing"'),
     ("[PlainVector;", "[Plain;", f"{PLAIN}: 0 tables, and 1 times `{MARK}`"),
     ("// Written by", "// By", f"{PLAIN}: 1 tables, and 0 times `{MARK}`")])

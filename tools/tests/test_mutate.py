@@ -1,12 +1,12 @@
 """Tests of tools/mutate."""
+import os
 import subprocess
 from pathlib import Path
 from types import SimpleNamespace
 
 import pytest
 from lib.documents import Repository
-
-from tests.support import Tool, write
+from lib.testing.support import Tool, write, write_program
 
 PATH, MUST_FAIL = "tools/mutants/c/m.edit", "crates/c/must-fail/other.edit"
 MUTANT = "# A rule.\nfile: src/lib.rt\nold: one\nnew: two\n# refused at abc1234 by goal\n"
@@ -32,8 +32,10 @@ impl<'a> io::Read
 
 
 @pytest.fixture
-def copy(tmp_path_factory):
+def copy(tmp_path_factory, monkeypatch):
     """A folder for a copy, beside that of a crate with a mutant."""
+    write_program("bin/rt", "")
+    monkeypatch.setenv("PATH", f"{Path.cwd()}/bin:{os.environ['PATH']}")
     for file in "crates.txt", "HANDLES", MUST_FAIL, PATH:
         write(file, MUTANT)
     write("crates/c/src/a.rt", "pub struct B<T>(T);\n\nfn e() {}\n")
@@ -173,23 +175,29 @@ def test_a_refusal_becomes_the_verdict(copy, why, goal):
 
 
 @pytest.mark.parametrize("said, line", [
-    ("NOT TRIED", "# refused at abc1200 by old"), ("not refused", "# not refused at abc1234"),
+    ("NOT TRIED", "# refused at abc1200 by old"), ("NOT REFUSED", "# not refused at abc1234"),
     ("refused, as it must be: why", "# not refused at abc1234")])
 def test_a_mutant_without_a_goal_is_not_refused(copy, said, line):
     assert try_one_of_two(copy, said) == (1, line)
 
 
 def test_all_mutants_are_tried(copy):
-    write("tools/mutants/c/n.edit", MUTANT)
+    """The verdict of one of which rt says nothing stays."""
+    other = write("tools/mutants/c/n.edit", MUTANT)
     assert mutate("rt: must-fail c/n.edit: refused, as it must be: `x-y`: why\n", copy) == 1
     assert sorted(file.name for file in copy.rglob("*.edit")) == ["m.edit", "n.edit"]
+    assert other.read_text() == MUTANT.replace("goal", "x-y") and Path(PATH).read_text() == MUTANT
 
 
 @pytest.mark.parametrize("words, output", [
     (["folder", "c/gone"], "there is no mutant c/gone"),
     (["--check", "c/m"], "--check takes no folder or names"),
     ([], "a folder outside the repository is needed, for a copy"),
-    (["in"], "a folder outside the repository is needed, for a copy")])
-def test_words_that_mutate_refuses(copy, capsys, words, output):
+    (["in"], "a folder outside the repository is needed, for a copy"),
+    (["../used"], "a folder outside the repository is needed, for a copy"),
+    (["../new"], "trying mutants takes rt of a Rattle kit")])
+def test_words_that_mutate_refuses(copy, capsys, monkeypatch, words, output):
+    Path("../used/crates").mkdir(parents=True, exist_ok=True)
+    monkeypatch.setenv("PATH", "")
     assert mutate("", *words) == 2
     assert capsys.readouterr().err.endswith(f"error: {output}\n")

@@ -5,13 +5,11 @@ import os
 from pathlib import Path
 
 import pytest
-
-from tests.support import TOOLS, Tool, run_here, write, write_program
+from lib.testing.support import TOOLS, Tool, run_here, write, write_program
 
 CHECK = "tools/lib/releasing/check"
-MANIFESTS = ("rust/vtlog/Cargo.toml", "rust/vte_c/Cargo.toml", "python/pyproject.toml",
-             "python/Cargo.toml")
-CHANGELOGS = "CHANGELOG.md", "rust/vte/CHANGELOG.md"
+MANIFESTS, CHANGELOGS = (Tool("lib/releasing/check").parts[name]
+                         for name in ("MANIFESTS", "CHANGELOGS"))
 # a version in other files: that of the release, or of the C interface
 NAMES_VERSION = {"crates/vtlog/src/main.rt": "1.2.3", "docs/vtlog.1": "1.2.3", "docs/C.md": "7",
                  "vectors/events.json": "1.2.3", "vectors/calls.json": "1.2.3"}
@@ -57,6 +55,7 @@ def test_a_wrong_version_is_reported(path, old, new, reported):
     assert run_here("release", "--check", git="exit 1") == (1, [wanted, "1 faults"])
 
 
+UNUSED = "use: a fresh machine could not use the release"
 # what makes a release, what uses it on a fresh machine, and what is reported
 RELEASES = {
     "right": ("", "", []),
@@ -66,25 +65,28 @@ RELEASES = {
     "made by the machine's mask": (
         "umask >mask", "", ["release: the second differs from the first"]),
     "changed": ("echo b >a", "", ["release: a sum is wrong"]),
-    "not used": ("", "exit 1", ["use: a fresh machine could not use the release"]),
+    "not used": ("", "exit 1", [UNUSED]),
     "used with its files": (
         "", '[ "$1 $2 $4 $5 $6" = "--with pkg-config ./try_release 1.2.3 7" ] && cd $3 && '
         '[ "$(echo $(git ls-files))" = "SHA256SUMS a program.c program.rs try_release" ]', [])}
 
 
+@pytest.mark.parametrize("allowed", ["1", ""])
 @pytest.mark.parametrize("make, use, reported", RELEASES.values(), ids=RELEASES)
-def test_a_release_is_made_twice_and_used(folder, monkeypatch, make, use, reported):
+def test_a_release_is_made_twice_and_used(folder, monkeypatch, make, use, reported, allowed):
     write_program("tools/release", "mkdir $1 && cd $1 && echo a >a && "
                   f"sha256sum a >SHA256SUMS; {make}")
     monkeypatch.setenv("FRESH_MACHINE", str(write_program("machine", use)) if use else "")
     monkeypatch.setattr(os, "geteuid", lambda: 0)
     monkeypatch.setenv("COMPILED_CRATES", "")
+    monkeypatch.setenv("NAQSHUVE_ALLOW_MISSING", allowed)
     tool = Tool("lib/releasing/check", check_versions=lambda *_: [])
     for path in tool.parts["PROGRAMS"]:
         write(path, "")
     status, output = tool.run("0.15.0+naqshuve.1.2.3", "7", str(folder))
     missing = ["missing: root and $FRESH_MACHINE, so no fresh machine has used the release"]
     is_missing = not use and reported[:1] != ["release: it was not made"]
+    reported = [*reported, *[UNUSED] * (is_missing and not allowed)]
     assert output.splitlines() == [*missing * is_missing, *reported, f"{len(reported)} faults"]
     assert status == (1 if reported else 0)
 

@@ -5,9 +5,9 @@ import subprocess
 import sys
 
 import pytest
+from lib.testing import program
 from lib.testing.program import Part
-
-from tests.support import Tool, write, write_program
+from lib.testing.support import TOOLS, Tool, write, write_program
 
 FIRST = [Part("first", "bash", ["try first", "try again"]),
          Part("lacking", "bash no-such-command", ["try lacking"]),
@@ -53,9 +53,10 @@ PACKAGES = {LACKING: "no-such-command", LEFT_OUT: "no-such-tool"}
 
 
 def run(folder, words, fails=""):
-    """Returns the status and the lines of tools/test, and what was tried."""
+    """Returns the status and the lines of tools/test, what was tried, and its errors."""
     for path, text in PROGRAMS.items():
         write_program(path, text)
+    write("tools/lib/shell.sh", (TOOLS / "lib/shell.sh").read_text())
     (folder / "temporary").mkdir()
     asked = write("asked", "")
     variables = {**os.environ, "PATH": f"{folder}/bin:{os.environ['PATH']}",
@@ -64,7 +65,7 @@ def run(folder, words, fails=""):
                           capture_output=True, text=True)
     assert not any((folder / "temporary").iterdir())
     lines = [re.sub(r"^ *\d+ s ", "", line) for line in done.stdout.splitlines()]
-    return done.returncode, lines, asked.read_text().split()
+    return done.returncode, lines, asked.read_text().split(), done.stderr
 
 
 def list_sums(ran, fails, untested):
@@ -87,7 +88,7 @@ def list_sums(ran, fails, untested):
 
 @pytest.mark.parametrize("words, fails, ran, untested, status", CASES.values(), ids=CASES)
 def test_what_is_run_and_listed(folder, words, fails, ran, untested, status):
-    found, lines, tried = run(folder, words, fails)
+    found, lines, tried, _ = run(folder, words, fails)
     ran = ran.split()
     # after a command that failed, the others of a part are run
     commands = [*ran, "again"] if "first" in ran else ran
@@ -101,9 +102,19 @@ def test_what_is_run_and_listed(folder, words, fails, ran, untested, status):
         assert (f"said by {name}" in lines) == (name in (fails, "proofs"))
 
 
-@pytest.mark.parametrize("words", ["unknown", "first unknown", "fir.t", "bash"])
-def test_a_name_of_no_part_is_reported(folder, words):
-    assert run(folder, words) == (2, [f"test: no part is named {words.split()[-1]}"], [])
+@pytest.mark.parametrize("words", ["unknown", "first unknown", "fir.t", "bash", "--unknown"])
+def test_a_wrong_word_is_reported(folder, words):
+    found, lines, tried, errors = run(folder, words)
+    assert (found, lines, tried) == (2, [], [])
+    assert re.search(rf"\ntest: error: .* {words.split()[-1]}\n$", errors)
+
+
+def test_a_fault_in_looking_for_pip_is_shown(monkeypatch):
+    for name in "signal.signal", "set_environment", "Machine.find_crates":
+        monkeypatch.setattr(f"lib.testing.program.{name}", print)
+    monkeypatch.setattr(program.Machine, "find_pip", lambda *_: 1 / 0)
+    with pytest.raises(ZeroDivisionError):
+        program.run_groups(([], [], []))
 
 
 if __name__ == "__main__":

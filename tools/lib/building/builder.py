@@ -5,12 +5,12 @@ Crates come from Debian's next release, by tools/next_release. The profile `fat`
 ship with, `release` is cargo's default, and `checked` compiles fast and has assertions.
 """
 import functools
-import os
-import re
 import shutil
 import subprocess
 import sys
 from pathlib import Path
+
+from lib.testing.machine import read_variables, wrap_in_bash
 
 TOOLS = Path(__file__).resolve().parents[2]
 OURS, KEPT = TOOLS.parent / "rust/vte", TOOLS.parent / "rust/target"
@@ -41,32 +41,35 @@ def stop(message):
     sys.exit(f"{Path(sys.argv[0]).name}: {message}")
 
 
+def is_current(program, top):
+    """Whether a program of crates/ is newer than all sources there, as after `rt ci`."""
+    sources = [top / "crates.txt", *(file for part in ("src", "specs", "proofs")
+                                     for file in top.glob(f"crates/*/{part}/**/*"))]
+    return (program.exists()
+            and program.stat().st_mtime > max(file.stat().st_mtime for file in sources))
+
+
 def build_proved_program(crate, words=()):
-    """Proves and builds a program of crates/, which runs it with these words, unless it is newer
-    than all sources there, as after `rt ci`. Returns its path."""
-    crates = TOOLS.parent / "crates"
-    program = crates / crate / "out" / crate
-    sources = [TOOLS.parent / "crates.txt", *crates.glob("*/src/**/*"),
-               *crates.glob("*/specs/**/*"), *crates.glob("*/proofs/**/*")]
-    newest = max(file.stat().st_mtime for file in sources)
-    if not program.exists() or program.stat().st_mtime <= newest:
+    """Proves and builds a program of crates/, which runs it with these words, unless it is current.
+    Returns its path."""
+    folder = TOOLS.parent / "crates" / crate
+    program = folder / "out" / crate
+    if not is_current(program, TOOLS.parent):
         print(f"proving and building {crate} (a first build takes minutes) ..", file=sys.stderr)
-        run(["rt", "run", *["--"] * bool(words), *words], crate, folder=crates / crate)
+        run(["rt", "run", *["--"] * bool(words), *words], crate, folder=folder)
     return program
 
 
 @functools.cache
 def find_crates():
     """Returns the environment in which cargo finds crates."""
-    cache = Path(os.environ.get("XDG_CACHE_HOME") or Path.home() / ".cache") / "naqshuve"
-    said = run([TOOLS / "next_release", cache], "crates of Debian's next release")
-    home = re.search(r"CARGO_HOME=(\S+)", said.decode())
-    return {"CARGO_HOME": home[1]} if home else {}
+    words = wrap_in_bash(". lib/shell.sh; use_next_release; env -0")
+    return read_variables(run(words, "crates of Debian's next release", folder=TOOLS))
 
 
 def make_environment(folder, profile):
     """Returns the environment in which cargo builds into a folder."""
-    return {**os.environ, **find_crates(), "CARGO_TARGET_DIR": str(folder / "target"),
+    return {**find_crates(), "CARGO_TARGET_DIR": str(folder / "target"),
             **{f"CARGO_PROFILE_RELEASE_{name}": value for name, value in PROFILES[profile].items()}}
 
 

@@ -6,6 +6,7 @@ import subprocess
 import sys
 from pathlib import Path
 
+from lib.building.builder import is_current
 from lib.files import TOP
 from lib.judging.definition import lines_of
 from lib.judging.house import DEFAULT
@@ -54,14 +55,14 @@ class Reference:
 
 def find_vtlog(named=None):
     """Finds the program: the named one, $VTLOG, the one of this repository, which cargo keeps up to
-    date, or the one that is installed."""
+    date, the proved one if it is newer than its sources, or the one that is installed."""
     named = named or os.environ.get("VTLOG")
     if named:
         if not os.access(named, os.X_OK) or Path(named).is_dir():
             raise NoReference(f"not a program: {named}")
         return str(Path(named).resolve())
     proved = TOP / "crates/vtlog/out/vtlog"
-    found = build_by_cargo() or (proved if proved.is_file() else shutil.which("vtlog"))
+    found = build_by_cargo() or (proved if is_current(proved, TOP) else shutil.which("vtlog"))
     if not found:
         raise NoReference("there is no vtlog: give --vtlog PROGRAM, install cargo 1.63 or later, "
                           "or build it with ./vtlog")

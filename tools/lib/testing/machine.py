@@ -13,8 +13,7 @@ METADATA = "cargo metadata --format-version 1 --manifest-path"
 # cargo finds its crates
 HAS_CRATES = f"{METADATA} rust/vte/Cargo.toml"
 # the same, with packages of Debian's next release, and the variables that let it find them
-NEXT_RELEASE = f"""words=$(tools/next_release "${{XDG_CACHE_HOME:-$HOME/.cache}}/naqshuve")
-eval "$words"; {HAS_CRATES} >&2; env -0"""
+NEXT_RELEASE = f". tools/lib/shell.sh; use_next_release; {HAS_CRATES} >&2; env -0"
 # pip finds what builds ./python, cargo its crates, and venv what it puts into each environment
 HAS_PIP = f"""{METADATA} python/Cargo.toml
 python3 -c 'import ensurepip'
@@ -29,6 +28,11 @@ def ask_bash(command):
     """Returns what a command prints, if it succeeds."""
     done = subprocess.run(wrap_in_bash(command), stdin=subprocess.DEVNULL, capture_output=True)
     return done.stdout if done.returncode == 0 else None
+
+
+def read_variables(words):
+    """Reads what `env -0` prints."""
+    return dict(word.split("=", 1) for word in words.decode().split("\0") if word)
 
 
 def ask_version(rustc):
@@ -72,7 +76,7 @@ class Machine:
         release."""
         self.has_crates = ask_bash(HAS_CRATES) is not None
         if not self.has_crates and (words := ask_bash(NEXT_RELEASE)):
-            os.environ.update(word.split("=", 1) for word in words.decode().split("\0") if word)
+            os.environ.update(read_variables(words))
             self.has_crates = True
         os.environ["HAS_CRATES"] = "yes" if self.has_crates else "no"
 

@@ -6,6 +6,7 @@ import tempfile
 from concurrent.futures import ThreadPoolExecutor
 from dataclasses import dataclass
 
+from lib.files import parser_of
 from lib.testing.machine import Machine
 from lib.testing.report import Report
 from lib.testing.runner import Runner, count_cores
@@ -54,8 +55,9 @@ def run_groups(groups):
         machine.find_crates()
         needs_pip = any("pip" in f"{part.needs} {part.optional}".split() for part in later)
         with ThreadPoolExecutor(1) as pool:
-            pool.submit(machine.find_pip, needs_pip)
+            looking = pool.submit(machine.find_pip, needs_pip)
             runner.run_all(first)
+            looking.result()
         runner.run_all(later, last)
         report.show()
     return report
@@ -64,18 +66,16 @@ def run_groups(groups):
 def run_tests(words, about, top, groups):
     """Runs the parts that words name, or all of three groups, in the folder `top`, as the text
     `about` says, and returns the status."""
-    is_strict = words[:1] == ["--strict"]
-    names = words[is_strict:]
-    if names and names[0].startswith("-"):
-        print(about.strip())
-        return 0 if names[0] in ("-h", "--help") else 2
-    for name in names:
-        if name not in (part.name for group in groups for part in group):
-            print(f"test: no part is named {name}")
-            return 2
+    parser = parser_of(about, prog="test")
+    parser.add_argument("--strict", action="store_true", help="let nothing be left out")
+    parser.add_argument("names", nargs="*", metavar="NAME", help="a part (default: all)")
+    options = parser.parse_args(words)
+    names, parts = options.names, {part.name for group in groups for part in group}
+    if unknown := [name for name in names if name not in parts]:
+        parser.error(f"no part is named {unknown[0]}")
     os.chdir(top)
     asked = [[part for part in group if not names or part.name in names] for group in groups]
     report = run_groups(asked)
     was_run = len(report.ended) == sum(map(len, asked))
-    is_complete = not report.missing if is_strict else not names or was_run
+    is_complete = not report.missing if options.strict else not names or was_run
     return 0 if is_complete and report.count("FAILED") == 0 else 1

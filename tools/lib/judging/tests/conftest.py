@@ -2,8 +2,8 @@ import sys
 
 import pytest
 from lib.judging.reference import NoReference, find_vtlog
+from lib.testing.missing import miss
 from support import TOOLS, run
-from tests.missing import miss
 
 
 @pytest.fixture(scope="session")

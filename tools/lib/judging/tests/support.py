@@ -6,7 +6,7 @@ from types import SimpleNamespace
 
 from lib.judging import definition, house, views
 from lib.judging.judgement import Judge
-from tests.support import TOOLS
+from lib.testing.support import TOOLS
 
 VECTORS = TOOLS.parent / "vectors"
 TOY = Path(__file__).with_name("toy.py")

@@ -13,9 +13,9 @@ from lib.judging.cases import Case
 from lib.judging.classes import Difference
 from lib.judging.judgement import Finding, Judgement
 from lib.judging.rules import ALONE, CUT, RULES
+from lib.testing.missing import miss
+from lib.testing.support import write, write_program
 from support import FILES, TOOLS
-from tests.missing import miss
-from tests.support import write, write_program
 
 
 # streams, house rules, and the events under them
@@ -183,8 +183,11 @@ def test_a_vtlog_of_this_repository_comes_before_others(tmp_path, monkeypatch):
     assert [find("built", True), find(None, True)] == ["built", "/bin/installed"]
     with pytest.raises(reference.NoReference, match="there is no vtlog"):
         find(None, False)
-    write(proved, "")
-    assert [find("built", True), find(None, True)] == ["built", str(proved)]
+    sources = write(tmp_path / "crates.txt", "")
+    os.utime(write(proved, ""), (0, 2))
+    for changed, used in (1, str(proved)), (2, "/bin/installed"):
+        os.utime(sources, (0, changed))
+        assert [find("built", True), find(None, True)] == ["built", used]
 
 
 def test_the_vtlog_of_this_repository_is_built(tmp_path, monkeypatch, capsys):

@@ -9,8 +9,8 @@ import sys
 import pytest
 from lib.judging import candidate
 from lib.judging.cases import read_recorded_cases
+from lib.testing.support import wait_until, write_program
 from support import TOOLS, TOY, run
-from tests.support import wait_until, write_program
 
 
 def make_toy_words(fault=None, chunks=True, once=False):

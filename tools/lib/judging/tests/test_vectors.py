@@ -12,8 +12,8 @@ from heads import head_of
 from lib.generating.vectors import bytes_of, expand_lines
 from lib.judging import definition
 from lib.judging.house import House
+from lib.testing.missing import miss, need
 from support import EVENTS, FILES, NAMES, VECTORS, run
-from tests.missing import miss, need
 
 each_file = pytest.mark.parametrize("file", FILES, ids=NAMES)
 # how many vectors of each list are in place, with ids that stay, and a sum of these ids: new ones

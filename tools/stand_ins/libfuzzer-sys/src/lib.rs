@@ -7,7 +7,7 @@ macro_rules! fuzz_target {
         fn try_input($input: &[u8]) $body
 
         #[no_mangle]
-        pub extern "C" fn LLVMFuzzerTestOneInput(bytes: *const u8, count: usize) -> i32 {
+        extern "C" fn LLVMFuzzerTestOneInput(bytes: *const u8, count: usize) -> i32 {
             // SAFETY: libFuzzer passes an array, which has a place even if it is empty
             try_input(unsafe { std::slice::from_raw_parts(bytes, count) });
             0

@@ -9,6 +9,7 @@ from lib.files import list_files
 
 SOURCES = {".rt", ".antt", ".rs", ".py", ".h", ".hpp", ".c", ".cpp", ".sh", ".toml", ".txt",
            ".edit", ""}
+NAME = re.compile(r"[A-Za-z_]\w*(?:(?:::|\.)[A-Za-z_]\w*)*(?:\(\)|!)?")
 FILE = re.compile(r"[\w*-][\w.*-]*")
 PATH = re.compile(r"[\w.*-]*/[\w.*/-]*")
 BUILT = re.compile(r"(^|/)(out|target)/|\b[A-Z]{4,}\b")

@@ -1,14 +1,19 @@
-"""What tests need that may not be there: they fail without it, or are skipped, which tools/test
-lists. tools/run_pytest has this as a plugin."""
+"""What may be missing on a machine: tests fail without it, or are skipped, which tools/test lists.
+tools/run_pytest has this as a plugin."""
 import os
 import shutil
 
-import pytest
+
+def may_miss():
+    """Whether it is no fault that something isn't here, as `miss` of lib/shell.sh asks, too."""
+    return os.environ.get("NAQSHUVE_ALLOW_MISSING") == "1"
 
 
 def miss(message):
     """Fails for something that isn't there, or says so and skips what needs it."""
-    if os.environ.get("NAQSHUVE_ALLOW_MISSING") != "1":
+    # tools that test by themselves do without
+    import pytest
+    if not may_miss():
         pytest.fail(f"{message}. NAQSHUVE_ALLOW_MISSING=1 lets it pass")
     pytest.skip(message)
 

@@ -10,7 +10,7 @@ from runpy import run_path
 
 import pytest
 
-TOOLS = Path(__file__).resolve().parents[1]
+TOOLS = Path(__file__).resolve().parents[2]
 
 
 class Tool:
@@ -56,6 +56,7 @@ def wait_until(condition, message=""):
 def run_here(tool, *words, edit=str, **programs):
     """The status and lines of an edited shell tool here, which finds these programs first."""
     write(f"tools/{tool}", edit((TOOLS / tool).read_text()), 0o755)
+    write("tools/lib/shell.sh", (TOOLS / "lib/shell.sh").read_text())
     for name, text in programs.items():
         write_program(f"bin/{name}", text)
     done = subprocess.run([f"tools/{tool}", *words], stdout=subprocess.PIPE, text=True,

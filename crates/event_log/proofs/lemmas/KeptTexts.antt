@@ -2,7 +2,7 @@
 -- a chunk fits whatever its bytes are (`text-kept`), and a run of it is taken at once (`run-taken`).
 use Rattle.std.proofs.Math.Utf8.{encodes}
 use Rattle.std.specs.Char.{encode_utf8}
-use Rattle.event_log.proofs.Common.{added, AddsUpTo, after, ap, append_assoc, arith, Bool, breaks_at, capacity, chars, CollectedText, default_limit, drop, empty_text, encode_ascii, encodes-chars, Event, false, flat_map, GoesOnFromPositions, HasKept, HasRead, hex_character, hex_digit, hex_digits, hex_length, if◌then◌else◌, is_layout, is_to_be_written, IsUtf8, length, line_of, List, map, Parser, plain_text_of, Print, refl, replacement, reported_before, ReportsUnits, resumed_stream, run_event, StopsExactly, suc, sym, true, with_event, with_text, zero, ℕ, [], ◌*◌, ◌++◌, ◌+◌, ◌-◌, ◌<◌, ◌∙◌, ◌∷◌, ◌≡◌, ◌≤◌}
+use Rattle.event_log.proofs.Common.{added, AddsUpTo, after, ap, append_assoc, arith, Bool, breaks_at, capacity, chars, CollectedText, default_limit, drop, empty_text, encode_ascii, encodes-chars, Event, false, flat_map, GoesOnFromPositions, HasKept, HasRead, hex_character, hex_digit, hex_digits, hex_length, if◌then◌else◌, is_layout, is_to_be_written, IsUtf8, length, line_of, List, map, Parser, plain_text_of, Print, refl, replacement, reported_before, ReportsUnits, resumed_stream, run_event, StopsExactly, suc, sym, true, with_event, with_text, zero, ℕ, [], ◌*◌, ◌++◌, ◌+◌, ◌<◌, ◌∙◌, ◌∷◌, ◌≡◌, ◌≤◌}
 use Rattle.event_log.proofs.lemmas.CollectedTexts.{collected_bytes, kept-by_call, reported-taken, room-for_unit, text-taken_as_events, texts-taken}
 use Rattle.event_log.proofs.lemmas.Lengths.{BytesAreBrief, line_units_fit, text_grows_slowly}
 use Rattle.vte_core.proofs.lemmas.bytes.Runs.{layout-is_ascii}

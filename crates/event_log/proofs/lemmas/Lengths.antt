@@ -1,7 +1,7 @@
 -- How long the text of an event is, part by part, and how many events bytes add: at most two each. So the text of bytes
 -- is at most eight times as long as they are (`text_grows_slowly`).
 use Rattle.std.proofs.lemmas.List.Sums.{sum_by-cons}
-use Rattle.event_log.proofs.Common.{added, All, All-head, All-tail, AllFitU16, AreBrief, AreGroups, arith, Bool, codes, concat, count_of, CsiDispatch, decimal, default_limit, EscDispatch, Event, Execute, false, FitsU16, flag_field, flat_map, group_text, hex_byte, hex_character, hex_digits, hex_field, hex_length, Hook, if◌then◌else◌, is_layout, IsBounded, IsNonEmpty, join_with_byte, len_utf8_bounds, length, length-append, length-decimal-le, length-encode, line_feed, line_of, List, map, max, nat_tests, OscDispatch, pieces_fields, plain_text_of, Print, refl, semicolon, sequence_fields, shown, suc, true, zero, ℕ, [], ◌*◌, ◌++◌, ◌+◌, ◌-◌, ◌/◌, ◌<◌, ◌∷◌, ◌≡◌, ◌≤◌}
+use Rattle.event_log.proofs.Common.{added, All, All-head, All-tail, AllFitU16, AreBrief, AreGroups, arith, Bool, codes, concat, count_of, CsiDispatch, decimal, default_limit, EscDispatch, Event, Execute, false, FitsU16, flag_field, flat_map, group_text, hex_byte, hex_character, hex_digits, hex_field, hex_length, Hook, if◌then◌else◌, is_layout, IsBounded, IsNonEmpty, join_with_byte, len_utf8_bounds, length, length-append, length-decimal-le, length-encode, line_feed, line_of, List, map, max, nat_tests, OscDispatch, pieces_fields, plain_text_of, Print, refl, semicolon, sequence_fields, shown, suc, true, zero, ℕ, [], ◌*◌, ◌++◌, ◌+◌, ◌/◌, ◌<◌, ◌∷◌, ◌≡◌, ◌≤◌}
 use Rattle.event_log.proofs.lemmas.CollectedTexts.{max_of_character_line, max_of_line, UnitsFit}
 use Rattle.vte_core.proofs.lemmas.streams.After.{added-nothing}
 use Rattle.vte_core.proofs.lemmas.streams.EarlyStops.{added-append}

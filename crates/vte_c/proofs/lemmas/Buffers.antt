@@ -3,7 +3,7 @@
 -- (`entries-unit_more`), and a run of the input (`entries-run`).
 use Rattle.std.proofs.lemmas.List.Folds.{list_any-append}
 use Rattle.std.proofs.Math.Bool.{or-false, or_assoc}
-use Rattle.vte_c.proofs.Common.{add-zero, after, any_of_kinds, ap, append-nil, append_assoc, AreaHolds, AreBrief, AreReadable, arith, AtMostOneFollowsStop, Bool, Buffers, buffers_of, buffers_with_event, cases_Bool, contains_kind, CsiDispatch, data_of, DataRun, default_limit, Entry, entry_data, EscDispatch, Event, event_kind, EventWriter, Execute, false, filter-append, flag_byte, flat_map, flat_map-append, has_room_for_record, HasEntries, Hook, if◌then◌else◌, InInput, inl, InputRunKind, inr, IsBounded, IsRunAt, kinds_of, length, length-append, length-map, List, map, map-append, max_data_per_byte, may_have_lost, must_return, nat_lt, nat_tests, NoRecordStops, or_parts, OscDispatch, Print, Put, record_at, records_from, refl, resumed, run_kind, run_record, Single, subst, sym, take, TextRun, true, Unhook, VteEvent, wanted_events, with_entries, with_record, with_record_alone, without_loss, ℕ, [], ◌%◌, ◌++◌, ◌+◌, ◌∙◌, ◌∷◌, ◌≡◌, ◌≤◌}
+use Rattle.vte_c.proofs.Common.{add-zero, after, any_of_kinds, ap, append-nil, append_assoc, AreaHolds, AreBrief, AreReadable, arith, AtMostOneFollowsStop, Bool, Buffers, buffers_of, buffers_with_event, cases_Bool, contains_kind, data_of, DataRun, default_limit, Entry, entry_data, Event, event_kind, EventWriter, false, filter-append, flag_byte, flat_map, flat_map-append, has_room_for_record, HasEntries, if◌then◌else◌, InInput, inl, InputRunKind, inr, IsBounded, IsRunAt, kinds_of, length, length-append, length-map, List, map, map-append, max_data_per_byte, may_have_lost, must_return, nat_lt, nat_tests, NoRecordStops, or_parts, OscDispatch, record_at, records_from, refl, resumed, run_kind, run_record, Single, subst, sym, take, TextRun, true, VteEvent, wanted_events, with_entries, with_record, with_record_alone, without_loss, ℕ, [], ◌%◌, ◌++◌, ◌+◌, ◌∙◌, ◌∷◌, ◌≡◌, ◌≤◌}
 use Rattle.vte_c.proofs.lemmas.Continuations.{no_kind_stops-none, none_stops-append}
 use Rattle.vte_c.proofs.lemmas.Lengths.{data_of-at_most, data_of-character_event}
 use Rattle.vte_core.proofs.lemmas.places.PlaceLeads.{character_event_bounded}

@@ -1,8 +1,7 @@
 -- What calls give of a stream (`HasGiven`), events or text: each call's part comes after what was given before
 -- (`given-more`), and once nothing is unread, all is given. A call that began with empty buffers gives the events of
 -- what it read (`call-fed`), and its caller gets them by its counts and slices (`got-first`).
-use Rattle.std.specs.Prelude.{◌-◌}
-use Rattle.vte_c.proofs.Common.{added, all_kinds, ap, append-nil, append_assoc, AreEmptyBuffers, AreEncoded, arith, AtMostOneFollowsStop, Buffers, buffers_of, bytes_read, contains_kind, default_limit, drop, drop-append-le, Entry, entry_events, Event, event_kind, events, events_in, EventWriter, filter-append, flat_map, HasEntries, HasFed, HasGiven, HasRead, HasReadOn, HasReadSaved, HasReported, kinds_of, length, length-map, length-take, List, max_piece_bytes, min, nat_tests, no_room, NoKindStops, NoRecordStops, Parser, Print, refl, Saved, sym, take, take-append-drop, true, VteEvent, wanted_events, without_loss, ℕ, [], ◌++◌, ◌+◌, ◌<◌, ◌∙◌, ◌∷◌, ◌≡◌, ◌≤◌}
+use Rattle.vte_c.proofs.Common.{added, all_kinds, ap, append-nil, append_assoc, AreEmptyBuffers, AreEncoded, arith, AtMostOneFollowsStop, Buffers, buffers_of, bytes_read, contains_kind, default_limit, drop, drop-append-le, Entry, entry_events, Event, event_kind, events, events_in, EventWriter, filter-append, flat_map, HasEntries, HasFed, HasGiven, HasRead, HasReadOn, HasReadSaved, HasReported, kinds_of, length, length-map, length-take, List, max_piece_bytes, min, nat_tests, no_room, NoKindStops, NoRecordStops, Parser, Print, refl, Saved, sym, take, take-append-drop, true, VteEvent, wanted_events, without_loss, ℕ, [], ◌++◌, ◌<◌, ◌∙◌, ◌∷◌, ◌≡◌, ◌≤◌}
 use Rattle.vte_c.proofs.lemmas.Buffers.{length-records}
 use Rattle.vte_c.proofs.lemmas.ReadBack.{entries-read, entry_events-later, kinds-without_loss, readable-later, records-without_loss}
 use Rattle.vte_core.proofs.lemmas.streams.After.{added-nothing}

@@ -3,7 +3,7 @@
 -- bytes after the input change nothing (`entry_events-later`).
 use Rattle.std.specs.Char.{encode_utf8}
 use Rattle.std.specs.Prelude.{◌-◌, ◌^◌}
-use Rattle.vte_c.proofs.Common.{add-zero, ap, append_assoc, AreGroups, AreReadable, arith, Bool, cases_Bool, concat, count_byte, count_of, CsiDispatch, data_of, DataRun, default_limit, drop, drop-append-le, drop-append_seam, drop-drop, Entry, entry_data, entry_events, eqb-true, EscDispatch, Event, event_in, events, events_of, events_of_run, false, flag_byte, flat_map, get_or, group_bytes, groups_in, Hook, InInput, inl, InputRunKind, inr, intermediates_in, IsBounded, IsRunAt, kinds_of, length, length-append, length-drop, List, map, map-set_same, min, numbers_in, osc_kind, OscDispatch, piece_bytes, pieces_in, Print, Put, record_at, records_from, refl, run_kind, run_record, set, Single, sum_by-cons, sym, take, take-append-drop, take-append-le, take-append_seam, take-map, TextRun, true, two_bytes, VteEvent, with_intermediates, with_loss, without_loss, ℕ, [], ◌%◌, ◌*◌, ◌++◌, ◌+◌, ◌/◌, ◌==◌, ◌∙◌, ◌∷◌, ◌≡◌, ◌≤◌}
+use Rattle.vte_c.proofs.Common.{add-zero, ap, append_assoc, AreGroups, AreReadable, arith, Bool, cases_Bool, concat, count_byte, count_of, CsiDispatch, data_of, DataRun, default_limit, drop, drop-append-le, drop-append_seam, drop-drop, Entry, entry_data, entry_events, eqb-true, EscDispatch, Event, event_in, events_of, events_of_run, false, flag_byte, flat_map, get_or, group_bytes, groups_in, Hook, InInput, inl, InputRunKind, inr, intermediates_in, IsBounded, IsRunAt, kinds_of, length, length-append, length-drop, List, map, map-set_same, min, numbers_in, osc_kind, OscDispatch, piece_bytes, pieces_in, Print, Put, record_at, records_from, refl, run_kind, run_record, set, Single, sum_by-cons, sym, take, take-append-drop, take-append-le, take-append_seam, take-map, TextRun, true, two_bytes, VteEvent, with_intermediates, with_loss, without_loss, ℕ, [], ◌%◌, ◌*◌, ◌++◌, ◌+◌, ◌/◌, ◌==◌, ◌∙◌, ◌∷◌, ◌≡◌, ◌≤◌}
 use Rattle.vte_c.proofs.lemmas.Buffers.{flag_byte-halved}
 use Rattle.vte_c.proofs.lemmas.Lengths.{length-groups, length-two_bytes}
 use Rattle.vte_c.specs.Record.{blank_record}

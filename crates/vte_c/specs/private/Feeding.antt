@@ -1,6 +1,6 @@
 -- How far a call has come.
 use Rattle.std.specs.List.{flat_map, list_any}
-use Rattle.std.specs.Prelude.{Bool, drop, false, length, List, map, take, ℕ, ◌++◌, ◌+◌, ◌<◌, ◌||◌, ◌≡◌, ◌≤◌}
+use Rattle.std.specs.Prelude.{Bool, drop, false, length, List, take, ℕ, ◌++◌, ◌+◌, ◌<◌, ◌||◌, ◌≡◌, ◌≤◌}
 use Rattle.vte_c.specs.declared.event.VteEvent.{VteEvent}
 use Rattle.vte_c.specs.declared.event_writer.EventWriter.{EventWriter}
 use Rattle.vte_c.specs.private.Buffers.{Buffers, buffers_of}

@@ -202,6 +202,13 @@ impl<T: Field> Field for Option<T> {
     }
 }
 
+/// Numbers of a sequence that are to be one value, and how many bits they have.
+#[derive(Default)]
+struct PackedNumbers {
+    numbers: i64,
+    bits: u32,
+}
+
 /// Objects that are recorded, one after another.
 #[derive(Default)]
 pub struct Tape {
@@ -262,21 +269,28 @@ impl Tape {
     /// Adds the numbers of a sequence.
     #[inline]
     pub fn add_numbers(&mut self, params: &Params) {
-        let (mut numbers, mut bits) = (0, 0);
+        let mut packed = PackedNumbers::default();
         for group in params {
-            let mut is_joined = 0;
-            for number in group {
-                numbers |= (i64::from(*number) << 1 | is_joined) << bits;
-                (bits, is_joined) = (bits + NUMBER_BITS, 1);
-                if bits == NUMBER_BITS * NUMBERS_PER_VALUE as u32 {
-                    self.add_field(Value::new(Tag::Numbers, numbers));
-                    (numbers, bits) = (0, 0);
-                }
+            packed = self.add_group(group, packed);
+        }
+        if packed.bits > 0 {
+            self.add_field(Value::new(Tag::Numbers, packed.numbers));
+        }
+    }
+
+    /// Adds the numbers of a group to those that are packed. Returns what doesn't fill a value.
+    #[inline]
+    fn add_group(&mut self, group: &[u16], mut packed: PackedNumbers) -> PackedNumbers {
+        let mut is_joined = 0;
+        for number in group {
+            packed.numbers |= (i64::from(*number) << 1 | is_joined) << packed.bits;
+            (packed.bits, is_joined) = (packed.bits + NUMBER_BITS, 1);
+            if packed.bits == NUMBER_BITS * NUMBERS_PER_VALUE as u32 {
+                self.add_field(Value::new(Tag::Numbers, packed.numbers));
+                packed = PackedNumbers::default();
             }
         }
-        if bits > 0 {
-            self.add_field(Value::new(Tag::Numbers, numbers));
-        }
+        packed
     }
 
     /// Adds a field.

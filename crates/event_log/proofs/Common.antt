@@ -14,7 +14,7 @@ pub use Rattle.std.specs.List.{All, concat, flat_map, join_with_byte}
 pub use Rattle.std.specs.Str.{bytes_eq, chars, IsUtf8}
 pub use Rattle.event_log.specs.CollectedText.{capacity, collected_text_of, CollectedText, empty_text, has_room_after, is_to_be_written, with_event}
 unfoldable pub use Rattle.event_log.specs.CollectedText.{with_text}
-pub use Rattle.event_log.specs.declared.lines.Lines.{Lines}
+pub use Rattle.event_log.specs.declared.lines.LogBuffer.{LogBuffer}
 pub use Rattle.event_log.specs.Lines.{blank, line_feed}
 unfoldable pub use Rattle.event_log.specs.Lines.{flag_field, hex_byte, hex_character, hex_digit, hex_digits, hex_field, hex_length, line_of, pieces_fields, sequence_fields}
 unfoldable pub use Rattle.event_log.specs.Plain.{plain_text_of}

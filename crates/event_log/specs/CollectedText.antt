@@ -1,6 +1,6 @@
 -- What a collector holds, and what an event adds to it.
 use Rattle.std.specs.Prelude.{Bool, false, if◌then◌else◌, length, List, nat_le, nat_lt, true, ℕ, [], ◌++◌, ◌+◌, ◌/◌}
-use Rattle.event_log.specs.declared.lines.Lines.{Lines}
+use Rattle.event_log.specs.declared.lines.LogBuffer.{LogBuffer}
 use Rattle.vte_core.specs.Event.{Event}
 
 -- The text, and whether something was dropped.
@@ -35,6 +35,6 @@ with_event text_of collected event = with_text collected (text_of event)
 abbrev pub is_to_be_written : CollectedText → Bool
 is_to_be_written collected = nat_lt (capacity / 2) (length collected.bytes)
 
--- What a `Lines` holds.
-abbrev pub collected_text_of : Lines → CollectedText
+-- What a `LogBuffer` holds.
+abbrev pub collected_text_of : LogBuffer → CollectedText
 collected_text_of lines = record { bytes = lines.bytes.items; lost = lines.lost }

@@ -19,7 +19,7 @@ mod recorder;
 pub use device::{Device, Sink, Source};
 pub use fault::Fault;
 // cargo lacks: not used
-pub use lines::Lines;
+pub use lines::LogBuffer;
 pub use pipeline::{run, run_text};
 // cargo lacks: not used
 pub use plain::Plain;

@@ -1,4 +1,4 @@
-//! Lines of text, each appended whole or not at all.
+//! A buffer of lines or text, each appended whole or not at all.
 ghost use Rattle.std.specs.Prelude.{false, length, [], ◌+◌, ◌≡◌};
 ghost use Rattle.event_log.specs.CollectedText.{capacity, collected_text_of, empty_text, is_to_be_written, with_text};
 ghost use Rattle.event_log.specs.private.Line.{BeginsLine, EndsLine, ExtendsLine};
@@ -9,32 +9,32 @@ mod hex;
 use arrayvec::ArrayVec;
 pub(crate) use hex::{line_of_execute, line_of_put};
 
-/// The size of a buffer for lines.
+/// The size of a buffer.
 const CAPACITY: usize = 8192;
 
-/// A buffer of 8,192 bytes for lines, each appended whole or not at all.
+/// A buffer of 8,192 bytes for lines or text, each appended whole or not at all.
 ///
-/// A line that doesn't fit is dropped. The buffer never allocates.
+/// What doesn't fit is dropped. The buffer never allocates.
 // cargo instead:
-/// Once a line was dropped, [`lost`](Self::lost) is true until [`clear`](Self::clear).
+/// Once anything was dropped, [`lost`](Self::lost) is true until [`clear`](Self::clear).
 #[derive(Drop)]
-pub struct Lines {
-    /// The lines, and after them what has been pushed of the next one.
+pub struct LogBuffer {
+    /// What was appended, and after it what has been pushed of the next line.
     bytes: ArrayVec<u8, CAPACITY>,
     /// The start of the line that is being written.
     start: usize,
     /// Whether all of it has fitted so far.
     fits: bool,
-    /// Whether a line was dropped since the last `clear`.
+    /// Whether anything was dropped since the last `clear`.
     lost: bool,
 }
 
-impl Lines {
+impl LogBuffer {
     /// Creates an empty buffer.
     pub fn new() -> Self
         ensures { collected_text_of result ≡ empty_text }
     {
-        Lines {
+        LogBuffer {
             bytes: ArrayVec::new(),
             start: 0,
             fits: true,
@@ -42,7 +42,7 @@ impl Lines {
         }
     }
 
-    /// Returns the lines.
+    /// Returns what was appended.
     pub fn bytes(&self) -> &[u8]
         ensures { result.now ≡ (collected_text_of self.now).bytes }
     {
@@ -64,14 +64,14 @@ impl Lines {
         CAPACITY - self.bytes.len()
     }
 
-    /// Returns whether more than half of the capacity is in use: then the lines should be written.
+    /// Returns whether more than half of the capacity is in use: then the bytes should be written.
     pub(crate) fn is_to_be_written(&self) -> bool
         ensures { result ≡ is_to_be_written (collected_text_of self.now) }
     {
         self.bytes.len() > CAPACITY / 2
     }
 
-    /// Returns whether a line was dropped since the last `clear`.
+    /// Returns whether anything was dropped since the last `clear`.
     // cargo lacks: not used
     pub fn lost(&self) -> bool
         ensures { result ≡ (collected_text_of self.now).lost }
@@ -79,7 +79,7 @@ impl Lines {
         self.lost
     }
 
-    /// Removes all lines.
+    /// Removes all bytes, and forgets that any was lost.
     pub fn clear(&mut self)
         ensures { collected_text_of self.new ≡ empty_text }
     {
@@ -87,13 +87,13 @@ impl Lines {
         self.lost = false;
     }
 
-    /// Appends a line, or drops it if there isn't room for all of it.
+    /// Appends a text, or drops it if there isn't room for all of it.
     #[inline]
     #[tactic(auto, unfolding(crate::specs::CollectedText::with_text))]
-    pub fn append(&mut self, line: &[u8])
-        ensures { collected_text_of self.new ≡ with_text (collected_text_of self.old) line.now }
+    pub fn append(&mut self, text: &[u8])
+        ensures { collected_text_of self.new ≡ with_text (collected_text_of self.old) text.now }
     {
-        if self.bytes.try_extend_from_slice(line).is_err() {
+        if self.bytes.try_extend_from_slice(text).is_err() {
             self.lost = true;
         }
     }

@@ -4,7 +4,7 @@ ghost use Rattle.event_log.specs.CollectedText.{collected_text_of, CollectedText
 ghost use Rattle.event_log.specs.Plain.{plain_text_of};
 
 use crate::collector::{Collector, LogParser};
-use crate::lines::Lines;
+use crate::lines::LogBuffer;
 use std::marker::Model;
 use vte_core::{Params, Perform, PerformText, laws};
 
@@ -19,7 +19,7 @@ const MAX_TEXT_PER_BYTE: usize = 8;
 /// Once a character was dropped, [`lost`](Self::lost) is true until [`clear`](Self::clear).
 #[derive(Drop)]
 pub struct Plain {
-    texts: Lines,
+    texts: LogBuffer,
 }
 
 impl Model for Plain {
@@ -34,7 +34,7 @@ impl Plain {
         ensures { result ≡ empty_text }
     {
         Plain {
-            texts: Lines::new(),
+            texts: LogBuffer::new(),
         }
     }
 

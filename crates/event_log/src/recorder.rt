@@ -4,7 +4,7 @@ ghost use Rattle.event_log.specs.CollectedText.{collected_text_of, CollectedText
 ghost use Rattle.event_log.specs.Lines.{line_feed, line_of, sequence_fields};
 
 use crate::collector::{Collector, LogParser};
-use crate::lines::{Lines, line_of_execute, line_of_put};
+use crate::lines::{LogBuffer, line_of_execute, line_of_put};
 use std::marker::Model;
 use vte_core::{Params, Perform, laws};
 
@@ -16,7 +16,7 @@ use vte_core::{Params, Perform, laws};
 /// Once a line was dropped, [`lost`](Self::lost) is true until [`clear`](Self::clear).
 #[derive(Drop)]
 pub struct Recorder {
-    lines: Lines,
+    lines: LogBuffer,
 }
 
 impl Model for Recorder {
@@ -31,7 +31,7 @@ impl Recorder {
         ensures { result ≡ empty_text }
     {
         Recorder {
-            lines: Lines::new(),
+            lines: LogBuffer::new(),
         }
     }
 

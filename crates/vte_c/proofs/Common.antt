@@ -21,7 +21,7 @@ unfoldable pub use Rattle.vte_c.specs.private.Buffers.{with_record, with_record_
 pub use Rattle.vte_c.specs.private.Feeding.{any_of_kinds, Continues, HasEntries, HasFed, HasReadOn, IsPrefix, NoRecordStops, NoRunStops, ReadsOn, with_entries}
 pub use Rattle.vte_c.specs.private.WrittenText.{text_with_event, written_text_of, WrittenText}
 unfoldable pub use Rattle.vte_c.specs.private.WrittenText.{text_with}
-pub use Rattle.vte_c.specs.Record.{all_kinds, count_byte, data_of, DataRun, Entry, entry_data, entry_events, event_kind, events_in, events_of_run, flag_byte, group_bytes, groups_in, InInput, InputRunKind, intermediates_in, is_at_limit, kinds_of, max_data_per_byte, may_have_lost, numbers_in, osc_kind, piece_bytes, pieces_in, record_at, records_from, run_kind, run_record, Single, TextRun, two_bytes, wanted_events, with_intermediates, with_loss}
+pub use Rattle.vte_c.specs.Record.{all_kinds, count_byte, data_of, DataRun, Entry, entry_data, entry_events, event_kind, events_in, events_of_run, flag_byte, group_bytes, groups_in, InInput, InputRunKind, intermediates_in, is_at_limit, kinds_of, max_data_per_byte, max_piece_bytes, may_have_lost, numbers_in, osc_kind, piece_bytes, pieces_in, record_at, records_from, run_kind, run_record, Single, TextRun, two_bytes, wanted_events, with_intermediates, with_loss}
 unfoldable pub use Rattle.vte_c.specs.Record.{contains_kind, event_in, events_of, without_loss}
 pub use Rattle.vte_c.specs.Reported.{AreEncoded, AreReadable, AtMostOneFollowsStop, bytes_read, HasGiven, HasReported, is_stop, IsRunAt, IsRunOfKind, no_room, NoEventStops, NoKindStops}
 pub use Rattle.vte_core.specs.declared.parser.Parser.{Parser}

@@ -8,8 +8,10 @@ pub mod Lengths
 pub mod Buffers
 -- From the parser's calls, one after another, to a call of `vte_feed`.
 pub mod CallSteps
--- From the buffers to the events that a caller reads from them.
+-- From records and data to the events that a caller reads from them.
 pub mod ReadBack
+-- From a call to what was given of a stream.
+pub mod CallResults
 -- From the parser's calls to the text of `vte_strip`.
 pub mod Stripping
 -- From what is open to its number.

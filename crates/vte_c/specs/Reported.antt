@@ -1,5 +1,5 @@
 -- What was reported of a stream to a caller.
-use Rattle.std.specs.List.{flat_map}
+use Rattle.std.specs.List.{flat_map, list_any}
 use Rattle.std.specs.Prelude.{Bool, drop, false, if◌then◌else◌, length, List, map, take, ℕ, [], ⊤, ◌&&◌, ◌++◌, ◌+◌, ◌-◌, ◌<◌, ◌==◌, ◌^◌, ◌∷◌, ◌≡◌, ◌≤◌}
 use Rattle.std.specs.Str.{IsUtf8}
 use Rattle.event_log.specs.Plain.{plain_text}
@@ -46,15 +46,11 @@ is_stop kinds stop_kinds kind = contains_kind kinds kind && contains_kind stop_k
 
 -- No event has a kind that stops.
 abbrev pub NoEventStops : (ℕ → Bool) → List Event → Type 0
-NoEventStops does_stop [] = ⊤
-NoEventStops does_stop (event ∷ events) =
-    (does_stop (event_kind event) ≡ false) × NoEventStops does_stop events
+NoEventStops does_stop events = list_any (λ event. does_stop (event_kind event)) events ≡ false
 
 -- None of these is among the stops.
 abbrev pub NoKindStops : ℕ → List ℕ → Type 0
-NoKindStops stop_kinds [] = ⊤
-NoKindStops stop_kinds (kind ∷ record_kinds) =
-    (contains_kind stop_kinds kind ≡ false) × NoKindStops stop_kinds record_kinds
+NoKindStops stop_kinds record_kinds = list_any (contains_kind stop_kinds) record_kinds ≡ false
 
 -- A call stops after the first record that is among the stops: at most one follows it.
 pub record AtMostOneFollowsStop (stop_kinds : ℕ) (record_kinds : List ℕ) : Type 0 where

@@ -15,7 +15,7 @@ use vte_core::{Params, Perform, Run, Taken};
 const MAX_PIECES: usize = 16;
 
 /// How many data bytes of a command the parser keeps.
-const MAX_PIECE_BYTES: usize = 1024;
+pub(crate) const MAX_PIECE_BYTES: usize = 1024;
 
 /// The most data bytes of one event: of a command, each piece after four bytes with its length.
 pub(crate) const MAX_EVENT_DATA: usize = MAX_PIECE_BYTES + 4 * MAX_PIECES;

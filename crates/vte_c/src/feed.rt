@@ -10,7 +10,7 @@ ghost use Rattle.vte_core.specs.Saved.{HasReadSaved};
 ghost use Rattle.vte_core.specs.Stream.{added, default_limit};
 
 use crate::event::VteEvent;
-use crate::event_writer::EventWriter;
+use crate::event_writer::{EventWriter, MAX_PIECE_BYTES};
 use vte_core::{Parser, Saved, laws};
 
 /// The number of events for which there must be room: what two bytes add.
@@ -24,6 +24,9 @@ pub(crate) const MIN_DATA: usize = 2112;
 
 /// The return value of a call with less room, which is no count of bytes.
 pub(crate) const NO_ROOM: usize = usize::MAX;
+
+/// The parser that a call restores from what the caller keeps.
+type RestoredParser = Parser<MAX_PIECE_BYTES>;
 
 /// How many events, and how many bytes of the data area, a call wrote. `bytes` is `data` in vte.h,
 /// which is a keyword of specs.
@@ -90,7 +93,7 @@ fn read_into(saved: &mut Saved, bytes: &[u8], writer: &mut EventWriter<'_>) -> u
 }
 
 /// Reads bytes until they end or the buffers are full.
-fn read_until_full(parser: &mut Parser<1024>, bytes: &[u8], writer: &mut EventWriter<'_>) -> usize
+fn read_until_full(parser: &mut RestoredParser, bytes: &[u8], writer: &mut EventWriter<'_>) -> usize
     requires are_empty { AreEmptyBuffers (buffers_of writer.old) }
     requires fits_32_bits { length bytes.now < 2 ^ 32 }
     ensures within { result ≤ length bytes.now }
@@ -115,7 +118,7 @@ fn read_until_full(parser: &mut Parser<1024>, bytes: &[u8], writer: &mut EventWr
 
 /// Reads bytes up to and including a run of text or data, and writes the record of the run.
 fn read_more(
-    parser: &mut Parser<1024>,
+    parser: &mut RestoredParser,
     bytes: &[u8],
     from: usize,
     writer: &mut EventWriter<'_>,

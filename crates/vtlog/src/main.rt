@@ -115,7 +115,7 @@ fn run_with_arguments<R: Source, W: Sink>(
     }) result.0 result.1.now }
 {
     if let Some(page) = find_page(args) {
-        return describe_outcome(&print(page, writer));
+        return describe_outcome(&write_page(page, writer));
     }
     match choose_mode(args) {
         Some(Mode::Lines) => describe_outcome(&run(reader, writer)),
@@ -135,7 +135,7 @@ fn find_page(args: &[&str]) -> Option<&'static str>
     }
 }
 
-/// Returns what the arguments choose, or None if any was unexpected.
+/// Returns the mode that the arguments choose, if they choose one.
 fn choose_mode(args: &[&str]) -> Option<Mode>
     ensures { result ≡ chosen_mode (map (λ arg. arg.now) args.now) }
 {
@@ -146,14 +146,14 @@ fn choose_mode(args: &[&str]) -> Option<Mode>
     }
 }
 
-/// Writes a text, and flushes it.
-fn print<W: Sink>(text: &str, writer: &mut W) -> Result<(), Fault>
+/// Writes the help or the version, and flushes it.
+fn write_page<W: Sink>(page: &str, writer: &mut W) -> Result<(), Fault>
     ensures fails { is_err result ≡ W.has_failed writer.new }
     ensures fault { OnErr result (result ≡ Err Fault.Write) }
     ensures appends { OnOk result (Appends (W.contents writer.old)
-        (W.contents writer.new) text.now) }
+        (W.contents writer.new) page.now) }
 {
-    if writer.write_all(text.as_bytes()).is_err() || writer.flush().is_err() {
+    if writer.write_all(page.as_bytes()).is_err() || writer.flush().is_err() {
         return Err(Fault::Write);
     }
     Ok(())

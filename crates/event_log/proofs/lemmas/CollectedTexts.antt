@@ -1,6 +1,6 @@
 -- What a collector holds after texts, and from call to call. It holds the texts of all events if there is room at each
 -- start: from one start to the next (`passed-at`).
-use Rattle.event_log.proofs.Common.{added, AddsUpTo, after, ap, append-nil, append_assoc, AreBrief, arith, BeginsLine, Bool, capacity, cases_Bool, collected_text_of, CollectedText, default_limit, EndsLine, Event, ExtendsLine, false, flat_map, flat_map-append, has_room_after, HasKept, HasRead, HasReadStream, inl, inr, is_to_be_written, IsStart, le-leb, length, length-append, Lines, List, nat_tests, Parser, refl, reported_before, ReportsUnits, sym, take-append_seam, with_event, with_text, ℕ, [], ◌++◌, ◌+◌, ◌-◌, ◌<◌, ◌∙◌, ◌∷◌, ◌≡◌, ◌≤◌}
+use Rattle.event_log.proofs.Common.{added, AddsUpTo, after, ap, append-nil, append_assoc, AreBrief, arith, BeginsLine, Bool, capacity, cases_Bool, collected_text_of, CollectedText, default_limit, EndsLine, Event, ExtendsLine, false, flat_map, flat_map-append, has_room_after, HasKept, HasRead, HasReadStream, inl, inr, is_to_be_written, IsStart, le-leb, length, length-append, List, LogBuffer, nat_tests, Parser, refl, reported_before, ReportsUnits, sym, take-append_seam, with_event, with_text, ℕ, [], ◌++◌, ◌+◌, ◌<◌, ◌∙◌, ◌∷◌, ◌≡◌, ◌≤◌}
 use Rattle.vte_core.proofs.lemmas.streams.After.{after_events-append}
 use Rattle.vte_core.proofs.lemmas.streams.EarlyStops.{passed-at}
 
@@ -21,7 +21,7 @@ unfolding with_text
 text-taken collected text fits = rw (le-leb _ _ fits) refl
 
 -- A line that begins, is written and ends is taken if there is room for it.
-pub line-taken : {old begun written ended : Lines} {line : List ℕ} → BeginsLine old begun
+pub line-taken : {old begun written ended : LogBuffer} {line : List ℕ} → BeginsLine old begun
     → ExtendsLine begun line written → EndsLine written ended
     → collected_text_of ended ≡ with_text (collected_text_of old) line
 unfolding with_text

@@ -2,7 +2,7 @@
 -- a number and the fields of pieces are such parts.
 use Rattle.std.proofs.lemmas.List.Folds.{flat_map-map}
 use Rattle.std.proofs.lemmas.Slice.Eq.{bytes_eq-Decides}
-use Rattle.event_log.proofs.Common.{ap, append_assoc, arith, blank, Bool, bytes_eq, codes, Decides-below_and, decimal, decimal_digit, decimal_step, drop, ExtendsLine, false, flat_map, get_or, has_room_after, hex_byte, hex_character, hex_digit, hex_digits, hex_field, hex_length, IsTrue, length, length-append, length-map, line_feed, line_of, Lines, List, map, max, nat_tests, pieces_fields, Print, refl, suc, sym, take, true, zero, ℕ, [], ◌%◌, ◌&&◌, ◌*◌, ◌++◌, ◌+◌, ◌-◌, ◌/◌, ◌<◌, ◌^◌, ◌∙◌, ◌∷◌, ◌≡◌, ◌≤◌}
+use Rattle.event_log.proofs.Common.{ap, append_assoc, arith, blank, Bool, bytes_eq, codes, Decides-below_and, decimal, decimal_digit, decimal_step, drop, ExtendsLine, false, flat_map, get_or, has_room_after, hex_byte, hex_character, hex_digit, hex_digits, hex_field, hex_length, IsTrue, length, length-append, length-map, line_feed, line_of, List, LogBuffer, map, max, nat_tests, pieces_fields, Print, refl, suc, sym, take, true, zero, ℕ, [], ◌%◌, ◌&&◌, ◌*◌, ◌++◌, ◌+◌, ◌-◌, ◌/◌, ◌<◌, ◌^◌, ◌∙◌, ◌∷◌, ◌≡◌, ◌≤◌}
 use Rattle.event_log.specs.declared.lines.hex.TheConstants.{HEX_PAIRS}
 
 -- Two texts have room one after the other exactly if they have room together.
@@ -22,7 +22,7 @@ texts-first_fits true both has_room both_fit fit = refl
 texts-first_fits false both has_room both_fit fit = sym both_fit ∙ fit
 
 -- A line that is extended by a text and then by another is extended by both together.
-pub extends_then : {old mid new : Lines} {first second : List ℕ} → ExtendsLine old first mid
+pub extends_then : {old mid new : LogBuffer} {first second : List ℕ} → ExtendsLine old first mid
     → ExtendsLine mid second new → ExtendsLine old (first ++ second) new
 extends_then {old} {mid} {new} {first} {second} first_extends second_extends = record {
   start = second_extends.start ∙ first_extends.start;

@@ -6,11 +6,11 @@ ghost use Rattle.event_log.specs.Lines.{flag_field, hex_byte, hex_character, hex
 ghost use Rattle.event_log.specs.private.Line.{ExtendsLine};
 ghost use Rattle.vte_core.specs.Parameters.{colon, shown};
 
-use super::Lines;
+use super::LogBuffer;
 use super::hex::{hex_length, hex_pair, six_hex_digits};
 use vte_core::Params;
 
-impl Lines {
+impl LogBuffer {
     /// Pushes the decimal digits of a number, three at a time.
     pub(crate) fn push_decimal(&mut self, number: usize)
         ensures { ExtendsLine self.old (decimal number) self.new }

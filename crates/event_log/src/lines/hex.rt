@@ -4,7 +4,7 @@ ghost use Rattle.event_log.specs.CollectedText.{collected_text_of, with_text};
 ghost use Rattle.event_log.specs.Lines.{hex_byte, hex_digits, hex_length as hex_length_of, line_of};
 ghost use Rattle.vte_core.specs.Event.{Execute, Print, Put};
 
-use super::Lines;
+use super::LogBuffer;
 
 /// The two hex digits of each byte, one after another: one load instead of two.
 const HEX_PAIRS: &[u8; 512] = b"\
@@ -17,7 +17,7 @@ const HEX_PAIRS: &[u8; 512] = b"\
     c0c1c2c3c4c5c6c7c8c9cacbcccdcecfd0d1d2d3d4d5d6d7d8d9dadbdcdddedf\
     e0e1e2e3e4e5e6e7e8e9eaebecedeeeff0f1f2f3f4f5f6f7f8f9fafbfcfdfeff";
 
-impl Lines {
+impl LogBuffer {
     /// Appends the line of a character. Most lines of a log are these, so the length of each copy
     /// is a constant.
     #[inline(always)]

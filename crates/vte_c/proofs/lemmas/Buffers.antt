@@ -3,8 +3,8 @@
 -- (`entries-unit_more`), and a run of the input (`entries-run`).
 use Rattle.std.proofs.lemmas.List.Folds.{list_any-append}
 use Rattle.std.proofs.Math.Bool.{or-false, or_assoc}
-use Rattle.vte_c.proofs.Common.{add-zero, after, any_of_kinds, ap, append-nil, append_assoc, AreaHolds, AreBrief, AreReadable, arith, AtMostOneFollowsStop, Bool, Buffers, buffers_of, buffers_with_event, cases_Bool, contains_kind, CsiDispatch, data_of, DataRun, default_limit, Entry, entry_data, EscDispatch, Event, event_kind, EventWriter, Execute, false, filter-append, flag_byte, flat_map, flat_map-append, has_room_for_record, HasEntries, Hook, if◌then◌else◌, InInput, inl, InputRunKind, inr, IsBounded, IsRunAt, kinds_of, length, length-append, length-map, List, map, map-append, max_data_per_byte, may_have_lost, must_return, nat_lt, nat_tests, NoRecordStops, or_parts, OscDispatch, Print, Put, record_at, records_from, refl, resumed, run_kind, run_record, Single, subst, sym, take, TextRun, true, Unhook, VteEvent, wanted_events, with_entries, with_record, with_record_alone, without_loss, ℕ, [], ◌%◌, ◌++◌, ◌+◌, ◌∙◌, ◌∷◌, ◌≡◌, ◌≤◌}
-use Rattle.vte_c.proofs.lemmas.Continuations.{no_kind_stops-append, no_kind_stops-none}
+use Rattle.vte_c.proofs.Common.{add-zero, after, any_of_kinds, ap, append-nil, append_assoc, AreaHolds, AreBrief, AreReadable, arith, AtMostOneFollowsStop, Bool, Buffers, buffers_of, buffers_with_event, cases_Bool, contains_kind, data_of, DataRun, default_limit, Entry, entry_data, Event, event_kind, EventWriter, false, filter-append, flag_byte, flat_map, flat_map-append, has_room_for_record, HasEntries, if◌then◌else◌, InInput, inl, InputRunKind, inr, IsBounded, IsRunAt, kinds_of, length, length-append, length-map, List, map, map-append, max_data_per_byte, may_have_lost, must_return, nat_lt, nat_tests, NoRecordStops, or_parts, OscDispatch, record_at, records_from, refl, resumed, run_kind, run_record, Single, subst, sym, take, TextRun, true, VteEvent, wanted_events, with_entries, with_record, with_record_alone, without_loss, ℕ, [], ◌%◌, ◌++◌, ◌+◌, ◌∙◌, ◌∷◌, ◌≡◌, ◌≤◌}
+use Rattle.vte_c.proofs.lemmas.Continuations.{no_kind_stops-none, none_stops-append}
 use Rattle.vte_c.proofs.lemmas.Lengths.{data_of-at_most, data_of-character_event}
 use Rattle.vte_core.proofs.lemmas.places.PlaceLeads.{character_event_bounded}
 use Rattle.vte_core.proofs.lemmas.streams.After.{after_events-append}
@@ -56,15 +56,15 @@ readable-append input (InInput run start size ∷ front) back front_readable bac
     (front_readable.0, readable-append input front back front_readable.1 back_readable)
 
 -- At most two records may all be the last ones: one that stops, and one after it.
-follows_stop-two : (stop_kinds offset : ℕ) (entries : List Entry) → length entries ≤ 2
+at_most_one_follows-two : (stop_kinds offset : ℕ) (entries : List Entry) → length entries ≤ 2
     → AtMostOneFollowsStop stop_kinds (kinds_of (records_from offset entries))
-follows_stop-two stop_kinds offset entries at_most =
+at_most_one_follows-two stop_kinds offset entries at_most =
     let count = length-map (records_from offset entries) (λ (vte_record : VteEvent). vte_record.kind) in
     record {
       before = [];
       last = kinds_of (records_from offset entries);
       parts = refl;
-      no_stop_before = tt;
+      no_stop_before = refl;
       at_most_two = omega (arith, count, length-records offset entries);
     }
 
@@ -74,7 +74,7 @@ entries-nothing buffers input =
     record {
       readable = tt;
       written = simp (append-nil, add-zero, or-false) refl;
-      at_most_one_follows = follows_stop-two buffers.stop_kinds buffers.data_used [] (omega arith);
+      at_most_one_follows = at_most_one_follows-two buffers.stop_kinds buffers.data_used [] (omega arith);
     }
 
 -- Entries that were written into buffers that weren't full may be followed by others.
@@ -98,7 +98,7 @@ entries-then {old} {mid} {new} {input} {front} {back} has_front not_returning ha
             rw (records-append old.data_used front back, map-append, append_assoc (kinds_of before), ← back_stops.parts)
             refl;
         no_stop_before =
-            no_kind_stops-append old.stop_kinds (kinds_of before) back_stops.before
+            none_stops-append (contains_kind old.stop_kinds) (kinds_of before) back_stops.before
             (no_record_stops-not_returning has_front not_returning)
             back_stops.no_stop_before;
         at_most_two = back_stops.at_most_two;
@@ -124,21 +124,16 @@ unfolding without_loss
 run-without_loss TextRun start size = refl
 run-without_loss DataRun start size = refl
 
-bell-without_loss : (bell : Bool) → flag_byte bell % 2 ≡ flag_byte bell
-bell-without_loss true = refl
-bell-without_loss false = refl
+-- The bit for lost data is the second one.
+pub flag_byte-halved : (flag : Bool) → flag_byte flag % 2 ≡ flag_byte flag
+flag_byte-halved true = refl
+flag_byte-halved false = refl
 
 single-without_loss : (offset : ℕ) (event : Event)
     → without_loss (record_at offset (Single event)) ≡ record_at offset (Single event)
 unfolding without_loss
-single-without_loss offset (OscDispatch pieces bell) = rw (bell-without_loss bell) refl
-single-without_loss offset (Print c) = refl
-single-without_loss offset (Execute byte) = refl
-single-without_loss offset (Hook groups intermediates ignore final) = refl
-single-without_loss offset (Put byte) = refl
-single-without_loss offset Unhook = refl
-single-without_loss offset (CsiDispatch groups intermediates ignore final) = refl
-single-without_loss offset (EscDispatch intermediates ignore final) = refl
+single-without_loss offset (OscDispatch pieces bell) = rw (flag_byte-halved bell) refl
+single-without_loss offset _ = refl
 
 -- Buffers that aren't full have room for the record of a run.
 pub entries-run : {old new : Buffers} (input : List ℕ) (run : InputRunKind) (start size : ℕ) → must_return old ≡ false
@@ -151,7 +146,8 @@ entries-run {old} {new} input run start size not_returning is_run recorded =
     record {
       readable = (is_run, tt);
       written = rw (recorded, has_record_room, run-without_loss run start size) (simp (append-nil, add-zero, or-false));
-      at_most_one_follows = follows_stop-two old.stop_kinds old.data_used (InInput run start size ∷ []) (omega arith);
+      at_most_one_follows =
+          at_most_one_follows-two old.stop_kinds old.data_used (InInput run start size ∷ []) (omega arith);
     }
 
 -- ---- a pause, apart from which an event is written the same (`resumed`)
@@ -248,7 +244,7 @@ entries-event input buffers event bounded not_paused room_for =
             readable = (bounded, tt);
             written = refl;
             at_most_one_follows =
-                follows_stop-two buffers.stop_kinds buffers.data_used (Single event ∷ []) (omega arith);
+                at_most_one_follows-two buffers.stop_kinds buffers.data_used (Single event ∷ []) (omega arith);
           })
       | inr other ↦ rw (event-passed buffers event not_paused other, other) (entries-nothing buffers input)
     ]
@@ -317,7 +313,7 @@ entries-unit input buffers (event ∷ last ∷ []) brief not_returning =
       written =
           second.written ∙ ap (λ (stored : Buffers). with_entries stored (entries_of buffers (last ∷ []))) first.written
           ∙ with_entries-append buffers _ _;
-      at_most_one_follows = follows_stop-two buffers.stop_kinds buffers.data_used
+      at_most_one_follows = at_most_one_follows-two buffers.stop_kinds buffers.data_used
           (entries_of buffers (event ∷ []) ++ entries_of buffers (last ∷ []))
           (omega (
             arith,

@@ -1,8 +1,8 @@
 -- A call goes on (`ReadsOn`) by calls of the parser, whose events are written as long as there is room, and by the runs
 -- that these return. One step after another is a longer one (`reads_on-then`).
-use Rattle.vte_c.proofs.Common.{added, after, ap, append-nil, AreCharacters, AreEmptyBuffers, arith, Bool, breaks_at, Buffers, buffers_with_event, cases_Bool, cases_lt, chars, ComesTo, contains_kind, data_of, DataRun, default_limit, drop, drop-drop, entry_events, Event, event_kind, events_of_run, false, false≢true, filter-append, flat_map, flat_map-append, GoesOnFromPositions, HasEntries, HasRead, HasReadOn, if◌then◌else◌, InInput, inl, InputRunKind, inr, is_stop, IsRunAt, IsRunOfKind, len_utf8_bounds, length, length-append, length-drop, length-encode, List, map, must_return, nat_tests, NoRecordStops, NoRunStops, OpensSilently, Parser, Print, Put, ReadsOn, refl, replacement, reported_before, ReportsUnits, resumed, resumed_stream, run_kind, run_record, Single, subst, sym, take, TextRun, true, wanted_events, with_entries, with_run, with_run_record, with_taken, zero-add, ℕ, [], ◌++◌, ◌+◌, ◌-◌, ◌<◌, ◌∙◌, ◌∷◌, ◌≡◌, ◌≤◌}
+use Rattle.vte_c.proofs.Common.{added, after, ap, append-nil, AreCharacters, AreEmptyBuffers, arith, Bool, breaks_at, Buffers, buffers_with_event, cases_Bool, cases_lt, chars, ComesTo, contains_kind, data_of, DataRun, default_limit, drop, drop-drop, entry_events, Event, event_kind, events_of_run, false, false≢true, filter-append, flat_map, flat_map-append, GoesOnFromPositions, HasEntries, HasRead, HasReadOn, if◌then◌else◌, InInput, inl, InputRunKind, inr, is_stop, IsRunAt, IsRunOfKind, len_utf8_bounds, length, length-append, length-drop, length-encode, List, map, max_piece_bytes, must_return, nat_tests, NoRecordStops, NoRunStops, OpensSilently, or_parts, Parser, Print, Put, ReadsOn, refl, replacement, reported_before, ReportsUnits, resumed, resumed_stream, run_kind, run_record, Single, subst, sym, take, TextRun, true, wanted_events, with_entries, with_run, with_run_record, with_taken, zero-add, ℕ, [], ◌++◌, ◌+◌, ◌-◌, ◌<◌, ◌∙◌, ◌∷◌, ◌≡◌, ◌≤◌}
 use Rattle.vte_c.proofs.lemmas.Buffers.{entries-nothing, entries-run, entries-then, entries-unit_more, entries_of, event-passed, event-written, no_record_stops-not_returning, not_returning-not_paused, paused-after_event, resumed-not_returning, resumed-same}
-use Rattle.vte_c.proofs.lemmas.Continuations.{continues-added, continues-call, continues-nothing, continues-then, no_event_stops-append, no_event_stops-before, no_event_stops-earlier, no_event_stops-entries, no_event_stops-front, no_event_stops-reported, no_event_stops-run}
+use Rattle.vte_c.proofs.lemmas.Continuations.{continues-added, continues-call, continues-nothing, continues-then, no_event_stops-before, no_event_stops-earlier, no_event_stops-entries, no_event_stops-front, no_event_stops-reported, no_event_stops-run, none_stops-append}
 use Rattle.vte_core.proofs.lemmas.streams.After.{added-nothing}
 use Rattle.vte_core.proofs.lemmas.streams.EarlyStops.{passed-at}
 use Rattle.vte_core.specs.AdvanceToRun.{IsLongestRun, ReturnsRun, run_bytes, run_events, taken_bytes}
@@ -13,21 +13,22 @@ use Rattle.vte_core.specs.declared.reader.run.Taken.TheVariants.{Data, Nothing, 
 -- ---- a run of the input
 
 -- All events of a run are reported, or none.
-calls-reported : (kinds : ℕ) (wanted : Bool) (call : ℕ → Event)
-    → ((n : ℕ) → contains_kind kinds (event_kind (call n)) ≡ wanted)
-    → (ns : List ℕ) → wanted_events kinds (map call ns) ≡ (if wanted then map call ns else [])
-calls-reported kinds true call each_wanted [] = refl
-calls-reported kinds false call each_wanted [] = refl
-calls-reported kinds true call each_wanted (n ∷ ns) =
-    rw (each_wanted n, calls-reported kinds true call each_wanted ns) refl
-calls-reported kinds false call each_wanted (n ∷ ns) =
-    rw (each_wanted n) (calls-reported kinds false call each_wanted ns)
+one_kind-reported : (kinds : ℕ) (wanted : Bool) (event_of : ℕ → Event)
+    → ((n : ℕ) → contains_kind kinds (event_kind (event_of n)) ≡ wanted)
+    → (ns : List ℕ) → wanted_events kinds (map event_of ns) ≡ (if wanted then map event_of ns else [])
+one_kind-reported kinds true event_of each_wanted [] = refl
+one_kind-reported kinds false event_of each_wanted [] = refl
+one_kind-reported kinds true event_of each_wanted (n ∷ ns) =
+    rw (each_wanted n, one_kind-reported kinds true event_of each_wanted ns) refl
+one_kind-reported kinds false event_of each_wanted (n ∷ ns) =
+    rw (each_wanted n) (one_kind-reported kinds false event_of each_wanted ns)
 
 run-reported : (kinds : ℕ) (wanted : Bool) (run : InputRunKind) (bytes : List ℕ)
     → contains_kind kinds (run_kind run) ≡ wanted
     → wanted_events kinds (events_of_run run bytes) ≡ (if wanted then events_of_run run bytes else [])
-run-reported kinds wanted TextRun bytes kind_wanted = calls-reported kinds wanted Print (λ c. kind_wanted) (chars bytes)
-run-reported kinds wanted DataRun bytes kind_wanted = calls-reported kinds wanted Put (λ b. kind_wanted) bytes
+run-reported kinds wanted TextRun bytes kind_wanted =
+    one_kind-reported kinds wanted Print (λ c. kind_wanted) (chars bytes)
+run-reported kinds wanted DataRun bytes kind_wanted = one_kind-reported kinds wanted Put (λ b. kind_wanted) bytes
 
 run-never_stops : (buffers : Buffers) (run : InputRunKind) → NoRunStops buffers
     → is_stop buffers.kinds buffers.stop_kinds (run_kind run) ≡ false
@@ -92,7 +93,8 @@ not_returning-at_first old true are_empty no_stops =
             records_fit = omega (arith, are_empty.enough_records, are_empty.record_count);
             data_fits = omega (arith, are_empty.enough_data, are_empty.data_used);
           }) wanted in
-          let other : contains_kind old.stop_kinds 0 ≡ false = (rw (written, are_empty.records) at no_stops).0 in
+          let other : contains_kind old.stop_kinds 0 ≡ false =
+          (or_parts (contains_kind old.stop_kinds 0) false (rw (written, are_empty.records) at no_stops)).0 in
           rw written (grind (arith, nat_tests, length-append))
       | inr passed ↦
           let unchanged : next ≡ old = sym same ∙ event-passed old (Print replacement) are_empty.not_paused passed in
@@ -195,18 +197,20 @@ reads_on-then {old} {mid} {already_read} {bytes} {from} {n} {m} reads not_return
             -- What the first i bytes add is the first part of these events.
             rw (← position)
             (no_event_stops-front does_stop (added default_limit already_read (take (n + k) unread)) front.others
-            (rw front.parts at (no_event_stops-append does_stop _ _ given_without_stop later_without_stop)))
+            (rw front.parts at
+            (none_stops-append (λ event. does_stop (event_kind event)) _ _ given_without_stop later_without_stop)))
       ];
     }
 
 -- A call that has read nothing is at its first byte.
-pub has_read_on-nothing : {old : Buffers} {parser : Parser 1024} {already_read bytes : List ℕ}
+pub has_read_on-nothing : {old : Buffers} {parser : Parser max_piece_bytes} {already_read bytes : List ℕ}
     → HasRead parser already_read
     → HasReadOn old old parser already_read bytes 0 0
 has_read_on-nothing {already_read} reads = record { next = already_read; reads = reads; reads_on = reads_on-nothing }
 
 -- A round goes on from where the one before it stopped, if the buffers weren't full there.
-pub has_read_on-then : {old mid new : Buffers} {parser last : Parser 1024} {already_read bytes : List ℕ} {n m : ℕ}
+pub has_read_on-then : {old mid new : Buffers} {parser last : Parser max_piece_bytes} {already_read bytes : List ℕ}
+    {n m : ℕ}
     (has_read : HasReadOn old mid parser already_read bytes 0 n)
     → must_return mid ≡ false → n + m ≤ length bytes → HasReadOn mid new last has_read.next bytes n m
     → HasReadOn old new last already_read bytes 0 (n + m)

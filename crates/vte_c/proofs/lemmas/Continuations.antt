@@ -1,6 +1,8 @@
 -- A parser that read a part of a call goes on as one that has read another stream (`Continues`), and so it does after
 -- the next part: what the parts add is joined.
-use Rattle.vte_c.proofs.Common.{add-one, add_assoc, added, any_of_kinds, ap, append-nil, append_assoc, arith, Bool, breaks, breaks_at, cases_Bool, chars, contains_kind, Continues, DataRun, default_limit, drop, drop-drop, Entry, entry_data, entry_events, Event, event_kind, events_of_run, false, flat_map, get_or, GoesOnFromPositions, if◌then◌else◌, InInput, inl, InputRunKind, inr, is_stop, IsPrefix, IsStart, length, length-drop, List, map, NoEventStops, NoKindStops, NoRecordStops, open_character, OpensSilently, or_parts, Print, Put, records_from, refl, replacement, reported_before, resumed_stream, run_kind, Single, suc, sym, take, take-add, take-append-drop, take_more, TextRun, true, VteEvent, wanted_events, zero, zero-add, ℕ, [], ◌++◌, ◌+◌, ◌-◌, ◌<◌, ◌∙◌, ◌∷◌, ◌≡◌, ◌≤◌}
+use Rattle.std.proofs.lemmas.List.Folds.{list_any-append}
+use Rattle.std.specs.List.{list_any}
+use Rattle.vte_c.proofs.Common.{add-one, add_assoc, added, any_of_kinds, ap, append-nil, append_assoc, arith, Bool, breaks, breaks_at, cases_Bool, chars, contains_kind, Continues, DataRun, default_limit, drop, drop-drop, Entry, entry_data, entry_events, Event, event_kind, events_of_run, false, flat_map, get_or, GoesOnFromPositions, if◌then◌else◌, InInput, inl, InputRunKind, inr, is_stop, IsPrefix, IsStart, kinds_of, length, length-drop, List, map, NoEventStops, NoRecordStops, open_character, OpensSilently, or_parts, Print, Put, records_from, refl, replacement, reported_before, resumed_stream, run_kind, Single, suc, sym, take, take-add, take-append-drop, take_more, TextRun, true, VteEvent, wanted_events, zero, zero-add, ℕ, [], ◌++◌, ◌+◌, ◌-◌, ◌<◌, ◌∙◌, ◌∷◌, ◌≡◌, ◌≤◌}
 use Rattle.vte_core.proofs.lemmas.shapes.BrokenCharacters.{breaks-next}
 use Rattle.vte_core.proofs.lemmas.streams.After.{added-nothing}
 use Rattle.vte_core.proofs.lemmas.streams.EarlyStops.{added-append}
@@ -112,39 +114,32 @@ continues-call goes_on already_read bytes n = elim (cases_Bool (breaks_at alread
 -- If no record is of the kinds, none stops.
 pub no_kind_stops-none : (stop_kinds : ℕ) (records : List VteEvent) → any_of_kinds stop_kinds records ≡ false
     → NoRecordStops stop_kinds records
-no_kind_stops-none stop_kinds [] none_of_kinds = tt
+no_kind_stops-none stop_kinds [] none_of_kinds = refl
 no_kind_stops-none stop_kinds (vte_record ∷ records) none_of_kinds =
     let apart = or_parts (contains_kind stop_kinds vte_record.kind) (any_of_kinds stop_kinds records) none_of_kinds in
-    (apart.0, no_kind_stops-none stop_kinds records apart.1)
+    rw apart.0 (no_kind_stops-none stop_kinds records apart.1)
 
--- If none stops in either of two lists, none stops in both together.
-pub no_kind_stops-append : (stop_kinds : ℕ) (front back : List ℕ) → NoKindStops stop_kinds front
-    → NoKindStops stop_kinds back
-    → NoKindStops stop_kinds (front ++ back)
-no_kind_stops-append stop_kinds [] back none_stops none_after = none_after
-no_kind_stops-append stop_kinds (kind ∷ front) back none_stops none_after =
-    (none_stops.0, no_kind_stops-append stop_kinds front back none_stops.1 none_after)
+-- If none stops in either of two lists, of kinds or events, none stops in both together.
+pub none_stops-append : {A : Type 0} (does_stop : A → Bool) (front back : List A) → list_any does_stop front ≡ false
+    → list_any does_stop back ≡ false → list_any does_stop (front ++ back) ≡ false
+none_stops-append does_stop front back none_stops none_after =
+    rw (list_any-append does_stop front back, none_stops) none_after
 
 -- ---- events that do not stop (`NoEventStops`): of lists, runs and entries, and of fewer bytes
 
 -- If none stops in a list, none stops at its front.
 pub no_event_stops-front : (does_stop : ℕ → Bool) (front back : List Event) → NoEventStops does_stop (front ++ back)
     → NoEventStops does_stop front
-no_event_stops-front does_stop [] back none_stops = tt
-no_event_stops-front does_stop (event ∷ front) back none_stops =
-    (none_stops.0, no_event_stops-front does_stop front back none_stops.1)
+no_event_stops-front does_stop front back none_stops =
+    let stops : Event → Bool = λ event. does_stop (event_kind event) in
+    (or_parts (list_any stops front) (list_any stops back) (rw (list_any-append stops front back) at none_stops)).0
 
--- If none stops in either of two lists, none stops in both together.
-pub no_event_stops-append : (does_stop : ℕ → Bool) (front back : List Event) → NoEventStops does_stop front
-    → NoEventStops does_stop back → NoEventStops does_stop (front ++ back)
-no_event_stops-append does_stop [] back none_stops none_after = none_after
-no_event_stops-append does_stop (event ∷ front) back none_stops none_after =
-    (none_stops.0, no_event_stops-append does_stop front back none_stops.1 none_after)
-
-no_event_stops-each : (does_stop : ℕ → Bool) (call : ℕ → Event) → ((n : ℕ) → does_stop (event_kind (call n)) ≡ false)
-    → (ns : List ℕ) → NoEventStops does_stop (map call ns)
-no_event_stops-each does_stop call no_stop [] = tt
-no_event_stops-each does_stop call no_stop (n ∷ ns) = (no_stop n, no_event_stops-each does_stop call no_stop ns)
+no_event_stops-each : (does_stop : ℕ → Bool) (event_of : ℕ → Event)
+    → ((n : ℕ) → does_stop (event_kind (event_of n)) ≡ false)
+    → (ns : List ℕ) → NoEventStops does_stop (map event_of ns)
+no_event_stops-each does_stop event_of no_stop [] = refl
+no_event_stops-each does_stop event_of no_stop (n ∷ ns) =
+    rw (no_stop n) (no_event_stops-each does_stop event_of no_stop ns)
 
 -- All events of a run have its kind.
 pub no_event_stops-run : (does_stop : ℕ → Bool) (run : InputRunKind) (bytes : List ℕ) → does_stop (run_kind run) ≡ false
@@ -156,28 +151,37 @@ no_event_stops-run does_stop DataRun bytes no_stop = no_event_stops-each does_st
 pub no_event_stops-entries : (stop_kinds : ℕ) (input : List ℕ) (place : ℕ) (entries : List Entry)
     → NoRecordStops stop_kinds (records_from place entries)
     → NoEventStops (contains_kind stop_kinds) (flat_map (entry_events input) entries)
-no_event_stops-entries stop_kinds input place [] none_stops = tt
-no_event_stops-entries stop_kinds input place (Single event ∷ entries) none_stops = (
-  none_stops.0,
-  no_event_stops-entries stop_kinds input (place + length (entry_data (Single event))) entries none_stops.1,
-)
+no_event_stops-entries stop_kinds input place [] none_stops = refl
+no_event_stops-entries stop_kinds input place (Single event ∷ entries) none_stops =
+    let next : ℕ = place + length (entry_data (Single event)) in
+    let apart =
+    or_parts (contains_kind stop_kinds (event_kind event))
+    (list_any (contains_kind stop_kinds) (kinds_of (records_from next entries))) none_stops in
+    rw apart.0 (no_event_stops-entries stop_kinds input next entries apart.1)
 no_event_stops-entries stop_kinds input place (InInput run start size ∷ entries) none_stops =
     let bytes : List ℕ = take size (drop start input) in
-    no_event_stops-append (contains_kind stop_kinds) (events_of_run run bytes) (flat_map (entry_events input) entries)
-    (no_event_stops-run (contains_kind stop_kinds) run bytes none_stops.0)
-    (no_event_stops-entries stop_kinds input (place + 0) entries none_stops.1)
+    let apart =
+    or_parts (contains_kind stop_kinds (run_kind run))
+    (list_any (contains_kind stop_kinds) (kinds_of (records_from (place + 0) entries))) none_stops in
+    none_stops-append (λ event. contains_kind stop_kinds (event_kind event)) (events_of_run run bytes)
+    (flat_map (entry_events input) entries)
+    (no_event_stops-run (contains_kind stop_kinds) run bytes apart.0)
+    (no_event_stops-entries stop_kinds input (place + 0) entries apart.1)
 
 -- An event that isn't reported doesn't stop.
 pub no_event_stops-reported : (kinds stop_kinds : ℕ) (events : List Event)
     → NoEventStops (contains_kind stop_kinds) (wanted_events kinds events)
     → NoEventStops (is_stop kinds stop_kinds) events
-no_event_stops-reported kinds stop_kinds [] none_stops = tt
+no_event_stops-reported kinds stop_kinds [] none_stops = refl
 no_event_stops-reported kinds stop_kinds (event ∷ events) none_stops =
     elim (cases_Bool (contains_kind kinds (event_kind event))) [
       | inl wanted ↦
-          let rest = rw wanted at none_stops in
-          (rw wanted rest.0, no_event_stops-reported kinds stop_kinds events rest.1)
-      | inr other ↦ (rw other refl, no_event_stops-reported kinds stop_kinds events (rw other at none_stops))
+          let apart =
+          or_parts (contains_kind stop_kinds (event_kind event))
+          (list_any (λ event. contains_kind stop_kinds (event_kind event)) (wanted_events kinds events))
+          (rw wanted at none_stops) in
+          rw (wanted, apart.0) (no_event_stops-reported kinds stop_kinds events apart.1)
+      | inr other ↦ rw other (no_event_stops-reported kinds stop_kinds events (rw other at none_stops))
     ]
 
 -- If nothing that bytes add stops, nothing that fewer of them add does.
@@ -210,7 +214,7 @@ module _ (does_stop : ℕ → Bool) (no_text : does_stop 0 ≡ false) (stream by
 
   -- A byte after which no character is open ends at a start, and any other adds nothing that stops.
   pub no_event_stops-before : (i : ℕ) → i < n → NoEventStops does_stop (added default_limit stream (take i bytes))
-  no_event_stops-before zero earlier = rw (added-nothing default_limit stream) tt
+  no_event_stops-before zero earlier = rw (added-nothing default_limit stream) refl
   no_event_stops-before (suc i) earlier =
       let byte : ℕ = get_or bytes i 0 in
       let here : List ℕ = stream ++ take i bytes in
@@ -220,9 +224,9 @@ module _ (does_stop : ℕ → Bool) (no_text : does_stop 0 ≡ false) (stream by
       elim (silent here byte) [
         | inl closed ↦ no_event_stops-at_start (suc i) earlier (rw (one_more, ← append_assoc) closed)
         | inr opens ↦ rw (one_more, added-append default_limit stream (take i bytes) (byte ∷ []))
-            (no_event_stops-append does_stop (added default_limit stream (take i bytes))
+            (none_stops-append (λ event. does_stop (event_kind event)) (added default_limit stream (take i bytes))
             (added default_limit here (byte ∷ [])) before (elim opens [
-              | inl nothing ↦ rw nothing tt
-              | inr broken ↦ rw broken (no_text, tt)
+              | inl nothing ↦ rw nothing refl
+              | inr broken ↦ rw (broken, no_text) refl
             ]))
       ]

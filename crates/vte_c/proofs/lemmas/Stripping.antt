@@ -1,7 +1,7 @@
 -- Calls of the parser write the text of what they read: a run is written as its characters are, and a chunk that is
 -- short enough has room for its text.
-use Rattle.event_log.proofs.lemmas.Lengths.{text_of-run}
-use Rattle.vte_c.proofs.Common.{add-zero, add_assoc, added, after, ap, append-nil, append_assoc, arith, cases_Bool, chars, default_limit, encodes-chars, Event, false, flat_map-append, HasRead, inl, inr, IsUtf8, le-leb, length, length-append, List, map, nat_le, nat_tests, Parser, plain_text, plain_text_of, refl, sym, take, text_with, text_with_event, true, WrittenText, ℕ, [], ◌&&◌, ◌*◌, ◌++◌, ◌+◌, ◌<◌, ◌∙◌, ◌∷◌, ◌≡◌, ◌≤◌}
+use Rattle.event_log.proofs.lemmas.KeptTexts.{text_of-run}
+use Rattle.vte_c.proofs.Common.{add-zero, add_assoc, added, after, ap, append-nil, append_assoc, arith, cases_Bool, chars, default_limit, encodes-chars, Event, false, flat_map-append, HasRead, inl, inr, IsUtf8, le-leb, length, length-append, List, map, max_piece_bytes, nat_le, nat_tests, Parser, plain_text, plain_text_of, refl, sym, take, text_with, text_with_event, true, WrittenText, ℕ, [], ◌&&◌, ◌*◌, ◌++◌, ◌+◌, ◌<◌, ◌∙◌, ◌∷◌, ◌≡◌, ◌≤◌}
 use Rattle.vte_core.proofs.lemmas.streams.After.{added-nothing}
 use Rattle.vte_core.proofs.lemmas.streams.EarlyStops.{added-append}
 use Rattle.vte_core.specs.Text.{run_event}
@@ -66,12 +66,13 @@ run-written buffer text utf8 not_empty =
 -- ---- chunks
 
 -- The first n bytes were read, and the buffer has all of their text.
-pub record HasTextOf (old new : WrittenText) (stream bytes : List ℕ) (n : ℕ) (parser : Parser 1024) : Type 0 where
+pub record HasTextOf (old new : WrittenText) (stream bytes : List ℕ) (n : ℕ) (parser : Parser max_piece_bytes)
+    : Type 0 where
   pub parsed : HasRead parser (stream ++ take n bytes)
   pub holds : new ≡ with_all old (plain_text (added default_limit stream (take n bytes)))
 
 -- The buffer has the text that it had until a byte is read.
-pub has_text-nothing : {stream : List ℕ} {parser : Parser 1024} (buffer : WrittenText) (bytes : List ℕ)
+pub has_text-nothing : {stream : List ℕ} {parser : Parser max_piece_bytes} (buffer : WrittenText) (bytes : List ℕ)
     → HasRead parser stream
     → HasTextOf buffer buffer stream bytes 0 parser
 has_text-nothing {stream} buffer bytes parsed =
@@ -81,7 +82,8 @@ has_text-nothing {stream} buffer bytes parsed =
     }
 
 -- A chunk for whose text there is room adds this text.
-pub has_text-more : {old new later : WrittenText} {stream bytes : List ℕ} {n : ℕ} {parser parser_later : Parser 1024}
+pub has_text-more : {old new later : WrittenText} {stream bytes : List ℕ} {n : ℕ}
+    {parser parser_later : Parser max_piece_bytes}
     (chunk : List ℕ) → old.fits ≡ true
     → length (plain_text (added default_limit (stream ++ take n bytes) chunk)) ≤ 8 * length chunk
     → HasTextOf old new stream bytes n parser

@@ -1,10 +1,10 @@
 -- How far a call has come.
 use Rattle.std.specs.List.{flat_map, list_any}
-use Rattle.std.specs.Prelude.{Bool, drop, false, length, List, map, take, ℕ, ◌++◌, ◌+◌, ◌<◌, ◌||◌, ◌≡◌, ◌≤◌}
+use Rattle.std.specs.Prelude.{Bool, drop, false, length, List, take, ℕ, ◌++◌, ◌+◌, ◌<◌, ◌||◌, ◌≡◌, ◌≤◌}
 use Rattle.vte_c.specs.declared.event.VteEvent.{VteEvent}
 use Rattle.vte_c.specs.declared.event_writer.EventWriter.{EventWriter}
 use Rattle.vte_c.specs.private.Buffers.{Buffers, buffers_of}
-use Rattle.vte_c.specs.Record.{contains_kind, data_kind, Entry, entry_data, entry_events, events_in, kinds_of, records_from, text_kind, wanted_events}
+use Rattle.vte_c.specs.Record.{contains_kind, data_kind, Entry, entry_data, entry_events, events_in, kinds_of, max_piece_bytes, records_from, text_kind, wanted_events}
 use Rattle.vte_c.specs.Reported.{AreEncoded, AreReadable, AtMostOneFollowsStop, HasReported, is_stop, NoEventStops, NoKindStops}
 use Rattle.vte_core.specs.declared.parser.Parser.{Parser}
 use Rattle.vte_core.specs.declared.parser.saved.Saved.{Saved}
@@ -78,8 +78,8 @@ pub record ReadsOn (old new : Buffers) (already_read next bytes : List ℕ)
       NoEventStopsIn old (added default_limit already_read (take i (drop from bytes)))
 
 -- A call that had read bytes up to an offset has read n more.
-pub record HasReadOn (old new : Buffers) (parser : Parser 1024) (already_read bytes : List ℕ)
-    (from n : ℕ) : Type 0 where
+pub record HasReadOn (old new : Buffers) (parser : Parser max_piece_bytes)
+    (already_read bytes : List ℕ) (from n : ℕ) : Type 0 where
   pub next : List ℕ
   pub reads : HasRead parser next
   pub reads_on : ReadsOn old new already_read next bytes from n

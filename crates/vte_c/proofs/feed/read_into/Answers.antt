@@ -1,7 +1,7 @@
 -- The parser is restored before and saved after, so what `read_until_full` ensures holds for what is saved
 -- (`call-fed`).
 use Rattle.vte_c.proofs.feed.read_into.Goals as goal
-use Rattle.vte_c.proofs.lemmas.ReadBack.{call-fed}
+use Rattle.vte_c.proofs.lemmas.CallResults.{call-fed}
 
 pub returns-clause-stops_at_once : goal.returns-clause-stops_at_once
 returns-clause-stops_at_once c =

@@ -1,8 +1,8 @@
 -- A saved parser of zeros is a new one, which has read nothing. What calls give is joined, and in the end nothing is
--- unread (`ReadBack`).
+-- unread (`CallResults`).
 use Rattle.vte_c.proofs.Common.{default_limit, refl, sym, ◌∙◌}
 use Rattle.vte_c.proofs.laws.text_is_stripped.Goals as goal
-use Rattle.vte_c.proofs.lemmas.ReadBack.{given-all, given-before, given-nothing}
+use Rattle.vte_c.proofs.lemmas.CallResults.{given-all, given-before, given-nothing}
 
 pub returns-clause-starts : goal.returns-clause-starts
 returns-clause-starts c =

@@ -3,8 +3,8 @@
 use Rattle.std.proofs.lemmas.List.{take_rest}
 use Rattle.event_log.proofs.lemmas.Lengths.{text_grows_slowly}
 use Rattle.vte_c.proofs.Common.{added, ap, arith, default_limit, drop, flat_map-append, length, length-drop, length-take, plain_text, plain_text_of, refl, sym, take, take-add, written_text_of, WrittenText, ◌*◌, ◌++◌, ◌+◌, ◌-◌, ◌<◌, ◌∙◌, ◌≡◌, ◌≤◌}
+use Rattle.vte_c.proofs.lemmas.CallResults.{given-more}
 use Rattle.vte_c.proofs.lemmas.Continuations.{continues-added}
-use Rattle.vte_c.proofs.lemmas.ReadBack.{given-more}
 use Rattle.vte_c.proofs.lemmas.Stripping.{has_text-more, has_text-nothing}
 use Rattle.vte_c.proofs.text.read_into.Goals as goal
 

@@ -1,6 +1,6 @@
 -- The caller's slice and count are those of the writer, so what `read_into` ensures holds for the caller.
 use Rattle.vte_c.proofs.Common.{ap, arith, bytes_read, length, length-take, List, rules, sym, ℕ, ◌++◌, ◌≡◌, ◌≤◌}
-use Rattle.vte_c.proofs.lemmas.ReadBack.{bytes_read-with_room}
+use Rattle.vte_c.proofs.lemmas.CallResults.{bytes_read-with_room}
 use Rattle.vte_c.proofs.text.strip.Goals as goal
 use Rattle.vte_c.specs.Reported.{HasStripped}
 

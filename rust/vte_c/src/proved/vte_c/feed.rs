@@ -2,7 +2,7 @@
 //! From bytes to events.
 
 use crate::proved::vte_c::event::VteEvent;
-use crate::proved::vte_c::event_writer::EventWriter;
+use crate::proved::vte_c::event_writer::{EventWriter, MAX_PIECE_BYTES};
 use vte::{Parser, Saved};
 
 /// The number of events for which there must be room: what two bytes add.
@@ -16,6 +16,9 @@ pub(crate) const MIN_DATA: usize = 2112;
 
 /// The return value of a call with less room, which is no count of bytes.
 pub(crate) const NO_ROOM: usize = usize::MAX;
+
+/// The parser that a call restores from what the caller keeps.
+type RestoredParser = Parser<MAX_PIECE_BYTES>;
 
 /// How many events, and how many bytes of the data area, a call wrote. `bytes` is `data` in vte.h,
 /// which is a keyword of specs.
@@ -67,7 +70,11 @@ fn read_into(saved: &mut Saved, bytes: &[u8], writer: &mut EventWriter<'_>) -> u
 }
 
 /// Reads bytes until they end or the buffers are full.
-fn read_until_full(parser: &mut Parser<1024>, bytes: &[u8], writer: &mut EventWriter<'_>) -> usize {
+fn read_until_full(
+    parser: &mut RestoredParser,
+    bytes: &[u8],
+    writer: &mut EventWriter<'_>,
+) -> usize {
     let mut position = 0;
     while position < bytes.len() && !writer.must_return() {
         let read = read_more(parser, bytes, position, writer);
@@ -81,7 +88,7 @@ fn read_until_full(parser: &mut Parser<1024>, bytes: &[u8], writer: &mut EventWr
 
 /// Reads bytes up to and including a run of text or data, and writes the record of the run.
 fn read_more(
-    parser: &mut Parser<1024>,
+    parser: &mut RestoredParser,
     bytes: &[u8],
     from: usize,
     writer: &mut EventWriter<'_>,

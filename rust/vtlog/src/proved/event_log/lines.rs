@@ -1,5 +1,5 @@
 // Written by tools/erase from crates/event_log/src/lines.rt: edit that one.
-//! Lines of text, each appended whole or not at all.
+//! A buffer of lines or text, each appended whole or not at all.
 
 mod fields;
 mod hex;
@@ -7,27 +7,27 @@ mod hex;
 use crate::array_vec::ArrayVec;
 pub(crate) use hex::{line_of_execute, line_of_put};
 
-/// The size of a buffer for lines.
+/// The size of a buffer.
 const CAPACITY: usize = 8192;
 
-/// A buffer of 8,192 bytes for lines, each appended whole or not at all.
+/// A buffer of 8,192 bytes for lines or text, each appended whole or not at all.
 ///
-/// A line that doesn't fit is dropped. The buffer never allocates.
-pub struct Lines {
-    /// The lines, and after them what has been pushed of the next one.
+/// What doesn't fit is dropped. The buffer never allocates.
+pub struct LogBuffer {
+    /// What was appended, and after it what has been pushed of the next line.
     bytes: ArrayVec<u8, CAPACITY>,
     /// The start of the line that is being written.
     start: usize,
     /// Whether all of it has fitted so far.
     fits: bool,
-    /// Whether a line was dropped since the last `clear`.
+    /// Whether anything was dropped since the last `clear`.
     lost: bool,
 }
 
-impl Lines {
+impl LogBuffer {
     /// Creates an empty buffer.
     pub fn new() -> Self {
-        Lines {
+        LogBuffer {
             bytes: ArrayVec::new(),
             start: 0,
             fits: true,
@@ -35,7 +35,7 @@ impl Lines {
         }
     }
 
-    /// Returns the lines.
+    /// Returns what was appended.
     pub fn bytes(&self) -> &[u8] {
         self.bytes.as_slice()
     }
@@ -45,21 +45,21 @@ impl Lines {
         CAPACITY - self.bytes.len()
     }
 
-    /// Returns whether more than half of the capacity is in use: then the lines should be written.
+    /// Returns whether more than half of the capacity is in use: then the bytes should be written.
     pub(crate) fn is_to_be_written(&self) -> bool {
         self.bytes.len() > CAPACITY / 2
     }
 
-    /// Removes all lines.
+    /// Removes all bytes, and forgets that any was lost.
     pub fn clear(&mut self) {
         self.bytes.clear();
         self.lost = false;
     }
 
-    /// Appends a line, or drops it if there isn't room for all of it.
+    /// Appends a text, or drops it if there isn't room for all of it.
     #[inline]
-    pub fn append(&mut self, line: &[u8]) {
-        if self.bytes.try_extend_from_slice(line).is_err() {
+    pub fn append(&mut self, text: &[u8]) {
+        if self.bytes.try_extend_from_slice(text).is_err() {
             self.lost = true;
         }
     }

@@ -2,7 +2,7 @@
 //! The performer that keeps only text.
 
 use crate::proved::event_log::collector::{Collector, LogParser};
-use crate::proved::event_log::lines::Lines;
+use crate::proved::event_log::lines::LogBuffer;
 use vte::{Params, Perform, PerformText};
 
 /// The most bytes of text that one byte of a stream adds: one byte adds at most two characters.
@@ -13,14 +13,14 @@ const MAX_TEXT_PER_BYTE: usize = 8;
 /// Characters are kept as UTF-8, and HT, LF and CR as they are. A character that doesn't fit is
 /// dropped. `Plain` is terminated when it holds more than 4,096 bytes.
 pub struct Plain {
-    texts: Lines,
+    texts: LogBuffer,
 }
 
 impl Plain {
     /// Creates an empty `Plain`.
     pub fn new() -> Self {
         Plain {
-            texts: Lines::new(),
+            texts: LogBuffer::new(),
         }
     }
 

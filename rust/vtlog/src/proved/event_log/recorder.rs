@@ -2,7 +2,7 @@
 //! The performer that writes lines.
 
 use crate::proved::event_log::collector::{Collector, LogParser};
-use crate::proved::event_log::lines::{line_of_execute, line_of_put, Lines};
+use crate::proved::event_log::lines::{line_of_execute, line_of_put, LogBuffer};
 use vte::{Params, Perform};
 
 /// Collects one line per event in a buffer of 8,192 bytes.
@@ -10,14 +10,14 @@ use vte::{Params, Perform};
 /// A line that doesn't fit is dropped. The recorder is terminated when it holds more than 4,096
 /// bytes.
 pub struct Recorder {
-    lines: Lines,
+    lines: LogBuffer,
 }
 
 impl Recorder {
     /// Creates an empty recorder.
     pub fn new() -> Self {
         Recorder {
-            lines: Lines::new(),
+            lines: LogBuffer::new(),
         }
     }
 

@@ -103,7 +103,7 @@ fn run_with_arguments<R: Source, W: Sink>(
     writer: &mut W,
 ) -> (u8, &'static str) {
     if let Some(page) = find_page(args) {
-        return describe_outcome(&print(page, writer));
+        return describe_outcome(&write_page(page, writer));
     }
     match choose_mode(args) {
         Some(Mode::Lines) => describe_outcome(&run(reader, writer)),
@@ -121,7 +121,7 @@ fn find_page(args: &[&str]) -> Option<&'static str> {
     }
 }
 
-/// Returns what the arguments choose, or None if any was unexpected.
+/// Returns the mode that the arguments choose, if they choose one.
 fn choose_mode(args: &[&str]) -> Option<Mode> {
     match args {
         [] => Some(Mode::Lines),
@@ -130,9 +130,9 @@ fn choose_mode(args: &[&str]) -> Option<Mode> {
     }
 }
 
-/// Writes a text, and flushes it.
-fn print<W: Sink>(text: &str, writer: &mut W) -> Result<(), Fault> {
-    if writer.write_all(text.as_bytes()).is_err() || writer.flush().is_err() {
+/// Writes the help or the version, and flushes it.
+fn write_page<W: Sink>(page: &str, writer: &mut W) -> Result<(), Fault> {
+    if writer.write_all(page.as_bytes()).is_err() || writer.flush().is_err() {
         return Err(Fault::Write);
     }
     Ok(())

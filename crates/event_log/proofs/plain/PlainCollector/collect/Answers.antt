@@ -1,7 +1,7 @@
 -- The text of a chunk has at most eight bytes for each of its own, so there is room for all of it (`text-kept`).
 use Rattle.event_log.proofs.Common.{ap, arith, CollectedText, default_limit, length, rules, sym, take-append-drop, ◌<◌, ◌∙◌}
 use Rattle.event_log.proofs.lemmas.CollectedTexts.{room-for_unit}
-use Rattle.event_log.proofs.lemmas.Lengths.{text-kept}
+use Rattle.event_log.proofs.lemmas.KeptTexts.{text-kept}
 use Rattle.event_log.proofs.plain.PlainCollector.collect.Goals as goal
 
 pub loop-self-preserved : goal.loop-self-preserved

@@ -3,7 +3,7 @@ use Rattle.std.proofs.lemmas.Iterator.{YieldsList-from_chars}
 use Rattle.std.proofs.lemmas.Iterator.Consumers.{YieldsList-end}
 use Rattle.std.proofs.lemmas.List.{map-id}
 use Rattle.event_log.proofs.Common.{after, ap, arith, collected_text_of, map, plain_text_of, run_event, sym, true, with_event, with_text, ◌∙◌}
-use Rattle.event_log.proofs.lemmas.Lengths.{after-more, run-taken, text_of-character}
+use Rattle.event_log.proofs.lemmas.KeptTexts.{after-more, run-taken, text_of-character}
 use Rattle.event_log.proofs.plain.PlainPerformText.print_text.Goals as goal
 
 pub returns-then-text-remaining_capacity : goal.returns-then-text-remaining_capacity

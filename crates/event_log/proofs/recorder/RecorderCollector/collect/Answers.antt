@@ -1,7 +1,7 @@
 -- The call stops before a line could be lost (`lines-kept`), and not before its first byte (`call-reads_some`).
 use Rattle.std.proofs.lemmas.List.{take_rest}
 use Rattle.event_log.proofs.Common.{arith, default_limit, length-drop}
-use Rattle.event_log.proofs.lemmas.Lengths.{call-reads_some, lines-kept}
+use Rattle.event_log.proofs.lemmas.KeptTexts.{call-reads_some, lines-kept}
 use Rattle.event_log.proofs.recorder.RecorderCollector.collect.Goals as goal
 
 pub returns-clause-reads_some : goal.returns-clause-reads_some

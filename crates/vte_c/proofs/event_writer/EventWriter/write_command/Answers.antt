@@ -1,11 +1,11 @@
 -- The size of the data is its end minus its start. The end may saturate, but then the size is above 1,024 in any case
 -- (`size-without_saturation`).
 use Rattle.std.specs.Prelude.{◌^◌}
-use Rattle.vte_c.proofs.Common.{ap, arith, Buffers, flat_map, is_at_limit, length, length-map, map, min, nat_le, nat_tests, paused_if, piece_bytes, sym, ℕ, ◌+◌, ◌-◌, ◌<◌, ◌∙◌, ◌≡◌}
+use Rattle.vte_c.proofs.Common.{ap, arith, Buffers, flat_map, is_at_limit, length, length-map, map, max_piece_bytes, min, nat_le, nat_tests, paused_if, piece_bytes, sym, ℕ, ◌+◌, ◌-◌, ◌<◌, ◌∙◌, ◌≡◌}
 use Rattle.vte_c.proofs.event_writer.EventWriter.write_command.Goals as goal
 
 size-without_saturation : (used size : ℕ) → used < 2 ^ 32
-    → nat_le 1024 (min (used + size) (2 ^ 64 - 1) - used) ≡ nat_le 1024 size
+    → nat_le max_piece_bytes (min (used + size) (2 ^ 64 - 1) - used) ≡ nat_le max_piece_bytes size
 size-without_saturation used size small = grind (arith, nat_tests)
 
 pub returns-then-is_wanted : goal.returns-then-is_wanted

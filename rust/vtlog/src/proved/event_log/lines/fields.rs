@@ -2,10 +2,10 @@
 //! Fields of lines.
 
 use super::hex::{hex_length, hex_pair, six_hex_digits};
-use super::Lines;
+use super::LogBuffer;
 use vte::Params;
 
-impl Lines {
+impl LogBuffer {
     /// Pushes the decimal digits of a number, three at a time.
     pub(crate) fn push_decimal(&mut self, number: usize) {
         match number {

@@ -1,7 +1,7 @@
 // Written by tools/erase from crates/event_log/src/lines/hex.rt: edit that one.
 //! Lines of characters and single bytes, and hex digits.
 
-use super::Lines;
+use super::LogBuffer;
 
 /// The two hex digits of each byte, one after another: one load instead of two.
 const HEX_PAIRS: &[u8; 512] = b"\
@@ -14,7 +14,7 @@ const HEX_PAIRS: &[u8; 512] = b"\
     c0c1c2c3c4c5c6c7c8c9cacbcccdcecfd0d1d2d3d4d5d6d7d8d9dadbdcdddedf\
     e0e1e2e3e4e5e6e7e8e9eaebecedeeeff0f1f2f3f4f5f6f7f8f9fafbfcfdfeff";
 
-impl Lines {
+impl LogBuffer {
     /// Appends the line of a character. Most lines of a log are these, so the length of each copy
     /// is a constant.
     #[inline(always)]

@@ -1,7 +1,7 @@
 -- The fields are pushed one after another, so the line is extended by all of them (`extends_then`).
 use Rattle.event_log.proofs.Common.{sequence_fields}
 use Rattle.event_log.proofs.lemmas.Fields.{extends_then}
-use Rattle.event_log.proofs.lines.Lines.push_sequence_fields.Goals as goal
+use Rattle.event_log.proofs.lines.LogBuffer.push_sequence_fields.Goals as goal
 
 pub returns : goal.returns
 unfolding sequence_fields

@@ -1,6 +1,6 @@
 -- The first group is pushed, and those passed so far, each after `;`. Those that are left have numbers.
 use Rattle.event_log.proofs.Common.{after_semicolon, All, Bor, codes, ExtendsLine, flat_map, get_or, group_text, length, List, map, ℕ, [], ◌++◌, ◌<◌, ◌∷◌, ◌≡◌}
-use Rattle.event_log.proofs.lines.Lines.push_groups.Given as goal
+use Rattle.event_log.proofs.lines.LogBuffer.push_groups.Given as goal
 
 abbrev pub invariant-loop-group : goal.invariant-loop-group
 invariant-loop-group l =

@@ -1,7 +1,7 @@
 -- The count of the pieces, and then each one's field, are the fields of all (`pieces_fields-as_pushed`).
 use Rattle.event_log.proofs.Common.{take_all}
 use Rattle.event_log.proofs.lemmas.Fields.{pieces_fields-as_pushed}
-use Rattle.event_log.proofs.lines.Lines.push_pieces_fields.Goals as goal
+use Rattle.event_log.proofs.lines.LogBuffer.push_pieces_fields.Goals as goal
 
 pub returns : goal.returns
 returns c =

@@ -1,7 +1,7 @@
 -- The last of six digits are pushed.
 use Rattle.event_log.proofs.Common.{ap, arith, hex_character, hex_length, max, ◌∙◌, ◌≡◌, ◌≤◌}
 use Rattle.event_log.proofs.lemmas.Fields.{last_digits}
-use Rattle.event_log.proofs.lines.Lines.push_character.Goals as goal
+use Rattle.event_log.proofs.lines.LogBuffer.push_character.Goals as goal
 
 pub returns : goal.returns
 unfolding hex_character

@@ -2,7 +2,7 @@
 -- digits.
 use Rattle.event_log.proofs.Common.{arith}
 use Rattle.event_log.proofs.lemmas.Fields.{decimal-one_digit, decimal-three_digits, decimal-three_more, decimal-two_digits, extends_then}
-use Rattle.event_log.proofs.lines.Lines.+push_decimal.Goals as goal
+use Rattle.event_log.proofs.lines.LogBuffer.+push_decimal.Goals as goal
 
 pub returns-in-0-to-9 : goal.returns-in-0-to-9
 returns-in-0-to-9 t c = rw (decimal-one_digit c.args.number (omega arith)) (rw c.digit.ensures at c.push.ensures)

@@ -2,8 +2,8 @@
 -- that text is empty.
 use Rattle.event_log.proofs.Common.{after_semicolon, All-tail, append-nil, arith, Bor, common_steps, flat_map, get_or, group_text, groups_written, IsNonEmpty, List, map, refl, shown, shown-nil, sym, ℕ, [], ◌++◌, ◌∙◌, ◌≡◌}
 use Rattle.event_log.proofs.lemmas.Fields.{extends_then}
-use Rattle.event_log.proofs.lines.Lines.push_groups.Goals.{in-Some+in-None, in_default}
-use Rattle.event_log.proofs.lines.Lines.push_groups.Goals as goal
+use Rattle.event_log.proofs.lines.LogBuffer.push_groups.Goals.{in-Some+in-None, in_default}
+use Rattle.event_log.proofs.lines.LogBuffer.push_groups.Goals as goal
 
 pub loop-group-init : goal.loop-group-init
 loop-group-init c =

@@ -1,6 +1,6 @@
 -- The first number is pushed, and those passed so far, each after `:`.
 use Rattle.event_log.proofs.Common.{after_colon, decimal, drop, ExtendsLine, flat_map, get_or, length, take, ◌++◌, ◌-◌}
-use Rattle.event_log.proofs.lines.Lines.push_numbers.Given as goal
+use Rattle.event_log.proofs.lines.LogBuffer.push_numbers.Given as goal
 
 abbrev pub invariant-loop-number : goal.invariant-loop-number
 invariant-loop-number l =

@@ -1,6 +1,6 @@
 -- The count of the pieces is pushed, and the fields of those passed so far.
 use Rattle.event_log.proofs.Common.{blank, decimal, ExtendsLine, flat_map, hex_field, length, take, ◌++◌}
-use Rattle.event_log.proofs.lines.Lines.push_pieces_fields.Given as goal
+use Rattle.event_log.proofs.lines.LogBuffer.push_pieces_fields.Given as goal
 
 abbrev pub invariant-loop-piece : goal.invariant-loop-piece
 invariant-loop-piece l =

@@ -1,7 +1,7 @@
 -- A number below 0x10000 has four hex digits, which are those of two bytes (`Fields`).
 use Rattle.event_log.proofs.Common.{arith, hex_byte}
 use Rattle.event_log.proofs.lemmas.Fields.{line_of-four_digits}
-use Rattle.event_log.proofs.lines.Lines.append_print.Goals as goal
+use Rattle.event_log.proofs.lines.LogBuffer.append_print.Goals as goal
 
 pub returns-in-256-to-65535 : goal.returns-in-256-to-65535
 unfolding hex_byte

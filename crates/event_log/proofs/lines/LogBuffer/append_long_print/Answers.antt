@@ -1,7 +1,7 @@
 -- The line has the last five of six hex digits, or all of them (`Fields`).
 use Rattle.event_log.proofs.Common.{arith, hex_digits}
 use Rattle.event_log.proofs.lemmas.Fields.{line_of-five_digits, line_of-six_digits}
-use Rattle.event_log.proofs.lines.Lines.append_long_print.Goals as goal
+use Rattle.event_log.proofs.lines.LogBuffer.append_long_print.Goals as goal
 
 pub returns-in-65536-to-1048575 : goal.returns-in-65536-to-1048575
 unfolding hex_digits

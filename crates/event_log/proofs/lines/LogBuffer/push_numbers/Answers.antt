@@ -1,6 +1,6 @@
 -- The first number, and then each other one after `:`, are the text of the group (`group_written`).
 use Rattle.event_log.proofs.Common.{group_written}
-use Rattle.event_log.proofs.lines.Lines.push_numbers.Goals as goal
+use Rattle.event_log.proofs.lines.LogBuffer.push_numbers.Goals as goal
 
 pub returns : goal.returns
 returns c =

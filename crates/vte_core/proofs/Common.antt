@@ -30,8 +30,8 @@ pub use Rattle.vte_core.specs.declared.parser.machine.Machine.{Machine}
 pub use Rattle.vte_core.specs.declared.parser.refused.Refused.{Refused}
 pub use Rattle.vte_core.specs.declared.parser.State.{State}
 pub use Rattle.vte_core.specs.declared.parser.State.TheVariants.{ControlSequence, DeviceControl, DeviceData, Escape, EscapeIntermediate, IgnoredString, SystemCommand, Text}
-pub use Rattle.vte_core.specs.declared.utf8.Unfinished.{Unfinished}
-pub use Rattle.vte_core.specs.declared.utf8.Unfinished.TheVariants.{Empty, One, Three, Two}
+pub use Rattle.vte_core.specs.declared.utf8.OpenCharacter.{OpenCharacter}
+pub use Rattle.vte_core.specs.declared.utf8.OpenCharacter.TheVariants.{Empty, One, Three, Two}
 pub use Rattle.vte_core.specs.DeviceControl.{ends_device_data}
 unfoldable pub use Rattle.vte_core.specs.DeviceControl.{device_control_after_head, device_control_outcome, device_data_outcome}
 pub use Rattle.vte_core.specs.EarlyStop.{breaks, ComesTo, IsStart, NoCharacterStops, StopsExactly}
@@ -80,7 +80,7 @@ IsAtMostOneCharacter [] = Unit {0}
 IsAtMostOneCharacter (event ∷ []) = IsCharacterEvent event
 IsAtMostOneCharacter _ = ⊥
 
--- The bytes of the unfinished character at a place.
+-- The bytes of the open character at a place.
 abbrev pub open_at : Place → List ℕ
 open_at (InText bytes) = bytes
 open_at _ = []

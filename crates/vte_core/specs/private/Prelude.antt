@@ -2,7 +2,7 @@
 pub use Rattle.vte_core.specs.Class.{class_of, dispatches_escape, ends_sequence, is_device_data, is_final, is_head_byte, is_intermediate, is_parameter_byte, is_plain_control, IsDeviceData}
 pub use Rattle.vte_core.specs.CommandMemory.{StoredCommand}
 pub use Rattle.vte_core.specs.declared.parser.State.TheVariants.{DeviceData, Escape, EscapeIntermediate, IgnoredString, SystemCommand, Text}
-pub use Rattle.vte_core.specs.declared.utf8.Unfinished.TheVariants.{Empty, One}
+pub use Rattle.vte_core.specs.declared.utf8.OpenCharacter.TheVariants.{Empty, One}
 pub use Rattle.vte_core.specs.EarlyStop.{NoCharacterStops}
 pub use Rattle.vte_core.specs.Event.{after, CsiDispatch, EscDispatch, Event, Execute, Hook, OscDispatch, Print, Put, Unhook}
 pub use Rattle.vte_core.specs.LongParser.{read_count}
@@ -22,7 +22,7 @@ pub use Rattle.vte_core.specs.private.Store.{ArePieceEnds, cut_pieces, fitting, 
 pub use Rattle.vte_core.specs.private.Takes.{Dispatches, Reports, ReportsAll, TakesByte, TakesBytes}
 pub use Rattle.vte_core.specs.private.ToRun.{AreOfKind, ComesToRun, IsOutsideRunsInState, IsOutsideTextAndData, IsTaken, read_before_range, read_through_range}
 pub use Rattle.vte_core.specs.SequenceKind.{begins_ignored_string}
-pub use Rattle.vte_core.specs.Stream.{IsFinished, IsUnfinished}
+pub use Rattle.vte_core.specs.Stream.{IsClosed, IsOpen}
 unfoldable pub use Rattle.vte_core.specs.Stream.{outcome}
 pub use Rattle.vte_core.specs.SystemCommand.{has_room, IsCommandData, max_pieces}
 unfoldable pub use Rattle.vte_core.specs.SystemCommand.{loses_data}

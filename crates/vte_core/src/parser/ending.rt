@@ -4,7 +4,7 @@ ghost use Rattle.vte_core.specs.private.Prelude.{Advances, after, caller_looks, 
 
 use crate::buffer::Buffer;
 use crate::class::ESCAPE;
-use crate::parser::{Machine, State, Unfinished};
+use crate::parser::{Machine, OpenCharacter, State};
 use crate::reader::{CountedPerform, Granularity, Input, Reader};
 
 impl<B: Buffer> Machine<B> {
@@ -31,7 +31,7 @@ impl<B: Buffer> Machine<B> {
             return;
         }
         performer.execute_control(reader, byte);
-        self.state = State::Text(Unfinished::Empty);
+        self.state = State::Text(OpenCharacter::Empty);
     }
 
     /// Reads a byte that ends what is open, and after ESC also the bytes that follow it.

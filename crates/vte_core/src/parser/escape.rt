@@ -8,7 +8,7 @@ use crate::class::{
     is_intermediate, is_plain_control,
 };
 use crate::head::HeadProgress;
-use crate::parser::{Machine, State, Unfinished};
+use crate::parser::{Machine, OpenCharacter, State};
 use crate::reader::{CountedPerform, Granularity, Input, Reader};
 
 impl<B: Buffer> Machine<B> {
@@ -199,6 +199,6 @@ impl<B: Buffer> Machine<B> {
             self.old self.new reader.old reader.new }
     {
         performer.esc_dispatch(reader, &self.collected, final_byte);
-        self.state = State::Text(Unfinished::Empty);
+        self.state = State::Text(OpenCharacter::Empty);
     }
 }

@@ -16,7 +16,7 @@ invariant-loop-byte g l = record {
   lone : is_in (from_to 0xc2 0xf4) l.byte ≡ false;
   spends : SpendsWithin (per_byte 3) (caller_looks 0) (lookahead 1)
       l.input.bytes.now l.from l.position l.fn.self l.self l.fn.reader l.reader;
-  caller_looks : looks_of l.fn.reader + l.position + 1 ≤ looks_of l.reader + l.from;
+  looks_at_least : looks_of l.fn.reader + l.position + 1 ≤ looks_of l.reader + l.from;
 }
 
 abbrev pub decreases-loop-byte : goal.decreases-loop-byte

@@ -9,7 +9,7 @@ pub use Rattle.vte_core.specs.LongParser.{read_count}
 pub use Rattle.vte_core.specs.Looks.{looks_of, per_byte, total_looks}
 pub use Rattle.vte_core.specs.Outcome.{SaysLoss}
 pub use Rattle.vte_core.specs.OutsideRuns.{ReportsOutsideRuns}
-pub use Rattle.vte_core.specs.Parameters.{is_separator}
+pub use Rattle.vte_core.specs.Parameters.{is_separator, semicolon}
 pub use Rattle.vte_core.specs.private.AtPlace.{HasReadWithLimit, IsAtPlace}
 pub use Rattle.vte_core.specs.private.CollectedHead.{CountsNumbers, HasReadHead, HoldsHead, HoldsIntermediates, HoldsNumbers, HoldsWholeHead, ReadsHeadUpTo, SameIntermediates, SameNumbers, with_open_number}
 pub use Rattle.vte_core.specs.private.Costs.{caller_looks, Costs, HandlesByteWithin, IsRefusedAt, lookahead, ReadsCall, ReadsWithin, SpendsWithin}
@@ -22,7 +22,7 @@ pub use Rattle.vte_core.specs.private.Store.{ArePieceEnds, cut_pieces, fitting, 
 pub use Rattle.vte_core.specs.private.Takes.{Dispatches, Reports, ReportsAll, TakesByte, TakesBytes}
 pub use Rattle.vte_core.specs.private.ToRun.{AreOfKind, ComesToRun, IsOutsideRunsInState, IsOutsideTextAndData, IsTaken, read_before_range, read_through_range}
 pub use Rattle.vte_core.specs.SequenceKind.{begins_ignored_string}
-pub use Rattle.vte_core.specs.Stream.{IsClosed, IsOpen}
+pub use Rattle.vte_core.specs.Stream.{escape, IsClosed, IsOpen}
 unfoldable pub use Rattle.vte_core.specs.Stream.{outcome}
 pub use Rattle.vte_core.specs.SystemCommand.{has_room, IsCommandData, max_pieces}
 unfoldable pub use Rattle.vte_core.specs.SystemCommand.{loses_data}

@@ -1,6 +1,6 @@
 //! Escape sequences, and what ESC begins.
 ghost use Rattle.std.specs.Prelude.{slice_index, true, [], ◌*◌, ◌+◌, ◌<◌, ◌∷◌, ◌≡◌, ◌≢◌, ◌≤◌};
-ghost use Rattle.vte_core.specs.private.Prelude.{Advances, AtEscape, caller_looks, chunk_call, class_of, Dispatches, Empty, Escape, EscapeIntermediate, EscDispatch, EventsOutsideRuns, HandlesByteWithin, is_final, IsAtPlace, IsSettledPlace, looks_of, MayRead, MayReadAt, per_byte, Place, ReadsWithin, TakesByte, TakesBytes, Text};
+ghost use Rattle.vte_core.specs.private.Prelude.{Advances, AtEscape, caller_looks, chunk_call, class_of, Dispatches, Empty, Escape, escape, EscapeIntermediate, EscDispatch, EventsOutsideRuns, HandlesByteWithin, is_final, IsAtPlace, IsSettledPlace, looks_of, MayRead, MayReadAt, per_byte, Place, ReadsWithin, TakesByte, TakesBytes, Text};
 
 use crate::buffer::Buffer;
 use crate::class::{
@@ -24,7 +24,7 @@ impl<B: Buffer> Machine<B> {
         requires may_read { MayReadAt
             (chunk_call MAY_STOP P.step P.is_terminated B.limit input.bytes.now)
             (P.value_of performer.old) (Text Empty) self.old from }
-        requires escape { slice_index input.bytes.now from ≡ 0x1b }
+        requires escape { slice_index input.bytes.now from ≡ escape }
         ensures advances { Advances EventsOutsideRuns
             (chunk_call MAY_STOP P.step P.is_terminated B.limit input.entry.bytes.now)
             (P.value_of performer.old) (P.value_of performer.new) from result self.old self.new }

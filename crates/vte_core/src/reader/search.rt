@@ -4,7 +4,7 @@
 //! one by one before any block is tried, so that no byte is read often. A search that loads bytes
 //! directly counts them at the end.
 ghost use Rattle.std.specs.Prelude.{IsTrue, length, min, slice_index, true, ℕ, ◌*◌, ◌+◌, ◌<◌, ◌≡◌, ◌≢◌, ◌≤◌};
-ghost use Rattle.vte_core.specs.private.Prelude.{AreIgnored, ArePositions, class_of, ends_sequence, FindsEnd, IsCommandData, IsDeviceData, looks_of, Scans};
+ghost use Rattle.vte_core.specs.private.Prelude.{AreIgnored, ArePositions, class_of, ends_sequence, escape, FindsEnd, IsCommandData, IsDeviceData, looks_of, Scans};
 
 use crate::class::{ESCAPE, cannot_end, ends_sequence, is_command_data, is_device_data};
 use crate::reader::{Input, Reader};
@@ -43,7 +43,7 @@ impl Reader {
     pub(crate) fn find_escape(&mut self, input: Input<'_>, from: usize) -> usize
         requires { from ≤ length input.bytes.now }
         ensures { FindsEnd
-            (λ byte. byte ≢ 0x1b) input.entry.bytes.now from result self.old self.new }
+            (λ byte. byte ≢ escape) input.entry.bytes.now from result self.old self.new }
     {
         let rest = &input.bytes[from..];
         match memchr(ESCAPE, rest) {
@@ -73,7 +73,7 @@ impl Reader {
         ensures reads_some { from < result }
         ensures within { result ≤ length input.entry.bytes.now }
         ensures no_escape { (k : ℕ) → from ≤ k → k + 1 < result
-            → slice_index input.entry.bytes.now k ≢ 0x1b }
+            → slice_index input.entry.bytes.now k ≢ escape }
         ensures looks { looks_of self.new + from ≡ looks_of self.old + result }
         ensures unread_at_most_read { MAY_STOP ≡ true → result + text_start ≤ from + from }
     {

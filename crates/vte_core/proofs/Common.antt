@@ -61,13 +61,14 @@ pub use Rattle.vte_core.specs.private.Runs.{AreIgnored, ArePrintedAscii, ArePut,
 pub use Rattle.vte_core.specs.private.Scans.{ArePositions, Scans}
 pub use Rattle.vte_core.specs.private.Store.{cut_data, cut_pieces, ends_after, fitting, HoldsItems, pieces_from, PiecesEnd, SameItems}
 pub use Rattle.vte_core.specs.private.Takes.{TakesByte, TakesBytes}
+pub use Rattle.vte_core.specs.RunText.{ends_run, HasNoRunAt, is_layout, run_event, StaysInRun}
 pub use Rattle.vte_core.specs.SequenceKind.{EscapeSequence, SequenceKind}
 unfoldable pub use Rattle.vte_core.specs.SequenceKind.{sequence_kind}
 pub use Rattle.vte_core.specs.Stream.{added, cut_at_escape, default_limit, escape, with_bodies}
 unfoldable pub use Rattle.vte_core.specs.Stream.{events, open_character, outcome}
 pub use Rattle.vte_core.specs.SystemCommand.{bell, ends_system_command, has_room, is_data_item, IsCommandData, kept_after, max_pieces, system_command_rest}
 unfoldable pub use Rattle.vte_core.specs.SystemCommand.{kept_items, loses_data, pieces_of, system_command_outcome}
-pub use Rattle.vte_core.specs.Text.{ends_run, HasNoRunAt, is_control_character, is_layout, run_event, segments_outcome, StaysInRun}
+pub use Rattle.vte_core.specs.Text.{is_control_character, segments_outcome}
 unfoldable pub use Rattle.vte_core.specs.Text.{character_event, executed_events, malformed_event, segment_event, text_outcome}
 pub use Rattle.vte_core.specs.Utf8.{allowed_length, from_to, is_complete, is_in, Range, rows_after_byte, rows_after_bytes, scalar_of, segments, segments_after}
 unfoldable pub use Rattle.vte_core.specs.Utf8.{is_truncated, is_well_formed, trailing_count, utf8_rows}

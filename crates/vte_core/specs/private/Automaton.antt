@@ -2,7 +2,7 @@
 -- bytes say of its state. No code has these states.
 use Rattle.std.specs.Prelude.{Bool, false, if◌then◌else◌, List, nat_le, slice_index, ℕ, [], ◌<◌, ◌==◌, ◌∷◌, ◌≡◌, ◌≤◌}
 use Rattle.vte_core.specs.declared.reader.Window.{Window}
-use Rattle.vte_core.specs.Text.{is_layout}
+use Rattle.vte_core.specs.RunText.{is_layout}
 use Rattle.vte_core.specs.Utf8.{from_to, is_in, Range}
 
 -- What may come next.

@@ -21,10 +21,11 @@ pub use Rattle.vte_core.specs.private.Scans.{ArePositions, FindsEnd, IsWindow, L
 pub use Rattle.vte_core.specs.private.Store.{ArePieceEnds, cut_pieces, fitting, HasCapacity, HoldsItems, ReservesCapacity, SameItems}
 pub use Rattle.vte_core.specs.private.Takes.{Dispatches, Reports, ReportsAll, TakesByte, TakesBytes}
 pub use Rattle.vte_core.specs.private.ToRun.{AreOfKind, ComesToRun, IsOutsideRunsInState, IsOutsideTextAndData, IsTaken, read_before_range, read_through_range}
+pub use Rattle.vte_core.specs.RunText.{HasNoRunAt, is_layout, IsRunText, run_event}
 pub use Rattle.vte_core.specs.SequenceKind.{begins_ignored_string}
 pub use Rattle.vte_core.specs.Stream.{escape, IsClosed, IsOpen}
 unfoldable pub use Rattle.vte_core.specs.Stream.{outcome}
 pub use Rattle.vte_core.specs.SystemCommand.{has_room, IsCommandData, max_pieces}
 unfoldable pub use Rattle.vte_core.specs.SystemCommand.{loses_data}
-pub use Rattle.vte_core.specs.Text.{character_event, HasNoRunAt, is_control_character, is_layout, IsRunText, malformed_event, run_event}
+pub use Rattle.vte_core.specs.Text.{character_event, is_control_character, malformed_event}
 pub use Rattle.vte_core.specs.Utf8.{from_to, is_in, is_truncated, scalar_of}

@@ -3,7 +3,7 @@ use Rattle.std.specs.Prelude.{Bool, drop, false, List, map, slice_index, take, �
 use Rattle.std.specs.Str.{chars, IsUtf8}
 use Rattle.vte_core.specs.Class.{class_of, ends_sequence, IsDeviceData}
 use Rattle.vte_core.specs.Event.{after, Event}
-use Rattle.vte_core.specs.Text.{IsRunText, run_event}
+use Rattle.vte_core.specs.RunText.{IsRunText, run_event}
 
 -- `holds` is true of each byte from `from` up to `to`.
 abbrev pub Each : (ℕ → Type 0) → List ℕ → ℕ → ℕ → Type 0

@@ -57,7 +57,7 @@ unfoldable pub use Rattle.vte_core.specs.private.OpenCharacter.{second_range}
 pub use Rattle.vte_core.specs.private.Place.{AtEscape, BytesLead, closing_events_at, InControlSequence, InDeviceControl, InDeviceData, InEscape, InIgnoredString, InSystemCommand, InText, IsAfter, IsSettledPlace, Leads, Place, rest_outcome, to_close_at}
 unfoldable pub use Rattle.vte_core.specs.private.Place.{outcome_from}
 pub use Rattle.vte_core.specs.private.Progress.{AddsOutsideRuns, Advances, AnyEvents, chunk_call, ChunkCall, EventsOutsideRuns, IsAtPosition, IsInsidePosition, IsRefusedInCommand, IsSettled, MayGoOn, ProgressAt, ProgressInside, ReadsUntilRefused, ReadsUpTo}
-pub use Rattle.vte_core.specs.private.Runs.{AreIgnored, ArePrintedAscii, ArePut, IsIgnored, IsPrintedAscii, IsRun, IsUtf8Run, PrintsRun}
+pub use Rattle.vte_core.specs.private.Runs.{AreIgnored, ArePrintedAscii, ArePut, IsIgnored, IsPrintedAscii, IsRun, IsUtf8Run, printed_ascii, PrintsRun}
 pub use Rattle.vte_core.specs.private.Scans.{ArePositions, Scans}
 pub use Rattle.vte_core.specs.private.Store.{cut_data, cut_pieces, ends_after, fitting, HoldsItems, pieces_from, PiecesEnd, SameItems}
 pub use Rattle.vte_core.specs.private.Takes.{TakesByte, TakesBytes}

@@ -9,7 +9,7 @@
 // module one by one, in blocks, as a copy in a buffer, or as text or data: for a performer, or in a
 // [`Run`] for the caller.
 ghost use Rattle.std.specs.Prelude.{drop, false, IsUtf8, length, map, MatchOption, slice_index, take, true, vec_capacity, ℕ, [], ◌++◌, ◌+◌, ◌-◌, ◌<◌, ◌∷◌, ◌≡◌, ◌≢◌, ◌≤◌};
-ghost use Rattle.vte_core.specs.private.Prelude.{after, AreOfKind, ArePositions, ArePut, character_event, escape, FindsEnd, from_to, is_in, IsRun, IsTaken, IsWindow, looks_of, malformed_event, PrintsRun, Put, Reports};
+ghost use Rattle.vte_core.specs.private.Prelude.{after, AreOfKind, ArePositions, ArePut, character_event, escape, FindsEnd, is_in, IsRun, IsTaken, IsWindow, looks_of, malformed_event, printed_ascii, PrintsRun, Put, Reports};
 
 mod advance;
 // cargo: #[cfg(any(feature = "std", feature = "ansi"))]
@@ -300,7 +300,7 @@ impl Reader {
         performer: &mut P,
         byte: u8,
     )
-        requires { is_in (from_to 0x20 0x7f) byte ≡ false }
+        requires { is_in printed_ascii byte ≡ false }
         ensures control { byte < 0x80
             → P.value_of performer.new ≡ P.step (P.value_of performer.old) (character_event byte) }
         ensures malformed { 0x80 ≤ byte

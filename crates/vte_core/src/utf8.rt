@@ -1,7 +1,7 @@
 //! Characters of UTF-8, byte by byte.
 ghost use Rattle.std.specs.Char.{InScalarRange};
 ghost use Rattle.std.specs.Prelude.{IsTrue, true, [], ◌%◌, ◌*◌, ◌+◌, ◌<◌, ◌↔◌, ◌∷◌, ◌≡◌};
-ghost use Rattle.vte_core.specs.private.Prelude.{BeginsFour, BeginsThree, BeginsTwo, bytes_of, Extends, from_to, is_in, is_truncated, scalar_of, second_range};
+ghost use Rattle.vte_core.specs.private.Prelude.{BeginsFour, BeginsThree, BeginsTwo, bytes_of, Extends, from_to, is_in, is_truncated, printed_ascii, scalar_of, second_range};
 
 /// The bytes of an open character, at most three.
 #[derive(Clone, Copy)]
@@ -101,7 +101,7 @@ pub(crate) fn may_begin_four(first: u8, second: u8) -> bool
 /// Returns whether `byte` is an ASCII character that is printed, which includes DEL.
 #[inline(always)]
 pub(crate) fn is_printed_ascii(byte: u8) -> bool
-    ensures { result ≡ is_in (from_to 0x20 0x7f) byte }
+    ensures { result ≡ is_in printed_ascii byte }
 {
     matches!(byte, 0x20..=0x7f)
 }

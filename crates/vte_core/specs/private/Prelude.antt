@@ -16,7 +16,7 @@ pub use Rattle.vte_core.specs.private.Costs.{caller_looks, Costs, HandlesByteWit
 pub use Rattle.vte_core.specs.private.OpenCharacter.{BeginsFour, BeginsThree, BeginsTwo, bytes_of, Extends, IsLead, second_range}
 pub use Rattle.vte_core.specs.private.Place.{AtEscape, closing_events_at, InControlSequence, InDeviceControl, IsSettledPlace, Place}
 pub use Rattle.vte_core.specs.private.Progress.{Advances, AnyEvents, chunk_call, Completes, EventsOutsideRuns, IsAtPosition, IsSettled, MayRead, MayReadAt, MayReadByte, ReadsUntilRefused, ReadsUpTo}
-pub use Rattle.vte_core.specs.private.Runs.{AreIgnored, ArePrintedAscii, ArePut, Each, IsPrintedAscii, IsRun, PrintsRun}
+pub use Rattle.vte_core.specs.private.Runs.{AreIgnored, ArePrintedAscii, ArePut, Each, IsPrintedAscii, IsRun, printed_ascii, PrintsRun}
 pub use Rattle.vte_core.specs.private.Scans.{ArePositions, FindsEnd, IsWindow, LooksWithin, Scans}
 pub use Rattle.vte_core.specs.private.Store.{ArePieceEnds, cut_pieces, fitting, HasCapacity, HoldsItems, ReservesCapacity, SameItems}
 pub use Rattle.vte_core.specs.private.Takes.{Dispatches, Reports, ReportsAll, TakesByte, TakesBytes}

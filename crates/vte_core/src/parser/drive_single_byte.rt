@@ -4,8 +4,7 @@
 //! that most bytes take do nothing after a call of another one, so they save no registers.
 ghost use Rattle.std.specs.Prelude.{false, IfErr, IfOk, length, List, ℕ, [], ◌≡◌, ◌≢◌};
 ghost use Rattle.vte_core.specs.Event.{Print, replacement};
-ghost use Rattle.vte_core.specs.private.Prelude.{Advances, AnyEvents, bytes_of, caller_looks, chunk_call, DeviceData, Empty, EventsOutsideRuns, HasReadWithLimit, IsAtPosition, IsRefusedAt, lookahead, looks_of, MayReadAt, MayReadByte, per_byte, read_count, ReadsCall, ReadsWithin, SpendsWithin, Text};
-ghost use Rattle.vte_core.specs.Utf8.{from_to, is_in};
+ghost use Rattle.vte_core.specs.private.Prelude.{Advances, AnyEvents, bytes_of, caller_looks, chunk_call, DeviceData, Empty, EventsOutsideRuns, HasReadWithLimit, is_in, IsAtPosition, IsRefusedAt, lookahead, looks_of, MayReadAt, MayReadByte, per_byte, printed_ascii, read_count, ReadsCall, ReadsWithin, SpendsWithin, Text};
 
 use crate::buffer::Buffer;
 use crate::class::{ESCAPE, is_device_data, is_parameter_byte};
@@ -79,7 +78,7 @@ impl<B: Buffer> Machine<B> {
         requires may_read { MayReadByte
             (chunk_call false P.step P.is_terminated B.limit input.bytes.now)
             (P.value_of performer.old) (Text Empty) self.old 0 byte }
-        requires not_printed { is_in (from_to 0x20 0x7f) byte ≡ false }
+        requires not_printed { is_in printed_ascii byte ≡ false }
         requires one_byte { length input.bytes.now ≡ 1 }
         ensures advances { Advances AnyEvents
             (chunk_call false P.step P.is_terminated B.limit input.entry.bytes.now)

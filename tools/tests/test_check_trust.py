@@ -62,6 +62,10 @@ PARSER = {
     "a call keeps a run": ("reader/advance", "let run = take_run(bytes, range);", USED),
     "bytes by another name": ("reader/advance", "    pub fn advance(&mut self, data: &[u8])", USED),
     "a search reads a byte": ("reader/run_end", "if input.bytes[at] == 0 {", UNCOUNTED),
+    "a search for the end of data reads a byte": (
+        "reader/search", "while end < input.len() && is_data(input.bytes[end]) {", UNCOUNTED),
+    "a search for ESC reads bytes": (
+        "reader/search", "memchr(ESCAPE, &input.bytes[from..])", UNCOUNTED),
     "a search counts by itself": ("reader/run_blocks", "self.count_looks(0);", UNCOUNTED),
     "a search sets the tally": ("reader/run_end", "reader.tally = tally_before;", UNCOUNTED),
     "a search opens an input": ("reader/run_end", "let Input { bytes } = input;", UNCOUNTED),
@@ -105,7 +109,7 @@ def test_all_files_and_handles_are_checked():
     ("reader", "no word of it", None)])
 def test_a_name_that_nothing_has_is_reported(path, word, fault):
     tool = Tool("check_trust", PLACES={}, ROOTS=())
-    files = {*tool.parts["MAKERS"], *tool.parts["CALLS"], *tool.parts["RUNS"]}
+    files = {*tool.parts["MAKERS"], *tool.parts["CALLS"], *tool.parts["SEARCHES"]}
     changed = f"{CORE}{path}.rt"
     for file in files:
         text = (TOOLS.parent / file).read_text()

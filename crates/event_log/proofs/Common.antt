@@ -30,5 +30,5 @@ pub use Rattle.vte_core.specs.EventBounds.{AreBrief, IsBounded}
 pub use Rattle.vte_core.specs.Parameters.{AllFitU16, AreGroups, count_of, FitsU16, greatest_number, IsNonEmpty, semicolon}
 unfoldable pub use Rattle.vte_core.specs.Parameters.{shown}
 pub use Rattle.vte_core.specs.Parser.{HasRead}
+pub use Rattle.vte_core.specs.RunText.{is_layout, run_event}
 pub use Rattle.vte_core.specs.Stream.{added, default_limit, events}
-pub use Rattle.vte_core.specs.Text.{is_layout, run_event}

@@ -3,7 +3,7 @@ use Rattle.std.specs.Char.{encode_utf8}
 use Rattle.std.specs.List.{flat_map}
 use Rattle.std.specs.Prelude.{if◌then◌else◌, List, ℕ, [], ◌∷◌}
 use Rattle.vte_core.specs.Event.{Event, Execute, Print}
-use Rattle.vte_core.specs.Text.{is_layout}
+use Rattle.vte_core.specs.RunText.{is_layout}
 
 -- The UTF-8 of a character, a layout control itself, and nothing for any other event.
 unfoldable pub plain_text_of : Event → List ℕ

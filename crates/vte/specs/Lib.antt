@@ -60,6 +60,7 @@ pub use Rattle.vte_core.specs.OutsideRuns
 pub use Rattle.vte_core.specs.Parameters
 pub use Rattle.vte_core.specs.Parser
 pub use Rattle.vte_core.specs.Parts
+pub use Rattle.vte_core.specs.RunText
 pub use Rattle.vte_core.specs.Saved
 pub use Rattle.vte_core.specs.SequenceKind
 pub use Rattle.vte_core.specs.Stream

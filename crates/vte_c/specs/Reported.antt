@@ -8,9 +8,9 @@ use Rattle.vte_c.specs.Record.{contains_kind, DataRun, Entry, entry_data, entry_
 use Rattle.vte_core.specs.declared.parser.saved.Saved.{Saved}
 use Rattle.vte_core.specs.Event.{Event}
 use Rattle.vte_core.specs.EventBounds.{IsBounded}
+use Rattle.vte_core.specs.RunText.{HasNoControls}
 use Rattle.vte_core.specs.Saved.{HasReadSaved}
 use Rattle.vte_core.specs.Stream.{added, default_limit, events}
-use Rattle.vte_core.specs.Text.{HasNoControls}
 
 -- The parser has read the stream except for the unread bytes at its end. What was given of its
 -- events, followed by what is given of those that the unread and more bytes add, is what is given

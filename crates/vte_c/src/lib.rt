@@ -12,7 +12,7 @@ ghost use Rattle.vte_c.specs.OpenCode.{open_code};
 ghost use Rattle.vte_c.specs.Record.{min_data, min_events, min_text};
 ghost use Rattle.vte_core.specs.Open.{open_at_end};
 ghost use Rattle.vte_core.specs.Saved.{HasReadSaved};
-ghost use Rattle.vte_core.specs.Stream.{default_limit, IsFinished, IsUnfinished};
+ghost use Rattle.vte_core.specs.Stream.{default_limit, IsClosed, IsOpen};
 
 // cargo instead: pub(crate) mod event;
 // cargo instead: pub(crate) use event::VteEvent;
@@ -87,10 +87,10 @@ pub extern "C" fn vte_is_open(parser: &Saved) -> u8
         → result ≡ open_code (open_at_end stream) }
     // If nothing is, more bytes give what they give on their own.
     ensures closed { result ≡ 0 → (stream : List ℕ) → HasReadSaved parser.now stream
-        → IsFinished default_limit stream }
+        → IsClosed default_limit stream }
     // If something is, they don't.
     ensures opens { result ≢ 0 → (stream : List ℕ) → HasReadSaved parser.now stream
-        → IsUnfinished default_limit stream }
+        → IsOpen default_limit stream }
 {
     let mut restored = Parser::new();
     restored.restore(parser);

@@ -30,8 +30,8 @@ pub use Rattle.vte_core.specs.declared.parser.machine.Machine.{Machine}
 pub use Rattle.vte_core.specs.declared.parser.refused.Refused.{Refused}
 pub use Rattle.vte_core.specs.declared.parser.State.{State}
 pub use Rattle.vte_core.specs.declared.parser.State.TheVariants.{ControlSequence, DeviceControl, DeviceData, Escape, EscapeIntermediate, IgnoredString, SystemCommand, Text}
-pub use Rattle.vte_core.specs.declared.utf8.Unfinished.{Unfinished}
-pub use Rattle.vte_core.specs.declared.utf8.Unfinished.TheVariants.{Empty, One, Three, Two}
+pub use Rattle.vte_core.specs.declared.utf8.OpenCharacter.{OpenCharacter}
+pub use Rattle.vte_core.specs.declared.utf8.OpenCharacter.TheVariants.{Empty, One, Three, Two}
 pub use Rattle.vte_core.specs.DeviceControl.{ends_device_data}
 unfoldable pub use Rattle.vte_core.specs.DeviceControl.{device_control_after_head, device_control_outcome, device_data_outcome}
 pub use Rattle.vte_core.specs.EarlyStop.{breaks, ComesTo, IsStart, NoCharacterStops, StopsExactly}
@@ -57,17 +57,18 @@ unfoldable pub use Rattle.vte_core.specs.private.OpenCharacter.{second_range}
 pub use Rattle.vte_core.specs.private.Place.{AtEscape, BytesLead, closing_events_at, InControlSequence, InDeviceControl, InDeviceData, InEscape, InIgnoredString, InSystemCommand, InText, IsAfter, IsSettledPlace, Leads, Place, rest_outcome, to_close_at}
 unfoldable pub use Rattle.vte_core.specs.private.Place.{outcome_from}
 pub use Rattle.vte_core.specs.private.Progress.{AddsOutsideRuns, Advances, AnyEvents, chunk_call, ChunkCall, EventsOutsideRuns, IsAtPosition, IsInsidePosition, IsRefusedInCommand, IsSettled, MayGoOn, ProgressAt, ProgressInside, ReadsUntilRefused, ReadsUpTo}
-pub use Rattle.vte_core.specs.private.Runs.{AreIgnored, ArePrintedAscii, ArePut, IsIgnored, IsPrintedAscii, IsRun, IsUtf8Run, PrintsRun}
+pub use Rattle.vte_core.specs.private.Runs.{AreIgnored, ArePrintedAscii, ArePut, IsIgnored, IsPrintedAscii, IsRun, IsUtf8Run, printed_ascii, PrintsRun}
 pub use Rattle.vte_core.specs.private.Scans.{ArePositions, Scans}
 pub use Rattle.vte_core.specs.private.Store.{cut_data, cut_pieces, ends_after, fitting, HoldsItems, pieces_from, PiecesEnd, SameItems}
 pub use Rattle.vte_core.specs.private.Takes.{TakesByte, TakesBytes}
+pub use Rattle.vte_core.specs.RunText.{ends_run, HasNoRunAt, is_layout, run_event, StaysInRun}
 pub use Rattle.vte_core.specs.SequenceKind.{EscapeSequence, SequenceKind}
 unfoldable pub use Rattle.vte_core.specs.SequenceKind.{sequence_kind}
 pub use Rattle.vte_core.specs.Stream.{added, cut_at_escape, default_limit, escape, with_bodies}
 unfoldable pub use Rattle.vte_core.specs.Stream.{events, open_character, outcome}
 pub use Rattle.vte_core.specs.SystemCommand.{bell, ends_system_command, has_room, is_data_item, IsCommandData, kept_after, max_pieces, system_command_rest}
 unfoldable pub use Rattle.vte_core.specs.SystemCommand.{kept_items, loses_data, pieces_of, system_command_outcome}
-pub use Rattle.vte_core.specs.Text.{ends_run, HasNoRunAt, is_control_character, is_layout, run_event, segments_outcome, StaysInRun}
+pub use Rattle.vte_core.specs.Text.{is_control_character, segments_outcome}
 unfoldable pub use Rattle.vte_core.specs.Text.{character_event, executed_events, malformed_event, segment_event, text_outcome}
 pub use Rattle.vte_core.specs.Utf8.{allowed_length, from_to, is_complete, is_in, Range, rows_after_byte, rows_after_bytes, scalar_of, segments, segments_after}
 unfoldable pub use Rattle.vte_core.specs.Utf8.{is_truncated, is_well_formed, trailing_count, utf8_rows}
@@ -80,7 +81,7 @@ IsAtMostOneCharacter [] = Unit {0}
 IsAtMostOneCharacter (event ∷ []) = IsCharacterEvent event
 IsAtMostOneCharacter _ = ⊥
 
--- The bytes of the unfinished character at a place.
+-- The bytes of the open character at a place.
 abbrev pub open_at : Place → List ℕ
 open_at (InText bytes) = bytes
 open_at _ = []

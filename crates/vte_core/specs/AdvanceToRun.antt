@@ -9,8 +9,8 @@ use Rattle.vte_core.specs.EarlyStop.{ComesTo, resumed_stream}
 use Rattle.vte_core.specs.Event.{Event, Print, Put}
 use Rattle.vte_core.specs.OutsideRuns.{ReportsOutsideRuns}
 use Rattle.vte_core.specs.Parser.{ParserFacts}
+use Rattle.vte_core.specs.RunText.{HasNoControls, HasNoRunAt}
 use Rattle.vte_core.specs.Stream.{added}
-use Rattle.vte_core.specs.Text.{HasNoControls, HasNoRunAt}
 
 -- The bytes of a run: those of its text, or its data.
 abbrev pub taken_bytes : Taken → List ℕ

@@ -3,8 +3,8 @@
 -- need not be asked again.
 use Rattle.std.specs.Prelude.{Bool, drop, false, if◌then◌else◌, length, List, not, Option, take, true, ℕ, [], ◌&&◌, ◌++◌, ◌<◌, ◌∷◌, ◌≡◌, ◌≤◌, ◌⊎◌}
 use Rattle.vte_core.specs.Event.{after, Event, Print, replacement}
+use Rattle.vte_core.specs.RunText.{run_event}
 use Rattle.vte_core.specs.Stream.{added, open_character}
-use Rattle.vte_core.specs.Text.{run_event}
 use Rattle.vte_core.specs.Utf8.{is_truncated, is_well_formed}
 
 -- The open bytes and the next one neither form a character nor begin one.

@@ -36,7 +36,7 @@ text_examples =
     (Print 0x138 ∷ Print 0x61 ∷ Print 0x1f389 ∷ [])
     -- U+0085 is a control character.
     ∷ gives (0xc2 ∷ 0x85 ∷ []) (Execute 0x85 ∷ [])
-    -- An unfinished character stays open, and is replaced once anything else follows.
+    -- A character without its last bytes stays open, and is replaced once anything else follows.
     ∷ gives (0xe4 ∷ 0xbf ∷ []) []
     ∷ gives (codes "a" ++ 0xef ∷ 0xbc ∷ codes "b") (Print 0x61 ∷ Print 0xfffd ∷ Print 0x62 ∷ [])
     ∷ gives (0xe4 ∷ 0x18 ∷ []) (Print 0xfffd ∷ Execute 0x18 ∷ [])

@@ -7,6 +7,7 @@ pub mod Outcome
 pub mod Class
 pub mod Utf8
 pub mod Text
+pub mod RunText
 -- What comes before the final byte of a sequence.
 pub mod CutBefore
 pub mod Intermediates

@@ -3,7 +3,7 @@ use Rattle.std.specs.Prelude.{Bool, false, List, None, Option, true, ℕ, [], �
 use Rattle.vte_core.specs.declared.parser.open.Open.{Open}
 use Rattle.vte_core.specs.declared.parser.open.Open.TheVariants.{Character, ControlSequence, DeviceControl, EscapeSequence, IgnoredString, Nothing, SystemCommand}
 use Rattle.vte_core.specs.Outcome.{CharacterToClose, CommandToClose, ControlSequenceToClose, DeviceDataToClose, DeviceHeadToClose, EscapeToClose, IgnoredStringToClose, NothingToClose, ToClose}
-use Rattle.vte_core.specs.Stream.{IsFinished, IsUnfinished, outcome}
+use Rattle.vte_core.specs.Stream.{IsClosed, IsOpen, outcome}
 
 -- What `open` says of what is left to close. It doesn't tell the head and the data of a device
 -- control string apart.
@@ -27,13 +27,13 @@ pub record SaysOpen (limit : Option ℕ) (HasRead : List ℕ → Type 0) (result
   pub kind : (stream : List ℕ) → HasRead stream → result ≡ open_at_end stream
   -- If nothing is, it goes on as a new parser, and more bytes give what they give on their own.
   pub closed : result ≡ Nothing → (stream : List ℕ) → HasRead stream
-      → HasRead [] × IsFinished limit stream
+      → HasRead [] × IsClosed limit stream
   -- If something is, some bytes give something else than on their own: a `0`.
-  pub opens : result ≢ Nothing → (stream : List ℕ) → HasRead stream → IsUnfinished limit stream
+  pub opens : result ≢ Nothing → (stream : List ℕ) → HasRead stream → IsOpen limit stream
 
 -- `is_open`, in the same way.
 pub record SaysWhetherOpen (limit : Option ℕ) (HasRead : List ℕ → Type 0)
     (result : Bool) : Type 0 where
   pub closed : result ≡ false → (stream : List ℕ) → HasRead stream
-      → HasRead [] × IsFinished limit stream
-  pub opens : result ≡ true → (stream : List ℕ) → HasRead stream → IsUnfinished limit stream
+      → HasRead [] × IsClosed limit stream
+  pub opens : result ≡ true → (stream : List ℕ) → HasRead stream → IsOpen limit stream

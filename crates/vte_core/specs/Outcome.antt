@@ -5,7 +5,7 @@ use Rattle.vte_core.specs.Event.{Event, OscDispatch, Print, replacement, Unhook}
 -- What an ESC that follows closes, with or without an event.
 pub data ToClose : Type 0 where
   NothingToClose : ToClose
-  -- These bytes of an unfinished character.
+  -- These bytes of an open character.
   CharacterToClose : List ℕ → ToClose
   -- An escape sequence; or an ESC alone, after which any kind may follow.
   EscapeToClose : ToClose

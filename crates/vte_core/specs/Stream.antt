@@ -50,15 +50,15 @@ abbrev pub added : Option ℕ → List ℕ → List ℕ → List Event
 added limit stream more = drop (length (events limit stream)) (events limit (stream ++ more))
 
 -- Nothing is open at the end of the stream: more bytes give what they give on their own.
-abbrev pub IsFinished : Option ℕ → List ℕ → Type 0
-IsFinished limit stream = (more : List ℕ) → added limit stream more ≡ events limit more
+abbrev pub IsClosed : Option ℕ → List ℕ → Type 0
+IsClosed limit stream = (more : List ℕ) → added limit stream more ≡ events limit more
 
 -- A character or a sequence is open there: a `0` isn't printed, or not alone. It serves as a probe,
 -- because it belongs to whatever is open, or ends it.
-abbrev pub IsUnfinished : Option ℕ → List ℕ → Type 0
-IsUnfinished limit stream = added limit stream (0x30 ∷ []) ≢ Print 0x30 ∷ []
+abbrev pub IsOpen : Option ℕ → List ℕ → Type 0
+IsOpen limit stream = added limit stream (0x30 ∷ []) ≢ Print 0x30 ∷ []
 
--- The bytes of an unfinished character at the end of the stream. They are in text, so no limit
+-- The bytes of an open character at the end of the stream. They are in text, so no limit
 -- affects them.
 unfoldable pub open_character : List ℕ → List ℕ
 open_character stream = open_bytes (outcome None stream).to_close

@@ -2,7 +2,7 @@
 //! control string.
 ghost use Rattle.std.specs.Prelude.{false, IfSome, IsTrue, length, List, min, not, true, ℕ, [], ◌*◌, ◌++◌, ◌+◌, ◌<◌, ◌↔◌, ◌∷◌, ◌≡◌, ◌≤◌, ◌⊎◌};
 ghost use Rattle.vte_core.specs.Parameters.{greatest_number};
-ghost use Rattle.vte_core.specs.private.Prelude.{class_of, CountsNumbers, HasReadHead, HoldsHead, HoldsIntermediates, HoldsNumbers, HoldsWholeHead, is_head_byte, is_parameter_byte, looks_of, ReadsHeadUpTo, SameIntermediates, SameNumbers, with_open_number};
+ghost use Rattle.vte_core.specs.private.Prelude.{class_of, CountsNumbers, HasReadHead, HoldsHead, HoldsIntermediates, HoldsNumbers, HoldsWholeHead, is_head_byte, is_parameter_byte, looks_of, ReadsHeadUpTo, SameIntermediates, SameNumbers, semicolon, with_open_number};
 
 use crate::class::{digit_of, is_head_byte, is_intermediate, is_parameter_byte};
 use crate::params::Params;
@@ -134,7 +134,7 @@ impl CollectedHead {
     pub(crate) fn end_number(&mut self)
         requires { self.old.joined ≡ false }
         ensures counts { (text : List ℕ) → CountsNumbers self.old text
-            → CountsNumbers self.new (text ++ 0x3b ∷ []) }
+            → CountsNumbers self.new (text ++ semicolon ∷ []) }
         ensures same_intermediates { SameIntermediates self.old self.new }
     {
         let _ = self.store_number(false, self.number);

@@ -205,7 +205,7 @@ impl<'a> Iterator for ParamsIter<'a> {
     // cargo: #[inline]
     fn next(&mut self) -> Option<&'a [u16]> {
         let (length, lengths) = self.lengths.split_first()?;
-        let (group, numbers) = self.numbers.split_at(*length as usize);
+        let (group, numbers) = self.numbers.split_at(usize::from(*length));
         self.lengths = lengths;
         self.numbers = numbers;
         Some(group)

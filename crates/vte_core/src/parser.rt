@@ -29,7 +29,7 @@ mod text;
 
 use crate::head::HeadProgress;
 use crate::reader::{Chunk, CountedPerform, Granularity, Looks};
-use crate::utf8::Unfinished;
+use crate::utf8::OpenCharacter;
 use arrayvec::ArrayVec;
 // cargo: #[cfg(any(feature = "std", feature = "ansi"))]
 pub use long_parser::LongParser;
@@ -48,8 +48,8 @@ pub(crate) const MAX_OSC_RAW: usize = 1024;
 /// with a star end as `HeadProgress` says: `entry`, `param`, `intermediate` or `ignore`.
 #[derive(Clone, Copy)]
 pub(crate) enum State {
-    /// In a text, after the bytes of an unfinished character (`ground`).
-    Text(Unfinished),
+    /// In a text, after the bytes of an open character (`ground`).
+    Text(OpenCharacter),
     /// After ESC (`escape`).
     Escape,
     /// After ESC and an intermediate (`escape intermediate`).

@@ -2,7 +2,7 @@
 ghost use Rattle.std.specs.Prelude.{Bool, chars, length, map, ◌<◌, ◌≡◌};
 ghost use Rattle.vte_core.specs.EarlyStop.{NoCharacterStops};
 ghost use Rattle.vte_core.specs.Event.{after, CsiDispatch, EscDispatch, Event, Execute, Hook, OscDispatch, Print, Put, Unhook};
-ghost use Rattle.vte_core.specs.Text.{IsRunText, run_event};
+ghost use Rattle.vte_core.specs.RunText.{IsRunText, run_event};
 
 use crate::params::Params;
 

@@ -8,8 +8,8 @@
 // receives events with a reader alone. No other module can make one of these. Bytes leave this
 // module one by one, in blocks, as a copy in a buffer, or as text or data: for a performer, or in a
 // [`Run`] for the caller.
-ghost use Rattle.std.specs.Prelude.{drop, false, IsUtf8, length, map, MatchOption, slice_index, take, true, vec_capacity, ℕ, [], ◌++◌, ◌+◌, ◌-◌, ◌<◌, ◌∷◌, ◌≡◌, ◌≤◌};
-ghost use Rattle.vte_core.specs.private.Prelude.{after, AreOfKind, ArePositions, ArePut, character_event, from_to, is_in, IsRun, IsTaken, IsWindow, looks_of, malformed_event, PrintsRun, Put, Reports};
+ghost use Rattle.std.specs.Prelude.{drop, false, IsUtf8, length, map, MatchOption, slice_index, take, true, vec_capacity, ℕ, [], ◌++◌, ◌+◌, ◌-◌, ◌<◌, ◌∷◌, ◌≡◌, ◌≢◌, ◌≤◌};
+ghost use Rattle.vte_core.specs.private.Prelude.{after, AreOfKind, ArePositions, ArePut, character_event, escape, FindsEnd, is_in, IsRun, IsTaken, IsWindow, looks_of, malformed_event, printed_ascii, PrintsRun, Put, Reports};
 
 mod advance;
 // cargo: #[cfg(any(feature = "std", feature = "ansi"))]
@@ -23,12 +23,14 @@ mod run_blocks;
 mod run_end;
 mod search;
 
+use crate::class::ESCAPE;
 use arrayvec::{ArrayVec, CapacityError};
 pub(crate) use counted_perform::CountedPerform;
 pub(crate) use granularity::Granularity;
 pub use granularity::{ByCharacter, InRuns};
 pub(crate) use looks::Looks;
 use looks::Tally;
+use memchr::memchr;
 pub use run::{Run, Taken};
 pub(crate) use run::{RunKind, RunRange};
 // cargo: #[cfg(any(feature = "std", feature = "ansi"))]
@@ -253,6 +255,25 @@ impl Reader {
         Some(window)
     }
 
+    /// Returns the position of the first ESC from a position on, or the length if there is none.
+    pub(crate) fn find_escape(&mut self, input: Input<'_>, from: usize) -> usize
+        requires { from ≤ length input.bytes.now }
+        ensures { FindsEnd
+            (λ byte. byte ≢ escape) input.entry.bytes.now from result self.old self.new }
+    {
+        let rest = &input.bytes[from..];
+        match memchr(ESCAPE, rest) {
+            Some(distance) => {
+                self.count_looks(distance + 1);
+                from + distance
+            }
+            None => {
+                self.count_looks(rest.len());
+                input.bytes.len()
+            }
+        }
+    }
+
     /// Reports a whole character.
     #[inline(always)]
     #[tactic(auto, unfolding(crate::specs::Text::character_event))]
@@ -279,7 +300,7 @@ impl Reader {
         performer: &mut P,
         byte: u8,
     )
-        requires { is_in (from_to 0x20 0x7f) byte ≡ false }
+        requires { is_in printed_ascii byte ≡ false }
         ensures control { byte < 0x80
             → P.value_of performer.new ≡ P.step (P.value_of performer.old) (character_event byte) }
         ensures malformed { 0x80 ≤ byte

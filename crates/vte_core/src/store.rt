@@ -1,7 +1,7 @@
 //! The store of an operating system command.
 ghost use Rattle.std.specs.List.Sorted.{IsNonDecreasing};
 ghost use Rattle.std.specs.Prelude.{All, drop, false, IsTrue, length, List, take, ℕ, [], ◌++◌, ◌+◌, ◌-◌, ◌<◌, ◌↔◌, ◌∷◌, ◌≡◌, ◌≢◌, ◌≤◌};
-ghost use Rattle.vte_core.specs.private.Prelude.{ArePieceEnds, ArePositions, cut_pieces, HasCapacity, HoldsItems, LooksWithin, max_pieces, OscDispatch, Reports, ReservesCapacity, SameItems, StoredCommand};
+ghost use Rattle.vte_core.specs.private.Prelude.{ArePieceEnds, ArePositions, cut_pieces, HasCapacity, HoldsItems, LooksWithin, max_pieces, OscDispatch, Reports, ReservesCapacity, SameItems, semicolon, StoredCommand};
 
 use crate::buffer::Buffer;
 use crate::reader::{CountedPerform, Granularity, Input, Reader};
@@ -111,7 +111,7 @@ impl<B: Buffer> CommandStore<B> {
     /// Ends a piece at a `;`, if there is room.
     pub(crate) fn end_piece(&mut self)
         ensures holds { (items : List ℕ) → HoldsItems B.limit self.old items
-            → HoldsItems B.limit self.new (items ++ 0x3b ∷ []) }
+            → HoldsItems B.limit self.new (items ++ semicolon ∷ []) }
         ensures same_capacity { self.new.capacity ≡ self.old.capacity }
     {
         if !self.ends.is_full() && !self.bytes.is_full() {
@@ -129,7 +129,7 @@ impl<B: Buffer> CommandStore<B> {
         to: usize,
     )
         requires range { ArePositions input.bytes.now from to }
-        requires data { All (λ b. b ≢ 0x3b) (take (to - from) (drop from input.bytes.now)) }
+        requires data { All (λ b. b ≢ semicolon) (take (to - from) (drop from input.bytes.now)) }
         requires has_memory { length self.old.ends < max_pieces
             → HasCapacity B.limit self.old.capacity (length self.old.bytes) (to - from) }
         ensures holds { (items : List ℕ) → HoldsItems B.limit self.old items → HoldsItems B.limit

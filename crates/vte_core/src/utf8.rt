@@ -1,11 +1,11 @@
 //! Characters of UTF-8, byte by byte.
 ghost use Rattle.std.specs.Char.{InScalarRange};
 ghost use Rattle.std.specs.Prelude.{IsTrue, true, [], ◌%◌, ◌*◌, ◌+◌, ◌<◌, ◌↔◌, ◌∷◌, ◌≡◌};
-ghost use Rattle.vte_core.specs.private.Prelude.{BeginsFour, BeginsThree, BeginsTwo, bytes_of, Extends, from_to, is_in, is_truncated, scalar_of, second_range};
+ghost use Rattle.vte_core.specs.private.Prelude.{BeginsFour, BeginsThree, BeginsTwo, bytes_of, Extends, from_to, is_in, is_truncated, printed_ascii, scalar_of, second_range};
 
-/// The bytes of an unfinished character, at most three.
+/// The bytes of an open character, at most three.
 #[derive(Clone, Copy)]
-pub(crate) enum Unfinished {
+pub(crate) enum OpenCharacter {
     /// No character is open.
     Empty,
     /// The first byte of two, three or four.
@@ -16,23 +16,23 @@ pub(crate) enum Unfinished {
     Three(u8, u8, u8),
 }
 
-/// What one more byte makes of an unfinished character.
+/// What one more byte makes of an open character.
 #[derive(Clone, Copy)]
 pub(crate) enum Extension {
     /// More bytes, and still no character.
-    Truncated(Unfinished),
+    Truncated(OpenCharacter),
     /// The character is whole.
     WellFormed(char),
     /// The byte belongs to no character that the others began.
     Malformed,
 }
 
-impl Unfinished {
+impl OpenCharacter {
     /// Returns whether no character is open.
     pub(crate) fn is_empty(self) -> bool
         ensures { IsTrue result ↔ (bytes_of self ≡ []) }
     {
-        matches!(self, Unfinished::Empty)
+        matches!(self, OpenCharacter::Empty)
     }
 
     /// Adds a byte to those of an open character.
@@ -42,19 +42,19 @@ impl Unfinished {
         ensures { is_truncated (bytes_of self) ≡ true → Extends (bytes_of self) byte result }
     {
         match self {
-            Unfinished::One(first) if may_be_second(first, byte) => {
+            OpenCharacter::One(first) if may_be_second(first, byte) => {
                 if first < 0xe0 {
                     return complete_character(code_point_of_two(first, byte));
                 }
-                Extension::Truncated(Unfinished::Two(first, byte))
+                Extension::Truncated(OpenCharacter::Two(first, byte))
             }
-            Unfinished::Two(first, second) if is_continuation(byte) => {
+            OpenCharacter::Two(first, second) if is_continuation(byte) => {
                 if first < 0xf0 {
                     return complete_character(code_point_of_three(first, second, byte));
                 }
-                Extension::Truncated(Unfinished::Three(first, second, byte))
+                Extension::Truncated(OpenCharacter::Three(first, second, byte))
             }
-            Unfinished::Three(first, second, third) if is_continuation(byte) => {
+            OpenCharacter::Three(first, second, third) if is_continuation(byte) => {
                 complete_character(code_point_of_four(first, second, third, byte))
             }
             _ => Extension::Malformed,
@@ -101,7 +101,7 @@ pub(crate) fn may_begin_four(first: u8, second: u8) -> bool
 /// Returns whether `byte` is an ASCII character that is printed, which includes DEL.
 #[inline(always)]
 pub(crate) fn is_printed_ascii(byte: u8) -> bool
-    ensures { result ≡ is_in (from_to 0x20 0x7f) byte }
+    ensures { result ≡ is_in printed_ascii byte }
 {
     matches!(byte, 0x20..=0x7f)
 }

@@ -4,7 +4,7 @@ use Rattle.event_log.proofs.lemmas.KeptTexts.{text_of-run}
 use Rattle.vte_c.proofs.Common.{add-zero, add_assoc, added, after, ap, append-nil, append_assoc, arith, cases_Bool, chars, default_limit, encodes-chars, Event, false, flat_map-append, HasRead, inl, inr, IsUtf8, le-leb, length, length-append, List, map, max_piece_bytes, nat_le, nat_tests, Parser, plain_text, plain_text_of, refl, sym, take, text_with, text_with_event, true, WrittenText, ℕ, [], ◌&&◌, ◌*◌, ◌++◌, ◌+◌, ◌<◌, ◌∙◌, ◌∷◌, ◌≡◌, ◌≤◌}
 use Rattle.vte_core.proofs.lemmas.streams.After.{added-nothing}
 use Rattle.vte_core.proofs.lemmas.streams.EarlyStops.{added-append}
-use Rattle.vte_core.specs.Text.{run_event}
+use Rattle.vte_core.specs.RunText.{run_event}
 
 -- ---- texts that have room
 

@@ -5,7 +5,7 @@ use Rattle.vte_core.specs.declared.parser.open.Open.{Open}
 use Rattle.vte_core.specs.declared.parser.open.Open.TheVariants as kind
 use Rattle.vte_core.specs.declared.parser.State.{State}
 use Rattle.vte_core.specs.declared.parser.State.TheVariants.{ControlSequence, DeviceControl, DeviceData, Escape, EscapeIntermediate, IgnoredString, SystemCommand, Text}
-use Rattle.vte_core.specs.declared.utf8.Unfinished.TheVariants.{Empty}
+use Rattle.vte_core.specs.declared.utf8.OpenCharacter.TheVariants.{Empty}
 use Rattle.vte_core.specs.private.CollectedHead.{HasReadHead, HoldsIntermediates}
 use Rattle.vte_core.specs.private.OpenCharacter.{bytes_of, may_continue}
 use Rattle.vte_core.specs.private.Place.{AtEscape, InControlSequence, InDeviceControl, InDeviceData, InEscape, InIgnoredString, InSystemCommand, InText, IsAfter, Place}
@@ -13,8 +13,8 @@ use Rattle.vte_core.specs.private.Store.{HoldsItems}
 
 -- What the state says of the place.
 abbrev pub IsPlaceOfState : {B : Type 0} → Option ℕ → State → Machine B → Place → Type 0
-IsPlaceOfState limit (Text unfinished) parser (InText bytes) =
-    (bytes_of unfinished ≡ bytes) × (may_continue bytes ≡ true)
+IsPlaceOfState limit (Text opened) parser (InText bytes) =
+    (bytes_of opened ≡ bytes) × (may_continue bytes ≡ true)
 IsPlaceOfState limit Escape parser AtEscape = HoldsIntermediates parser.collected []
 IsPlaceOfState limit EscapeIntermediate parser (InEscape intermediates) =
     HoldsIntermediates parser.collected intermediates
@@ -44,7 +44,7 @@ pub record HasReadWithLimit {B : Type 0} (limit : Option ℕ) (parser : Machine 
 -- What is open in a state.
 abbrev pub open_in : State → Open
 open_in (Text Empty) = kind.Nothing
-open_in (Text begun) = kind.Character
+open_in (Text opened) = kind.Character
 open_in Escape = kind.EscapeSequence
 open_in EscapeIntermediate = kind.EscapeSequence
 open_in (ControlSequence reached) = kind.ControlSequence

@@ -2,7 +2,8 @@
 -- bytes say of its state. No code has these states.
 use Rattle.std.specs.Prelude.{Bool, false, if◌then◌else◌, List, nat_le, slice_index, ℕ, [], ◌<◌, ◌==◌, ◌∷◌, ◌≡◌, ◌≤◌}
 use Rattle.vte_core.specs.declared.reader.Window.{Window}
-use Rattle.vte_core.specs.Text.{is_layout}
+use Rattle.vte_core.specs.private.Runs.{printed_ascii}
+use Rattle.vte_core.specs.RunText.{is_layout}
 use Rattle.vte_core.specs.Utf8.{from_to, is_in, Range}
 
 -- What may come next.
@@ -36,7 +37,7 @@ next_if_in range next b = if is_in range b then next else Failed
 abbrev pub next_between_characters : ℕ → AutomatonState
 next_between_characters b =
     if is_layout b then BetweenCharacters
-    else if is_in (from_to 0x20 0x7f) b then BetweenCharacters
+    else if is_in printed_ascii b then BetweenCharacters
     else if b == 0xc2 then AfterC2
     else if is_in (from_to 0xc3 0xdf) b then NeedsOne
     else if b == 0xe0 then AfterE0

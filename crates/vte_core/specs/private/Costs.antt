@@ -31,22 +31,21 @@ abbrev pub lookahead : ℕ → ℕ
 lookahead looks = looks
 
 -- The bounds of a function that may read nothing, from position i to position j. It takes at least
--- one look per byte, and at most `rate` and `lookahead` more, at bytes left unread. The caller has
--- taken `caller_looks` of them: those at the first bytes, by which it chose this function. It frees
--- no memory.
-pub record SpendsWithin (rate caller_looks lookahead : ℕ) {B : Type 0} (bytes : List ℕ) (i j : ℕ)
+-- one look per byte, and at most `rate` and `ahead` more, at bytes left unread. Of these the caller
+-- has `taken` those at the first bytes, by which it chose this function. No memory is freed.
+pub record SpendsWithin (rate taken ahead : ℕ) {B : Type 0} (bytes : List ℕ) (i j : ℕ)
     (parser next : Machine B) (old_reader new_reader : Reader) : Type 0 where
   pub in_order : i ≤ j
   pub within : j ≤ length bytes
-  pub looks_at_most : looks_of new_reader + rate * i + caller_looks
-      ≤ looks_of old_reader + rate * j + lookahead
-  pub looks_at_least : looks_of old_reader + j ≤ looks_of new_reader + i + caller_looks
+  pub looks_at_most : looks_of new_reader + rate * i + taken
+      ≤ looks_of old_reader + rate * j + ahead
+  pub looks_at_least : looks_of old_reader + j ≤ looks_of new_reader + i + taken
   pub keeps_memory : parser.command.capacity ≤ next.command.capacity
 
 -- The bounds of each state's function, which reads a byte if there is one.
-pub record ReadsWithin (rate caller_looks : ℕ) {B : Type 0} (bytes : List ℕ) (i j : ℕ)
+pub record ReadsWithin (rate taken : ℕ) {B : Type 0} (bytes : List ℕ) (i j : ℕ)
     (parser next : Machine B) (old_reader new_reader : Reader) : Type 0 where
-  pub spends : SpendsWithin rate caller_looks 0 bytes i j parser next old_reader new_reader
+  pub spends : SpendsWithin rate taken 0 bytes i j parser next old_reader new_reader
   pub reads_some : i < length bytes → i < j
 
 -- The bounds of a function that handles a byte at which its caller looked: no character is open

@@ -2,12 +2,12 @@
 use Rattle.std.specs.Prelude.{Bool, false, if◌then◌else◌, List, true, ℕ, [], ◌++◌, ◌<◌, ◌==◌, ◌∷◌, ◌≡◌, ◌≤◌}
 use Rattle.vte_core.specs.declared.utf8.Extension.{Extension}
 use Rattle.vte_core.specs.declared.utf8.Extension.TheVariants.{Malformed, Truncated, WellFormed}
-use Rattle.vte_core.specs.declared.utf8.Unfinished.{Unfinished}
-use Rattle.vte_core.specs.declared.utf8.Unfinished.TheVariants.{Empty, One, Three, Two}
+use Rattle.vte_core.specs.declared.utf8.OpenCharacter.{OpenCharacter}
+use Rattle.vte_core.specs.declared.utf8.OpenCharacter.TheVariants.{Empty, One, Three, Two}
 use Rattle.vte_core.specs.Utf8.{from_to, is_truncated, is_well_formed, Range, scalar_of}
 
 -- The bytes of a character that were read.
-abbrev pub bytes_of : Unfinished → List ℕ
+abbrev pub bytes_of : OpenCharacter → List ℕ
 bytes_of Empty = []
 bytes_of (One a) = a ∷ []
 bytes_of (Two a b) = a ∷ b ∷ []

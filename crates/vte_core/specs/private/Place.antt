@@ -18,7 +18,7 @@ use Rattle.vte_core.specs.Text.{executed_events, text_outcome}
 
 -- How far the grammar has come in a text or a body.
 pub data Place : Type 0 where
-  -- In a text, after these bytes of an unfinished character.
+  -- In a text, after these bytes of an open character.
   InText : List ℕ → Place
   -- After ESC.
   AtEscape : Place

@@ -3,7 +3,8 @@ use Rattle.std.specs.Prelude.{Bool, drop, false, List, map, slice_index, take, �
 use Rattle.std.specs.Str.{chars, IsUtf8}
 use Rattle.vte_core.specs.Class.{class_of, ends_sequence, IsDeviceData}
 use Rattle.vte_core.specs.Event.{after, Event}
-use Rattle.vte_core.specs.Text.{IsRunText, run_event}
+use Rattle.vte_core.specs.RunText.{IsRunText, run_event}
+use Rattle.vte_core.specs.Utf8.{from_to, Range}
 
 -- `holds` is true of each byte from `from` up to `to`.
 abbrev pub Each : (ℕ → Type 0) → List ℕ → ℕ → ℕ → Type 0
@@ -25,9 +26,13 @@ AreIgnored = Each IsIgnored
 
 -- ---- text that is printed: bytes of ASCII, and characters
 
--- 20..7F. DEL is printed.
+-- The ASCII characters that are printed, which include DEL.
+abbrev pub printed_ascii : Range
+printed_ascii = from_to 0x20 0x7f
+
+-- The byte is one of them.
 abbrev pub IsPrintedAscii : ℕ → Type 0
-IsPrintedAscii b = (0x20 ≤ b) × (b < 0x80)
+IsPrintedAscii b = (printed_ascii.first ≤ b) × (b ≤ printed_ascii.last)
 
 -- From `from` up to `to` each byte is printed.
 abbrev pub ArePrintedAscii : List ℕ → ℕ → ℕ → Type 0

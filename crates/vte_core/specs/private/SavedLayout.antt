@@ -5,11 +5,11 @@ use Rattle.vte_core.specs.declared.parser.machine.Machine.{Machine}
 use Rattle.vte_core.specs.declared.parser.saved.Saved.{Saved}
 use Rattle.vte_core.specs.declared.parser.State.{State}
 use Rattle.vte_core.specs.declared.parser.State.TheVariants.{ControlSequence, DeviceControl, DeviceData, Escape, EscapeIntermediate, IgnoredString, SystemCommand, Text}
-use Rattle.vte_core.specs.declared.utf8.Unfinished.TheVariants.{Empty, One, Three, Two}
+use Rattle.vte_core.specs.declared.utf8.OpenCharacter.TheVariants.{Empty, One, Three, Two}
 use Rattle.vte_core.specs.private.FlatGroups.{AreRawParts}
 use Rattle.vte_core.specs.private.Store.{ArePieceEnds}
 
--- The number of a state, and the bytes of an unfinished character.
+-- The number of a state, and the bytes of an open character.
 abbrev pub state_bytes : State → List ℕ
 state_bytes (Text Empty) = 0 ∷ 0 ∷ 0 ∷ 0 ∷ []
 state_bytes (Text (One a)) = 1 ∷ a ∷ 0 ∷ 0 ∷ []

@@ -4,7 +4,7 @@ use Rattle.std.specs.Prelude.{List, Option, ℕ, ◌+◌, ◌≡◌, ◌≤◌}
 use Rattle.vte_core.specs.declared.parser.machine.Machine.{Machine}
 use Rattle.vte_core.specs.declared.parser.State.TheVariants.{Text}
 use Rattle.vte_core.specs.declared.reader.Reader.{Reader}
-use Rattle.vte_core.specs.declared.utf8.Unfinished.TheVariants.{Empty}
+use Rattle.vte_core.specs.declared.utf8.OpenCharacter.TheVariants.{Empty}
 use Rattle.vte_core.specs.Event.{after, Event}
 use Rattle.vte_core.specs.Looks.{looks_of}
 use Rattle.vte_core.specs.private.AtPlace.{IsAtPlace}

@@ -16,8 +16,8 @@ use Rattle.vte_core.specs.private.AtPlace.{HasReadWithLimit}
 use Rattle.vte_core.specs.private.Progress.{ChunkCall, IsAtPosition}
 use Rattle.vte_core.specs.private.Runs.{IsUtf8Run}
 use Rattle.vte_core.specs.private.Scans.{ArePositions}
+use Rattle.vte_core.specs.RunText.{HasNoRunAt}
 use Rattle.vte_core.specs.Stream.{added}
-use Rattle.vte_core.specs.Text.{HasNoRunAt}
 
 -- The state is neither in a text nor in data.
 abbrev pub IsOutsideTextAndData : State → Type 0

@@ -6,7 +6,7 @@ use crate::buffer::Buffer;
 use crate::parser::{Machine, State};
 use crate::reader::{CountedPerform, Granularity, Input, Reader};
 use crate::utf8::{
-    Extension, Unfinished, character_of_four, character_of_three, character_of_two,
+    Extension, OpenCharacter, character_of_four, character_of_three, character_of_two,
     is_continuation, may_begin_four, may_begin_three,
 };
 
@@ -46,7 +46,7 @@ impl<B: Buffer> Machine<B> {
     {
         let next = from + 1;
         if next >= input.len() {
-            self.state = State::Text(Unfinished::One(first));
+            self.state = State::Text(OpenCharacter::One(first));
             return next;
         }
         let second = reader.byte_at(input, next);
@@ -95,7 +95,7 @@ impl<B: Buffer> Machine<B> {
             return next;
         }
         if next + 1 >= input.len() {
-            self.state = State::Text(Unfinished::Two(first, second));
+            self.state = State::Text(OpenCharacter::Two(first, second));
             return next + 1;
         }
         let third = reader.byte_at(input, next + 1);
@@ -152,7 +152,7 @@ impl<B: Buffer> Machine<B> {
                 performer,
                 input,
                 next + 1,
-                Unfinished::Two(first, second),
+                OpenCharacter::Two(first, second),
             );
         }
         let third = reader.byte_at(input, next + 1);
@@ -186,20 +186,20 @@ impl<B: Buffer> Machine<B> {
         performer: &mut P,
         input: Input<'_>,
         from: usize,
-        begun: Unfinished,
+        opened: OpenCharacter,
     ) -> usize
         requires within { from ≤ length input.bytes.now }
-        requires some_open { bytes_of begun ≢ [] }
+        requires some_open { bytes_of opened ≢ [] }
         ensures completes { Completes
             (chunk_call MAY_STOP P.step P.is_terminated B.limit input.entry.bytes.now)
-            (P.value_of performer.old) (P.value_of performer.new) from result begun self.new }
+            (P.value_of performer.old) (P.value_of performer.new) from result opened self.new }
         ensures spends { SpendsWithin (per_byte 2) (caller_looks 0) (lookahead 2)
             input.entry.bytes.now from result self.old self.new reader.old reader.new }
     {
-        self.continue_character::<P, G, MAY_STOP>(reader, performer, input, from, begun)
+        self.continue_character::<P, G, MAY_STOP>(reader, performer, input, from, opened)
     }
 
-    /// Reads the bytes that continue an unfinished character. A byte that breaks it is left unread,
+    /// Reads the bytes that continue an open character. A byte that breaks it is left unread,
     /// and U+FFFD is printed for those before it.
     #[inline(always)]
     pub(crate) fn continue_character<P: CountedPerform<G>, G: Granularity, const MAY_STOP: bool>(
@@ -208,33 +208,33 @@ impl<B: Buffer> Machine<B> {
         performer: &mut P,
         input: Input<'_>,
         from: usize,
-        begun: Unfinished,
+        opened: OpenCharacter,
     ) -> usize
         requires within { from ≤ length input.bytes.now }
-        requires some_open { bytes_of begun ≢ [] }
+        requires some_open { bytes_of opened ≢ [] }
         ensures completes { Completes
             (chunk_call MAY_STOP P.step P.is_terminated B.limit input.entry.bytes.now)
-            (P.value_of performer.old) (P.value_of performer.new) from result begun self.new }
+            (P.value_of performer.old) (P.value_of performer.new) from result opened self.new }
         ensures spends { SpendsWithin (per_byte 2) (caller_looks 0) (lookahead 2)
             input.entry.bytes.now from result self.old self.new reader.old reader.new }
     {
-        let mut unfinished = begun;
+        let mut still_open = opened;
         for position in from..input.len() {
-            match unfinished.extend(reader.byte_at(input, position)) {
-                Extension::Truncated(more) => unfinished = more,
+            match still_open.extend(reader.byte_at(input, position)) {
+                Extension::Truncated(more) => still_open = more,
                 Extension::WellFormed(c) => {
                     reader.report_character(performer, c);
-                    self.state = State::Text(Unfinished::Empty);
+                    self.state = State::Text(OpenCharacter::Empty);
                     return position + 1;
                 }
                 Extension::Malformed => {
                     performer.print_char(reader, char::REPLACEMENT_CHARACTER);
-                    self.state = State::Text(Unfinished::Empty);
+                    self.state = State::Text(OpenCharacter::Empty);
                     return position;
                 }
             }
         }
-        self.state = State::Text(unfinished);
+        self.state = State::Text(still_open);
         input.len()
     }
 }

@@ -9,7 +9,7 @@ ghost use Rattle.vte_core.specs.private.Prelude.{Advances, caller_looks, chunk_c
 use crate::buffer::Buffer;
 use crate::class::{ends_sequence, is_final, is_plain_control};
 use crate::head::{HeadEnd, HeadProgress, Separators};
-use crate::parser::{Machine, State, Unfinished};
+use crate::parser::{Machine, OpenCharacter, State};
 use crate::reader::{CountedPerform, Granularity, Input, Reader};
 
 impl<B: Buffer> Machine<B> {
@@ -191,7 +191,7 @@ impl<B: Buffer> Machine<B> {
         ensures handles { HandlesByteWithin 1 self.old self.new reader.old reader.new }
     {
         if let HeadProgress::IllShaped = head.progress {
-            self.state = State::Text(Unfinished::Empty);
+            self.state = State::Text(OpenCharacter::Empty);
             return head.position + 1;
         }
         let ignore = self.collected.end_head(joined);
@@ -215,7 +215,7 @@ impl<B: Buffer> Machine<B> {
             (CsiDispatch self.old.collected.params self.old.collected.intermediates.items ignore
             final_byte) self.old self.new reader.old reader.new }
     {
-        self.state = State::Text(Unfinished::Empty);
+        self.state = State::Text(OpenCharacter::Empty);
         performer.csi_dispatch(reader, &self.collected, ignore, final_byte);
         position + 1
     }

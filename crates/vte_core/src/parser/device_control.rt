@@ -5,7 +5,7 @@ ghost use Rattle.vte_core.specs.private.Prelude.{Advances, AnyEvents, caller_loo
 use crate::buffer::Buffer;
 use crate::class::{ends_sequence, is_device_data, is_final};
 use crate::head::HeadProgress;
-use crate::parser::{Machine, State, Unfinished};
+use crate::parser::{Machine, OpenCharacter, State};
 use crate::reader::{CountedPerform, Granularity, Input, Reader};
 
 /// The one 8-bit control that is read: ST, the end of the data.
@@ -132,7 +132,7 @@ impl<B: Buffer> Machine<B> {
         }
         if byte == STRING_TERMINATOR {
             performer.unhook(reader);
-            self.state = State::Text(Unfinished::Empty);
+            self.state = State::Text(OpenCharacter::Empty);
         }
         from + 1
     }

@@ -75,11 +75,11 @@ impl<B: Buffer> Machine<B> {
             → ReportsOutsideRuns B.limit stream input.entry.bytes.now result }
     {
         match self.state {
-            State::Text(begun) => {
-                if begun.is_empty() {
+            State::Text(opened) => {
+                if opened.is_empty() {
                     return 0;
                 }
-                self.continue_character::<P, G, MAY_STOP>(reader, performer, input, 0, begun)
+                self.continue_character::<P, G, MAY_STOP>(reader, performer, input, 0, opened)
             }
             _ => 0,
         }

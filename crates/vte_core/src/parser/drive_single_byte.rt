@@ -4,15 +4,14 @@
 //! that most bytes take do nothing after a call of another one, so they save no registers.
 ghost use Rattle.std.specs.Prelude.{false, IfErr, IfOk, length, List, ℕ, [], ◌≡◌, ◌≢◌};
 ghost use Rattle.vte_core.specs.Event.{Print, replacement};
-ghost use Rattle.vte_core.specs.private.Prelude.{Advances, AnyEvents, bytes_of, caller_looks, chunk_call, DeviceData, Empty, EventsOutsideRuns, HasReadWithLimit, IsAtPosition, IsRefusedAt, lookahead, looks_of, MayReadAt, MayReadByte, per_byte, read_count, ReadsCall, ReadsWithin, SpendsWithin, Text};
-ghost use Rattle.vte_core.specs.Utf8.{from_to, is_in};
+ghost use Rattle.vte_core.specs.private.Prelude.{Advances, AnyEvents, bytes_of, caller_looks, chunk_call, DeviceData, Empty, EventsOutsideRuns, HasReadWithLimit, is_in, IsAtPosition, IsRefusedAt, lookahead, looks_of, MayReadAt, MayReadByte, per_byte, printed_ascii, read_count, ReadsCall, ReadsWithin, SpendsWithin, Text};
 
 use crate::buffer::Buffer;
 use crate::class::{ESCAPE, is_device_data, is_parameter_byte};
 use crate::head::HeadProgress;
 use crate::parser::{Machine, Refused, State};
 use crate::reader::{CountedPerform, Granularity, Input, Reader};
-use crate::utf8::{Extension, Unfinished, is_lead, is_printed_ascii};
+use crate::utf8::{Extension, OpenCharacter, is_lead, is_printed_ascii};
 
 impl<B: Buffer> Machine<B> {
     /// Reads the one byte of a call that can't stop, or none if memory is refused for it.
@@ -29,11 +28,11 @@ impl<B: Buffer> Machine<B> {
             (P.value_of performer.old) (P.value_of performer.new) result self.old self.new
             (looks_of reader.old) (looks_of reader.new) }
     {
-        if let State::Text(begun) = self.state {
-            if begun.is_empty() {
+        if let State::Text(opened) = self.state {
+            if opened.is_empty() {
                 return Ok(self.read_single_byte_of_text(reader, performer, input));
             }
-            return Ok(self.read_continuing_byte(reader, performer, input, begun));
+            return Ok(self.read_continuing_byte(reader, performer, input, opened));
         }
         if let State::ControlSequence(reached) = self.state {
             return Ok(self.read_parameter_byte(reader, performer, input, reached));
@@ -79,7 +78,7 @@ impl<B: Buffer> Machine<B> {
         requires may_read { MayReadByte
             (chunk_call false P.step P.is_terminated B.limit input.bytes.now)
             (P.value_of performer.old) (Text Empty) self.old 0 byte }
-        requires not_printed { is_in (from_to 0x20 0x7f) byte ≡ false }
+        requires not_printed { is_in printed_ascii byte ≡ false }
         requires one_byte { length input.bytes.now ≡ 1 }
         ensures advances { Advances AnyEvents
             (chunk_call false P.step P.is_terminated B.limit input.entry.bytes.now)
@@ -91,7 +90,7 @@ impl<B: Buffer> Machine<B> {
             return self.read_escape_in_text::<P, G, false>(reader, performer, input, 0);
         }
         if is_lead(byte) {
-            self.state = State::Text(Unfinished::One(byte));
+            self.state = State::Text(OpenCharacter::One(byte));
         } else {
             reader.report_lone_byte(performer, byte);
         }
@@ -105,11 +104,11 @@ impl<B: Buffer> Machine<B> {
         reader: &mut Reader,
         performer: &mut P,
         input: Input<'_>,
-        begun: Unfinished,
+        opened: OpenCharacter,
     ) -> usize
         requires one_byte { length input.bytes.now ≡ 1 }
-        requires in_state { self.old.state ≡ Text begun }
-        requires some_open { bytes_of begun ≢ [] }
+        requires in_state { self.old.state ≡ Text opened }
+        requires some_open { bytes_of opened ≢ [] }
         ensures is_at_position { (stream : List ℕ) → HasReadWithLimit B.limit self.old stream →
             IsAtPosition (chunk_call false P.step P.is_terminated B.limit input.entry.bytes.now)
             (P.value_of performer.old) (P.value_of performer.new) stream result self.new }
@@ -118,18 +117,18 @@ impl<B: Buffer> Machine<B> {
             input.entry.bytes.now 0 result self.old self.new reader.old reader.new }
     {
         let byte = reader.byte_at(input, 0);
-        match begun.extend(byte) {
+        match opened.extend(byte) {
             Extension::Truncated(more) => {
                 self.state = State::Text(more);
                 1
             }
             Extension::WellFormed(c) => {
-                self.state = State::Text(Unfinished::Empty);
+                self.state = State::Text(OpenCharacter::Empty);
                 reader.report_character(performer, c);
                 1
             }
             Extension::Malformed => {
-                self.state = State::Text(Unfinished::Empty);
+                self.state = State::Text(OpenCharacter::Empty);
                 self.read_breaking_byte(reader, performer, input)
             }
         }
@@ -222,7 +221,7 @@ impl<B: Buffer> Machine<B> {
         requires may_read { MayReadAt
             (chunk_call false P.step P.is_terminated B.limit input.bytes.now)
             (P.value_of performer.old) self.old.state self.old 0 }
-        requires outside_text { (begun : Unfinished) → self.old.state ≢ Text begun }
+        requires outside_text { (opened : OpenCharacter) → self.old.state ≢ Text opened }
         ensures advances { Advances AnyEvents
             (chunk_call false P.step P.is_terminated B.limit input.entry.bytes.now)
             (P.value_of performer.old) (P.value_of performer.new) 0 (read_count result) self.old

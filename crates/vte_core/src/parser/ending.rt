@@ -1,10 +1,10 @@
 //! ESC, CAN and SUB, which end whatever is open, in every state.
 ghost use Rattle.std.specs.Prelude.{true, [], ◌∷◌, ◌≡◌};
-ghost use Rattle.vte_core.specs.private.Prelude.{Advances, after, caller_looks, chunk_call, class_of, closing_events_at, ends_sequence, Escape, EventsOutsideRuns, HandlesByteWithin, IsAtPlace, IsOutsideRunsInState, IsSettledPlace, LooksWithin, MayReadByte, per_byte, Place, ReadsWithin, TakesBytes};
+ghost use Rattle.vte_core.specs.private.Prelude.{Advances, after, caller_looks, chunk_call, class_of, closing_events_at, ends_sequence, Escape, escape, EventsOutsideRuns, HandlesByteWithin, IsAtPlace, IsOutsideRunsInState, IsSettledPlace, LooksWithin, MayReadByte, per_byte, Place, ReadsWithin, TakesBytes};
 
 use crate::buffer::Buffer;
 use crate::class::ESCAPE;
-use crate::parser::{Machine, State, Unfinished};
+use crate::parser::{Machine, OpenCharacter, State};
 use crate::reader::{CountedPerform, Granularity, Input, Reader};
 
 impl<B: Buffer> Machine<B> {
@@ -21,7 +21,7 @@ impl<B: Buffer> Machine<B> {
             → IsSettledPlace place
             → TakesBytes P.step (P.value_of performer.old)
             (P.value_of performer.new) B.limit place (byte ∷ []) self.new }
-        ensures escape { byte ≡ 0x1b → self.new.state ≡ Escape }
+        ensures escape { byte ≡ escape → self.new.state ≡ Escape }
         ensures handles { HandlesByteWithin 2 self.old self.new reader.old reader.new }
     {
         self.report_string_end(reader, performer);
@@ -31,7 +31,7 @@ impl<B: Buffer> Machine<B> {
             return;
         }
         performer.execute_control(reader, byte);
-        self.state = State::Text(Unfinished::Empty);
+        self.state = State::Text(OpenCharacter::Empty);
     }
 
     /// Reads a byte that ends what is open, and after ESC also the bytes that follow it.

@@ -1,6 +1,6 @@
 //! Escape sequences, and what ESC begins.
 ghost use Rattle.std.specs.Prelude.{slice_index, true, [], ◌*◌, ◌+◌, ◌<◌, ◌∷◌, ◌≡◌, ◌≢◌, ◌≤◌};
-ghost use Rattle.vte_core.specs.private.Prelude.{Advances, AtEscape, caller_looks, chunk_call, class_of, Dispatches, Empty, Escape, EscapeIntermediate, EscDispatch, EventsOutsideRuns, HandlesByteWithin, is_final, IsAtPlace, IsSettledPlace, looks_of, MayRead, MayReadAt, per_byte, Place, ReadsWithin, TakesByte, TakesBytes, Text};
+ghost use Rattle.vte_core.specs.private.Prelude.{Advances, AtEscape, caller_looks, chunk_call, class_of, Dispatches, Empty, Escape, escape, EscapeIntermediate, EscDispatch, EventsOutsideRuns, HandlesByteWithin, is_final, IsAtPlace, IsSettledPlace, looks_of, MayRead, MayReadAt, per_byte, Place, ReadsWithin, TakesByte, TakesBytes, Text};
 
 use crate::buffer::Buffer;
 use crate::class::{
@@ -8,7 +8,7 @@ use crate::class::{
     is_intermediate, is_plain_control,
 };
 use crate::head::HeadProgress;
-use crate::parser::{Machine, State, Unfinished};
+use crate::parser::{Machine, OpenCharacter, State};
 use crate::reader::{CountedPerform, Granularity, Input, Reader};
 
 impl<B: Buffer> Machine<B> {
@@ -24,7 +24,7 @@ impl<B: Buffer> Machine<B> {
         requires may_read { MayReadAt
             (chunk_call MAY_STOP P.step P.is_terminated B.limit input.bytes.now)
             (P.value_of performer.old) (Text Empty) self.old from }
-        requires escape { slice_index input.bytes.now from ≡ 0x1b }
+        requires escape { slice_index input.bytes.now from ≡ escape }
         ensures advances { Advances EventsOutsideRuns
             (chunk_call MAY_STOP P.step P.is_terminated B.limit input.entry.bytes.now)
             (P.value_of performer.old) (P.value_of performer.new) from result self.old self.new }
@@ -199,6 +199,6 @@ impl<B: Buffer> Machine<B> {
             self.old self.new reader.old reader.new }
     {
         performer.esc_dispatch(reader, &self.collected, final_byte);
-        self.state = State::Text(Unfinished::Empty);
+        self.state = State::Text(OpenCharacter::Empty);
     }
 }

@@ -6,7 +6,7 @@ ghost use Rattle.vte_core.specs.private.Prelude.{HasReadWithLimit, outcome, Says
 
 use crate::buffer::Buffer;
 use crate::head::CollectedHead;
-use crate::parser::{Open, State, Unfinished};
+use crate::parser::{Open, OpenCharacter, State};
 use crate::store::CommandStore;
 
 /// A parser over any buffer for operating system commands. The state functions are its methods.
@@ -27,7 +27,7 @@ impl<B: Buffer> Machine<B> {
         ensures capacity_is { result.command.capacity ≡ B.capacity bytes }
     {
         Machine {
-            state: State::Text(Unfinished::Empty),
+            state: State::Text(OpenCharacter::Empty),
             collected: CollectedHead::new(),
             command: CommandStore::new(bytes),
         }

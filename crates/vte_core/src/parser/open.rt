@@ -2,7 +2,7 @@
 ghost use Rattle.std.specs.Prelude.{◌≡◌};
 ghost use Rattle.vte_core.specs.private.AtPlace.{open_in};
 
-use crate::parser::{State, Unfinished};
+use crate::parser::{OpenCharacter, State};
 
 /// What is open at the end of the bytes that were read.
 ///
@@ -32,7 +32,7 @@ impl State {
         ensures { result ≡ open_in self }
     {
         match self {
-            State::Text(Unfinished::Empty) => Open::Nothing,
+            State::Text(OpenCharacter::Empty) => Open::Nothing,
             State::Text(_) => Open::Character,
             State::Escape | State::EscapeIntermediate => Open::EscapeSequence,
             State::ControlSequence(_) => Open::ControlSequence,

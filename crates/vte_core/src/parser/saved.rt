@@ -7,7 +7,7 @@ ghost use Rattle.vte_core.specs.Saved.{HasReadSaved, IsZero};
 
 use crate::head::{HeadProgress, MAX_INTERMEDIATES};
 use crate::params::{MAX_NUMBERS, Params};
-use crate::parser::{MAX_OSC_RAW, Parser, State, Unfinished};
+use crate::parser::{MAX_OSC_RAW, OpenCharacter, Parser, State};
 use crate::store::MAX_PIECES;
 use arrayvec::ArrayVec;
 
@@ -45,7 +45,7 @@ pub struct Saved {
     ends: [usize; MAX_PIECES],
     /// Whether data bytes of the command were lost.
     lost: u8,
-    /// The number of the state, and the bytes of an unfinished character.
+    /// The number of the state, and the bytes of an open character.
     state: [u8; 4],
 }
 
@@ -79,15 +79,15 @@ fn collect_front<T: Copy + Default + Drop, const N: usize>(
     collected
 }
 
-/// Returns the number of a state, and the bytes of an unfinished character.
+/// Returns the number of a state, and the bytes of an open character.
 fn encode_state(state: State) -> [u8; 4]
     ensures { result ≡ state_bytes state }
 {
     match state {
-        State::Text(Unfinished::Empty) => [0, 0, 0, 0],
-        State::Text(Unfinished::One(first)) => [1, first, 0, 0],
-        State::Text(Unfinished::Two(first, second)) => [2, first, second, 0],
-        State::Text(Unfinished::Three(first, second, third)) => [3, first, second, third],
+        State::Text(OpenCharacter::Empty) => [0, 0, 0, 0],
+        State::Text(OpenCharacter::One(first)) => [1, first, 0, 0],
+        State::Text(OpenCharacter::Two(first, second)) => [2, first, second, 0],
+        State::Text(OpenCharacter::Three(first, second, third)) => [3, first, second, third],
         State::Escape => [4, 0, 0, 0],
         State::EscapeIntermediate => [5, 0, 0, 0],
         State::ControlSequence(HeadProgress::Entry) => [6, 0, 0, 0],
@@ -110,10 +110,10 @@ fn decode_state(saved: [u8; 4]) -> State
 {
     let [number, first, second, third] = saved;
     match number {
-        0 => State::Text(Unfinished::Empty),
-        1 => State::Text(Unfinished::One(first)),
-        2 => State::Text(Unfinished::Two(first, second)),
-        3 => State::Text(Unfinished::Three(first, second, third)),
+        0 => State::Text(OpenCharacter::Empty),
+        1 => State::Text(OpenCharacter::One(first)),
+        2 => State::Text(OpenCharacter::Two(first, second)),
+        3 => State::Text(OpenCharacter::Three(first, second, third)),
         4 => State::Escape,
         5 => State::EscapeIntermediate,
         6 => State::ControlSequence(HeadProgress::Entry),
@@ -166,7 +166,7 @@ impl Parser<MAX_OSC_RAW> {
         ensures { (stream : List ℕ) → HasRead self.now stream → HasReadSaved saved.new stream }
     {
         // Most calls end between characters of a text, where nothing else counts.
-        if let State::Text(Unfinished::Empty) = self.machine.state {
+        if let State::Text(OpenCharacter::Empty) = self.machine.state {
             saved.state = [0; 4];
         } else {
             self.save_open(saved);
@@ -211,7 +211,7 @@ impl Parser<MAX_OSC_RAW> {
         ensures { (stream : List ℕ) → HasReadSaved saved.now stream → HasRead self.new stream }
     {
         if saved.state[0] == 0 {
-            self.machine.state = State::Text(Unfinished::Empty);
+            self.machine.state = State::Text(OpenCharacter::Empty);
         } else {
             self.restore_open(saved);
         }

@@ -4,7 +4,7 @@ ghost use Rattle.vte_core.specs.private.Prelude.{Advances, caller_looks, chunk_c
 
 use crate::buffer::Buffer;
 use crate::class::ends_sequence;
-use crate::parser::{Machine, Refused, State, Unfinished};
+use crate::parser::{Machine, OpenCharacter, Refused, State};
 use crate::reader::{CountedPerform, Granularity, Input, Reader};
 
 /// BEL: ends an operating system command.
@@ -51,7 +51,7 @@ impl<B: Buffer> Machine<B> {
             self.command.end_piece();
         } else if byte == BELL {
             self.command.dispatch(reader, performer, true);
-            self.state = State::Text(Unfinished::Empty);
+            self.state = State::Text(OpenCharacter::Empty);
         }
         Ok(end + 1)
     }

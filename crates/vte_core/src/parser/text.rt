@@ -1,6 +1,6 @@
 //! Text: characters, runs of them, and malformed sequences.
 ghost use Rattle.std.specs.Prelude.{false, IfSome, length, None, slice_index, true, ◌*◌, ◌+◌, ◌<◌, ◌≡◌, ◌≤◌};
-ghost use Rattle.vte_core.specs.private.Prelude.{Advances, AnyEvents, caller_looks, chunk_call, Empty, IsLead, IsPrintedAscii, looks_of, MayReadAt, MayReadByte, NoCharacterStops, per_byte, PrintsRun, ReadsWithin, Text};
+ghost use Rattle.vte_core.specs.private.Prelude.{Advances, AnyEvents, caller_looks, chunk_call, Empty, escape, IsLead, IsPrintedAscii, looks_of, MayReadAt, MayReadByte, NoCharacterStops, per_byte, PrintsRun, ReadsWithin, Text};
 
 use crate::buffer::Buffer;
 use crate::class::ESCAPE;
@@ -268,7 +268,7 @@ impl<B: Buffer> Machine<B> {
         requires may_read { MayReadByte
             (chunk_call false P.step P.is_terminated B.limit input.bytes.now)
             (P.value_of performer.old) (Text Empty) self.old from first }
-        ensures escape { result ≡ None → first ≡ 0x1b }
+        ensures escape { result ≡ None → first ≡ escape }
         ensures unread { result ≡ None → (self.new ≡ self.old)
             × (P.value_of performer.new ≡ P.value_of performer.old)
             × (looks_of reader.new ≡ looks_of reader.old) }

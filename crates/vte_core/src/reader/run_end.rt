@@ -4,7 +4,7 @@
 //! that no byte is read often. Bytes are read only by `byte_at`, `get_byte`, `get_block` and
 //! `get_window`, which count them.
 ghost use Rattle.std.specs.Prelude.{false, IfSome, IsTrue, length, MatchOption, None, slice_index, true, ◌*◌, ◌+◌, ◌<◌, ◌↔◌, ◌≡◌, ◌≤◌};
-ghost use Rattle.vte_core.specs.private.Prelude.{ArePositions, ArePrintedAscii, from_to, HasNoRunAt, is_in, IsPrintedAscii, IsRun, looks_of, LooksWithin, Scans};
+ghost use Rattle.vte_core.specs.private.Prelude.{ArePositions, ArePrintedAscii, from_to, HasNoRunAt, is_in, IsPrintedAscii, IsRun, looks_of, LooksWithin, printed_ascii, Scans};
 
 use crate::class::is_layout;
 use crate::reader::{CountedPerform, Granularity, Input, Reader};
@@ -219,7 +219,7 @@ impl Reader {
     ) -> Option<usize>
         requires before_end { from < length input.bytes.now }
         requires looked_at { first ≡ slice_index input.bytes.now from }
-        requires not_printed_ascii { is_in (from_to 0x20 0x7f) first ≡ false }
+        requires not_printed_ascii { is_in printed_ascii first ≡ false }
         ensures reads_some { IfSome result (λ end. from < end) }
         ensures within { IfSome result (λ end. end ≤ length input.entry.bytes.now) }
         ensures run { IfSome result (IsRun layout input.entry.bytes.now from) }

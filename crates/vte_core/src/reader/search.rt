@@ -1,14 +1,13 @@
 //! Searches for the byte that ends data, a text or a string.
 //!
 //! Ignored strings may hold megabytes, so they are searched by blocks. Their first bytes are read
-//! one by one before any block is tried, so that no byte is read often. A search that loads bytes
-//! directly counts them at the end.
+//! one by one before any block is tried, so that no byte is read often. Bytes are read only by
+//! `byte_at`, `get_block` and `find_escape`, which count them.
 ghost use Rattle.std.specs.Prelude.{IsTrue, length, min, slice_index, true, ℕ, ◌*◌, ◌+◌, ◌<◌, ◌≡◌, ◌≢◌, ◌≤◌};
-ghost use Rattle.vte_core.specs.private.Prelude.{AreIgnored, ArePositions, class_of, ends_sequence, FindsEnd, IsCommandData, IsDeviceData, looks_of, Scans};
+ghost use Rattle.vte_core.specs.private.Prelude.{AreIgnored, ArePositions, class_of, ends_sequence, escape, FindsEnd, IsCommandData, IsDeviceData, looks_of, Scans};
 
-use crate::class::{ESCAPE, cannot_end, ends_sequence, is_command_data, is_device_data};
+use crate::class::{cannot_end, ends_sequence, is_command_data, is_device_data};
 use crate::reader::{Input, Reader};
-use memchr::memchr;
 
 impl Reader {
     /// Returns the end of the data of an operating system command that starts at `from`: the
@@ -17,12 +16,12 @@ impl Reader {
         requires { from ≤ length input.bytes.now }
         ensures { FindsEnd IsCommandData input.entry.bytes.now from result self.old self.new }
     {
-        let mut end = from;
-        while end < input.len() && is_command_data(input.bytes[end]) {
-            end += 1;
+        for end in from..input.len() {
+            if !is_command_data(self.byte_at(input, end)) {
+                return end;
+            }
         }
-        self.count_looks((end - from) + usize::from(end < input.len()));
-        end
+        input.len()
     }
 
     /// Returns the end of the data of a device control string that starts at `from`: the position
@@ -31,31 +30,12 @@ impl Reader {
         requires { from ≤ length input.bytes.now }
         ensures { FindsEnd IsDeviceData input.entry.bytes.now from result self.old self.new }
     {
-        let mut end = from;
-        while end < input.len() && is_device_data(input.bytes[end]) {
-            end += 1;
-        }
-        self.count_looks((end - from) + usize::from(end < input.len()));
-        end
-    }
-
-    /// Returns the position of the first ESC from a position on, or the length if there is none.
-    pub(crate) fn find_escape(&mut self, input: Input<'_>, from: usize) -> usize
-        requires { from ≤ length input.bytes.now }
-        ensures { FindsEnd
-            (λ byte. byte ≢ 0x1b) input.entry.bytes.now from result self.old self.new }
-    {
-        let rest = &input.bytes[from..];
-        match memchr(ESCAPE, rest) {
-            Some(distance) => {
-                self.count_looks(distance + 1);
-                from + distance
-            }
-            None => {
-                self.count_looks(rest.len());
-                input.bytes.len()
+        for end in from..input.len() {
+            if !is_device_data(self.byte_at(input, end)) {
+                return end;
             }
         }
+        input.len()
     }
 
     /// Returns the end of the bytes of a text that are read next: the position after the next ESC,
@@ -73,7 +53,7 @@ impl Reader {
         ensures reads_some { from < result }
         ensures within { result ≤ length input.entry.bytes.now }
         ensures no_escape { (k : ℕ) → from ≤ k → k + 1 < result
-            → slice_index input.entry.bytes.now k ≢ 0x1b }
+            → slice_index input.entry.bytes.now k ≢ escape }
         ensures looks { looks_of self.new + from ≡ looks_of self.old + result }
         ensures unread_at_most_read { MAY_STOP ≡ true → result + text_start ≤ from + from }
     {

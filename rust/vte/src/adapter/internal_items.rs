@@ -9,7 +9,7 @@ use crate::proved::vte_core::{Parser, PerformText};
 /// before the last ESC, or if there is none all but the last three.
 ///
 /// A command begins with ESC, controls if any, and `]`, so none is lost. Nor is what is open at the
-/// end: each ESC ends what was open before it, and an unfinished character has at most three bytes.
+/// end: each ESC ends what was open before it, and an open character has at most three bytes.
 pub fn skip_to_command(bytes: &[u8]) -> usize {
     let (mut from, mut last) = (0, bytes.len().saturating_sub(3));
     while let Some(found) = memchr(0x1b, &bytes[from..]) {

@@ -111,7 +111,7 @@ begins b =
           | inr other ↦ fails (grind (arith, nat_tests))
         ]
         | inr printed ↦
-            prints (run-ascii true (b ∷ []) 0 1 (each-one IsPrintedAscii (b ∷ []) 0 (printed, ascii)))
+            prints (run-ascii true (b ∷ []) 0 1 (each-one IsPrintedAscii (b ∷ []) 0 (printed, omega (arith, ascii))))
             (grind (arith, nat_tests))
       ]
       | inr from_80 ↦ elim (cases_lt b 0xc2) [

@@ -1,5 +1,5 @@
 -- Where a run ends: `no_run-X`, no run begins where X does. By the rows of UTF-8.
-use Rattle.vte_core.proofs.Common.{and_parts, ap, arith, Bool, cases_Bool, cases_lt, drop, drop_all, drop_more, ends_run, false, false≢true, from_to, HasNoRunAt, inl, inr, is_control_character, is_in, is_layout, is_well_formed, length, List, nat_tests, Range, refl, rules, scalar_of, second_range, slice_index, subst, suc, sym, take, true, utf8_rows, zero, ℕ, [], ◌+◌, ◌<◌, ◌∙◌, ◌∷◌, ◌≡◌, ◌≤◌}
+use Rattle.vte_core.proofs.Common.{and_parts, ap, arith, Bool, cases_Bool, cases_lt, drop, drop_all, drop_more, ends_run, false, false≢true, from_to, HasNoRunAt, inl, inr, is_control_character, is_in, is_layout, is_well_formed, length, List, nat_tests, printed_ascii, Range, refl, rules, scalar_of, second_range, slice_index, subst, suc, sym, take, true, utf8_rows, zero, ℕ, [], ◌+◌, ◌<◌, ◌∙◌, ◌∷◌, ◌≡◌, ◌≤◌}
 use Rattle.vte_core.proofs.lemmas.bytes.Scalars.{continuation-bounds, in_range-bounds}
 use Rattle.vte_core.proofs.lemmas.bytes.Utf8.{continuation, fits, rows-lone, rows-none, second_plain, tests-ascii, tests-four, tests-none, tests-three, tests-two}
 
@@ -70,7 +70,7 @@ module _ (layout : Bool) (bytes : List ℕ) (from a : ℕ) (before_end : from < 
   control-ends scalar control other = search (rules, arith)
 
   -- A run ends at a byte that is neither printed nor kept, and begins no longer sequence.
-  pub no_run-single : is_in (from_to 0x20 0x7f) a ≡ false → is_in (from_to 0xc2 0xf4) a ≡ false
+  pub no_run-single : is_in printed_ascii a ≡ false → is_in (from_to 0xc2 0xf4) a ≡ false
       → (layout ≡ true → is_layout a ≡ false) → HasNoRunAt layout bytes from
   no_run-single other lone plain n far whole =
       let none_begins = begins n whole in
@@ -169,9 +169,9 @@ no_run-all layout bytes place all l far whole = search (rules, arith)
 
 -- ASCII that is printed begins a run, so a byte at which no run begins isn't such.
 pub no_run-unprinted : (bytes : List ℕ) (from : ℕ) → from < length bytes → HasNoRunAt false bytes from
-    → is_in (from_to 0x20 0x7f) (slice_index bytes from) ≡ false
+    → is_in printed_ascii (slice_index bytes from) ≡ false
 unfolding is_well_formed utf8_rows
-no_run-unprinted bytes from before_end ended = elim (cases_Bool (is_in (from_to 0x20 0x7f) (slice_index bytes from))) [
+no_run-unprinted bytes from before_end ended = elim (cases_Bool (is_in printed_ascii (slice_index bytes from))) [
   | inr other ↦ other
   | inl printed ↦
       let b : ℕ = slice_index bytes from in

@@ -3,7 +3,7 @@ use Rattle.std.proofs.lemmas.List.{get_or-take, length-take}
 use Rattle.std.proofs.lemmas.List.Elements.{All-from_get_or}
 use Rattle.std.proofs.lemmas.Str.{chars-append, chars-IsAscii, chars-nil, chars_past_char, IsUtf8-append, IsUtf8-encode, IsUtf8-from_ascii, IsUtf8-nil}
 use Rattle.std.proofs.lemmas.Str.Ascii.{IsAscii-cons, IsAscii-from_reads, IsAscii-nil}
-use Rattle.vte_core.proofs.Common.{after, All, All-append, All-cons, All-nil, ap, append-nil, ArePrintedAscii, arith, Bool, chars, drop, encode, Event, false, from_to, get_or, get_or-drop, is_control_character, is_in, is_layout, IsAscii, IsPrintedAscii, IsRun, IsScalar, IsUtf8Run, length, List, map, nat_tests, Print, refl, rules, run_event, slice_index, StaysInRun, subst, sym, take, true, ℕ, [], ◌++◌, ◌+◌, ◌-◌, ◌<◌, ◌∙◌, ◌∷◌, ◌≡◌, ◌≤◌}
+use Rattle.vte_core.proofs.Common.{after, All, All-append, All-cons, All-nil, ap, append-nil, ArePrintedAscii, arith, Bool, chars, drop, encode, Event, false, get_or, get_or-drop, is_control_character, is_in, is_layout, IsAscii, IsPrintedAscii, IsRun, IsScalar, IsUtf8Run, length, List, map, nat_tests, Print, printed_ascii, refl, rules, run_event, slice_index, StaysInRun, subst, sym, take, true, ℕ, [], ◌++◌, ◌+◌, ◌-◌, ◌<◌, ◌∙◌, ◌∷◌, ◌≡◌, ◌≤◌}
 use Rattle.vte_core.proofs.lemmas.bytes.Each.{one_byte, slice-then}
 
 -- ---- which characters stay in a run
@@ -51,7 +51,7 @@ utf8_run-printed layout bytes n are_printed =
     let below : k < n = omega (arith, l, length-take n bytes) in
     subst IsPrintedAscii (sym (get_or-take n bytes k 0 below)) (are_printed k (omega arith) below) in
     utf8_run-ascii
-    (IsAscii-from_reads (take n bytes) (length (take n bytes)) (omega arith) (λ k l. (printed k l).1))
+    (IsAscii-from_reads (take n bytes) (length (take n bytes)) (omega arith) (λ k l. omega (arith, (printed k l).1)))
     (All-from_get_or (StaysInRun layout) (take n bytes) 0 (λ k l. plain-stays layout _ (printed k l)))
 
 -- No bytes are a run too.
@@ -97,7 +97,7 @@ run_event-no_control layout {scalar} no_control = grind (arith, nat_tests, layou
 -- ---- runs from one position of the bytes to another
 
 -- The test that the code makes of a byte.
-pub printed-in_range : (b : ℕ) → is_in (from_to 0x20 0x7f) b ≡ true → IsPrintedAscii b
+pub printed-in_range : (b : ℕ) → is_in printed_ascii b ≡ true → IsPrintedAscii b
 printed-in_range b in_range = grind (arith, nat_tests)
 
 -- The slice of a byte of printed ASCII is one character.
@@ -105,7 +105,7 @@ pub chars-one : (bytes : List ℕ) (from b : ℕ) → from < length bytes → b 
     → chars (take (from + 1 - from) (drop from bytes)) ≡ b ∷ []
 chars-one bytes from b before_end byte_is printed =
     ap chars (one_byte bytes from b before_end byte_is)
-    ∙ chars-IsAscii (b ∷ []) (IsAscii-cons b [] printed.1 IsAscii-nil)
+    ∙ chars-IsAscii (b ∷ []) (IsAscii-cons b [] (omega (arith, printed.1)) IsAscii-nil)
 
 -- HT, LF and CR are each a run, if runs keep them.
 pub run-layout : (bytes : List ℕ) (from b : ℕ) → from < length bytes → b ≡ slice_index bytes from → is_layout b ≡ true

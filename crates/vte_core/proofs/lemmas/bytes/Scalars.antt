@@ -1,5 +1,5 @@
 -- The number of a well-formed sequence is that of a character: of its bytes, each in its range, the sum has bounds. So
--- too with one more byte of an unfinished one.
+-- too with one more byte of an open one.
 use Rattle.vte_core.proofs.Common.{and_from, and_parts, ap, arith, cases_lt, Extends, false, false≢true, from_to, inl, inr, InScalarRange, is_in, is_truncated, is_well_formed, IsScalar, length, List, nat_tests, Range, refl, rules, scalar_of, second_range, subst, suc, sym, Three, true, Two, utf8_rows, ℕ, [], ◌%◌, ◌&&◌, ◌*◌, ◌++◌, ◌+◌, ◌<◌, ◌∙◌, ◌∷◌, ◌≡◌, ◌≤◌}
 use Rattle.vte_core.proofs.lemmas.bytes.Utf8.{ascii, continuation, first_byte, FirstByte, fits, lone, of_four, of_three, of_two, rows-lone, rows-none, second_plain, Tests, tests-ascii, tests-four, tests-none, tests-three, tests-two, truncated-first, truncated-three, truncated-two}
 use Rattle.vte_core.specs.declared.utf8.Extension.{Extension}
@@ -116,7 +116,7 @@ well_formed_is_scalar bytes well = is_scalar (scalar_of bytes) (scalar_of-in_ran
 
 -- ---- one more byte
 
--- What one more byte makes of an unfinished character, by the ranges of its bytes: a well-formed sequence, a longer
+-- What one more byte makes of an open character, by the ranges of its bytes: a well-formed sequence, a longer
 -- truncated one, or neither. Each is computed from the rows that its first byte leaves.
 
 -- ---- a first byte: C2..F4 begins a longer sequence, and what else is no ASCII begins none

@@ -1,5 +1,5 @@
 -- A search for the end of a run, or of other bytes, goes on where another ended. `scans-X`, `searches-X`: by X.
-use Rattle.vte_core.proofs.Common.{ArePrintedAscii, arith, Bool, drop, from_to, is_in, IsPrintedAscii, IsRun, length, List, looks_of, rules, Scans, slice_index, subst, take, true, ℕ, ◌*◌, ◌+◌, ◌<◌, ◌≡◌, ◌≤◌}
+use Rattle.vte_core.proofs.Common.{ArePrintedAscii, arith, Bool, drop, is_in, IsPrintedAscii, IsRun, length, List, looks_of, printed_ascii, rules, Scans, slice_index, subst, take, true, ℕ, ◌*◌, ◌+◌, ◌<◌, ◌≡◌, ◌≤◌}
 use Rattle.vte_core.proofs.lemmas.bytes.Each.{each-block, each-both, each-one}
 use Rattle.vte_core.proofs.lemmas.bytes.Runs.{printed-in_range, run-append, run-ascii}
 use Rattle.vte_core.specs.declared.reader.Reader.{Reader}
@@ -45,7 +45,7 @@ module _ {layout : Bool} {bytes : List ℕ} {from end next : ℕ} {old_reader mi
     (searches : SearchesRun layout bytes from end old_reader middle) where
   -- After a look at a byte of printed ASCII, it goes on by that and the printed ASCII after it.
   pub searches-ascii : {byte : ℕ} {new_reader : Reader} → looks_of new_reader ≡ looks_of middle + 1
-      → byte ≡ slice_index bytes end → is_in (from_to 0x20 0x7f) byte ≡ true
+      → byte ≡ slice_index bytes end → is_in printed_ascii byte ≡ true
       → Scans ArePrintedAscii bytes (end + 1) next new_reader last
       → 3 * looks_of last + 11 * (end + 1) ≤ 3 * looks_of new_reader + 11 * next + 8
       → SearchesRun layout bytes from next old_reader last

@@ -9,8 +9,6 @@ use Rattle.vte_core.specs.private.FlatGroups.{AreFlatGroups, AreLengths, cut_by_
 
 -- ---- groups cut by lengths
 
--- The proofs are by induction over the lengths, whose sum is the number of numbers.
-
 abbrev pub numbered : Bool → ℕ → Number
 numbered joined value = record { joined = joined; value = value }
 

@@ -101,9 +101,9 @@ open_at-settled (InText opened) none_open = none_open
 open_at-settled _ none_open = refl
 
 -- A parser between characters is at the place of a text with nothing open.
-pub is_at-text_begun : {B : Type 0} {limit : Option ℕ} {parser : Machine B} → parser.state ≡ Text Empty
+pub is_at-between : {B : Type 0} {limit : Option ℕ} {parser : Machine B} → parser.state ≡ Text Empty
     → IsAtPlace limit parser (InText [])
-is_at-text_begun in_state = is_at-by in_state (refl, refl)
+is_at-between in_state = is_at-by in_state (refl, refl)
 
 -- The capacity of a store has no effect on its items.
 pub holds_items-same : {limit : Option ℕ} {old new : StoredCommand} {items : List ℕ} → SameItems old new
@@ -123,7 +123,7 @@ place_of_state-same : {B C : Type 0} (limit : Option ℕ) (state : State) (old :
     → (IsInHead state → HasIntermediates state → old.collected ≡ new.collected)
     → (state ≡ SystemCommand → SameItems old.command new.command)
     → IsPlaceOfState limit state old place → IsPlaceOfState limit state new place
-place_of_state-same limit (Text unfinished) old new (InText opened) same_intermediates same_head same_items fields =
+place_of_state-same limit (Text still_open) old new (InText opened) same_intermediates same_head same_items fields =
     fields
 place_of_state-same limit Escape old new AtEscape same_intermediates same_head same_items fields =
     same_intermediates tt [] fields

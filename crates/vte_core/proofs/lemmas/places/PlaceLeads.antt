@@ -194,9 +194,9 @@ ignored-more no_cancel = record { leads = λ rest. simp no_cancel }
 -- ---- in a text
 
 -- This holds of any byte: that it belongs to the character is said by `IsReachable` of the next place.
-pub text-unfinished : {limit : Option ℕ} {opened : List ℕ} {b : ℕ}
+pub text-open : {limit : Option ℕ} {opened : List ℕ} {b : ℕ}
     → Leads limit (InText opened) b [] (InText (opened ++ b ∷ []))
-text-unfinished {opened} {b} = record { leads = λ rest. ap text_outcome (sym (append_assoc opened (b ∷ []) rest)) }
+text-open {opened} {b} = record { leads = λ rest. ap text_outcome (sym (append_assoc opened (b ∷ []) rest)) }
 
 pub text-well_formed : {limit : Option ℕ} {opened : List ℕ} {b : ℕ} → is_well_formed (opened ++ b ∷ []) ≡ true
     → Leads limit (InText opened) b (character_event (scalar_of (opened ++ b ∷ [])) ∷ []) (InText [])

@@ -6,7 +6,7 @@ use Rattle.vte_core.proofs.lemmas.bytes.Utf8.{ascii-alone, ascii-breaks, Tests}
 use Rattle.vte_core.proofs.lemmas.fields.Pieces.{few_pieces, some_pieces}
 use Rattle.vte_core.proofs.lemmas.fields.PlaceOfState.{IsReachable, may_continue-truncated}
 use Rattle.vte_core.proofs.lemmas.places.BytesInStream.{bytes_lead-byte, waits-byte}
-use Rattle.vte_core.proofs.lemmas.places.PlaceLeads.{executed_low, is_character_event-character, is_character_event-malformed, one_character-append, one_character-from_one_byte, text-lone, text-unfinished, text-well_formed}
+use Rattle.vte_core.proofs.lemmas.places.PlaceLeads.{executed_low, is_character_event-character, is_character_event-malformed, one_character-append, one_character-from_one_byte, text-lone, text-open, text-well_formed}
 use Rattle.vte_core.proofs.lemmas.places.Steps.{IsSilentOrSettles, OpenPiecesFit, Steps}
 use Rattle.vte_core.proofs.lemmas.shapes.BrokenCharacters.{breaks-broken}
 use Rattle.vte_core.proofs.lemmas.shapes.FirstSegment.{text_outcome-broken, text_outcome-well_formed}
@@ -52,7 +52,7 @@ step-by_tests {opened} {byte} is_no_escape neither = elim (cases_Bool (is_well_f
       step-silent_or_settles (inr (refl, is_character_event-character (opened ++ byte ∷ []) well_formed))
       is_no_escape (text-well_formed well_formed) refl
   | inr not_well_formed ↦ elim (cases_Bool (is_truncated (opened ++ byte ∷ []))) [
-    | inl truncated ↦ step-silent_or_settles (inl refl) is_no_escape text-unfinished
+    | inl truncated ↦ step-silent_or_settles (inl refl) is_no_escape text-open
         (may_continue-truncated (opened ++ byte ∷ []) truncated)
     | inr not_truncated ↦ neither not_well_formed not_truncated
   ]

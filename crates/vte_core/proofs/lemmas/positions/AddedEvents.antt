@@ -147,7 +147,7 @@ module _ {limit : Option ℕ} {stream bytes : List ℕ} {i : ℕ} where
       (outside_runs-all step.reported (step.outside_runs outside))
 
   -- If the first byte of a character reported nothing, what is added from it on are the events of the character.
-  pub adds-character : {begun : List ℕ} {j : ℕ} (adds : AddsCharacter limit stream begun bytes (i + 1) j)
+  pub adds-character : {opened : List ℕ} {j : ℕ} (adds : AddsCharacter limit stream opened bytes (i + 1) j)
       → reported_before limit stream bytes i ≡ added limit stream (take (i + 1) bytes) → All IsOutsideRuns adds.events
       → AddsOutsideRuns limit stream bytes i j
   adds-character adds silent are_outside = search (rules, arith)
@@ -178,7 +178,8 @@ reports-nothing {limit} {stream} {bytes} settled has_read =
     }
 
 -- Of a character that was open before the call, all events but the first are outside runs, and none prints ASCII.
-pub reports-open : {limit : Option ℕ} {stream begun bytes : List ℕ} {j : ℕ} → AddsCharacter limit stream begun bytes 0 j
+pub reports-open : {limit : Option ℕ} {stream opened bytes : List ℕ} {j : ℕ}
+    → AddsCharacter limit stream opened bytes 0 j
     → (open_character stream ≡ [] → ⊥) → ReportsOutsideRuns limit stream bytes j
 reports-open {limit} {stream} {bytes} {j} adds some_open =
     let all : reported_before limit stream bytes j ≡ adds.events =

@@ -1,23 +1,23 @@
 -- A byte between characters: it is one (`advances-printed`), a control or malformed (`advances-lone`), or the first of
 -- one (`advances-first`). What the code does is what `places/PlaceLeads` says of the byte, and the parser is at the
 -- next place. A control or malformed byte reports nothing that a run would, after a stretch (`advances-single`).
-use Rattle.vte_core.proofs.Common.{AddsOutsideRuns, Advances, All, AnyEvents, ap, arith, BytesLead, caller_looks, cases_lt, character_event, ChunkCall, drop, drop_more, Empty, escape, Event, Extends, false, false≢true, from_to, HasNoRunAt, inl, inr, InText, is_in, is_truncated, IsAfter, IsAtPlace, IsOutsideRuns, IsSettledPlace, Leads, length, List, lookahead, Machine, malformed_event, MayGoOn, nat_tests, One, Option, per_byte, Place, Print, refl, resumed_stream, rules, slice_index, SpendsWithin, subst, suc, sym, take, TakesBytes, Text, true, Unfinished, ℕ, [], ◌+◌, ◌<◌, ◌∙◌, ◌∷◌, ◌≡◌, ◌≢◌, ◌≤◌}
+use Rattle.vte_core.proofs.Common.{AddsOutsideRuns, Advances, All, AnyEvents, ap, arith, BytesLead, caller_looks, cases_lt, character_event, ChunkCall, drop, drop_more, Empty, escape, Event, Extends, false, false≢true, from_to, HasNoRunAt, inl, inr, InText, is_in, is_truncated, IsAfter, IsAtPlace, IsOutsideRuns, IsSettledPlace, Leads, length, List, lookahead, Machine, malformed_event, MayGoOn, nat_tests, One, OpenCharacter, Option, per_byte, Place, Print, printed_ascii, refl, resumed_stream, rules, slice_index, SpendsWithin, subst, suc, sym, take, TakesBytes, Text, true, ℕ, [], ◌+◌, ◌<◌, ◌∙◌, ◌∷◌, ◌≡◌, ◌≢◌, ◌≤◌}
 use Rattle.vte_core.proofs.lemmas.bytes.Scalars.{begins_none, first_truncated}
 use Rattle.vte_core.proofs.lemmas.bytes.Utf8.{ascii-alone}
 use Rattle.vte_core.proofs.lemmas.fields.PlaceOfState.{is_at-by}
 use Rattle.vte_core.proofs.lemmas.places.BytesInStream.{bytes_lead-byte}
-use Rattle.vte_core.proofs.lemmas.places.PlaceLeads.{text-lone, text-unfinished, text-well_formed}
+use Rattle.vte_core.proofs.lemmas.places.PlaceLeads.{text-lone, text-open, text-well_formed}
 use Rattle.vte_core.proofs.lemmas.positions.AddedEvents.{added-inside, adds-character, adds-leads, keep, keeping, recorded-at}
 use Rattle.vte_core.proofs.lemmas.positions.Characters.{in_text}
 use Rattle.vte_core.proofs.lemmas.positions.SettledStates.{place-settled_text, settled-same_state}
 use Rattle.vte_core.proofs.lemmas.positions.Stretches.{advances-byte, advances-reporting, advances-then, advances-without_promise, reads-byte_at}
-use Rattle.vte_core.proofs.lemmas.positions.TakenBytes.{not_escape, takes-byte, takes_bytes-begun}
+use Rattle.vte_core.proofs.lemmas.positions.TakenBytes.{not_escape, takes-byte, takes_bytes-between}
 use Rattle.vte_core.proofs.lemmas.streams.StreamSteps.{outside_runs-control}
 use Rattle.vte_core.specs.declared.reader.Reader.{Reader}
 use Rattle.vte_core.specs.declared.utf8.Extension.TheVariants.{Truncated}
 use Rattle.vte_core.specs.private.Prelude.{Completes, MayReadByte}
 
-character_event-printed : (b : ℕ) → is_in (from_to 0x20 0x7f) b ≡ true → character_event b ≡ Print b
+character_event-printed : (b : ℕ) → is_in printed_ascii b ≡ true → character_event b ≡ Print b
 unfolding character_event
 character_event-printed b printed = grind (arith, nat_tests)
 
@@ -28,11 +28,11 @@ module _ {V B : Type 0} {call : ChunkCall V} {old new : V} {i b : ℕ} {parser :
       → new ≡ call.step old event → Advances AnyEvents call old new i (i + 1) parser parser
   advances-event is_no_escape leads performed =
       advances-without_promise (advances-byte may_read.before_end may_read.looked_at may_read.may_go_on
-      (takes_bytes-begun may_read.in_state is_no_escape (λ is_at. takes-byte performed is_at leads))
+      (takes_bytes-between may_read.in_state is_no_escape (λ is_at. takes-byte performed is_at leads))
       (settled-same_state may_read.in_state tt))
 
   -- A character of ASCII that is printed is reported by `Print`.
-  pub advances-printed : {scalar : ℕ} → is_in (from_to 0x20 0x7f) b ≡ true → scalar ≡ b
+  pub advances-printed : {scalar : ℕ} → is_in printed_ascii b ≡ true → scalar ≡ b
       → new ≡ call.step old (Print scalar) → Advances AnyEvents call old new i (i + 1) parser parser
   advances-printed printed same reported =
       let low : 0x20 ≤ b = grind (arith, nat_tests) in
@@ -54,21 +54,21 @@ module _ {V B : Type 0} {call : ChunkCall V} {old new : V} {i b : ℕ} {parser :
   ]
 
 -- A byte that begins a longer character reports nothing, and opens it.
-takes_bytes-opened : {V B : Type 0} {step : V → Event → V} {value : V} {limit : Option ℕ} {b : ℕ} {longer : Unfinished}
-    {parser next : Machine B} → parser.state ≡ Text Empty
+takes_bytes-opened : {V B : Type 0} {step : V → Event → V} {value : V} {limit : Option ℕ} {b : ℕ}
+    {longer : OpenCharacter} {parser next : Machine B} → parser.state ≡ Text Empty
     → b ≢ escape → Extends [] b (Truncated longer) → next.state ≡ Text longer → (place : Place)
     → IsAtPlace limit parser place
     → IsSettledPlace place
     → TakesBytes step value value limit place (b ∷ []) next
 takes_bytes-opened {limit} {b} {longer} {next} in_state is_no_escape extends state =
     let more : is_truncated (b ∷ []) ≡ true = rw extends.0 at extends.1 in
-    takes_bytes-begun in_state is_no_escape
+    takes_bytes-between in_state is_no_escape
     (λ s. record {
       reported = [];
       next = InText (b ∷ []);
       performed = refl;
       is_at = is_at-by state (extends.0, more);
-      leads = text-unfinished;
+      leads = text-open;
     })
 
 -- ---- a loop over a text
@@ -96,7 +96,7 @@ outside_runs-malformed : (b : ℕ) → All IsOutsideRuns (malformed_event (b ∷
 unfolding malformed_event
 outside_runs-malformed b = search (rules, arith)
 
-byte-single : (limit : Option ℕ) (b : ℕ) → b ≢ escape → is_in (from_to 0x20 0x7f) b ≡ false
+byte-single : (limit : Option ℕ) (b : ℕ) → b ≢ escape → is_in printed_ascii b ≡ false
     → is_in (from_to 0xc2 0xf4) b ≡ false
     → Single limit b
 byte-single limit b is_no_escape other no_lead = elim (cases_lt b 0x80) [
@@ -120,7 +120,7 @@ byte-single limit b is_no_escape other no_lead = elim (cases_lt b 0x80) [
 
 adds-single : {B : Type 0} {limit : Option ℕ} {stream bytes : List ℕ} {i b : ℕ} {place : Place} (parser : Machine B)
     → parser.state ≡ Text Empty → b ≢ escape
-    → is_in (from_to 0x20 0x7f) b ≡ false → is_in (from_to 0xc2 0xf4) b ≡ false → i < length bytes
+    → is_in printed_ascii b ≡ false → is_in (from_to 0xc2 0xf4) b ≡ false → i < length bytes
     → b ≡ slice_index bytes i
     → IsAtPlace limit parser place
     → IsAfter limit (resumed_stream stream bytes i) place → AddsOutsideRuns limit stream bytes i (i + 1)
@@ -133,7 +133,7 @@ adds-single {limit} {stream} {bytes} {i} {b} {place}
 
 pub advances-single : {outside V B : Type 0} {call : ChunkCall V} {old mid new : V} {i j b : ℕ}
     {parser next : Machine B} → Advances outside call old mid i j parser next
-    → MayReadByte call mid (Text Empty) next j b → b ≢ escape → is_in (from_to 0x20 0x7f) b ≡ false
+    → MayReadByte call mid (Text Empty) next j b → b ≢ escape → is_in printed_ascii b ≡ false
     → is_in (from_to 0xc2 0xf4) b ≡ false → (b < 0x80 → new ≡ call.step mid (character_event b))
     → (0x80 ≤ b → new ≡ call.step mid (malformed_event (b ∷ [])))
     → Advances outside call old new i (j + 1) parser next

@@ -14,10 +14,10 @@ use Rattle.vte_core.proofs.lemmas.streams.After.{added-after, added-leads, after
 use Rattle.vte_core.proofs.lemmas.streams.AnyLimit.{open_at_end-any}
 use Rattle.vte_core.proofs.lemmas.streams.StreamSteps.{counts_data}
 use Rattle.vte_core.specs.declared.parser.open.Open.TheVariants as kind
-use Rattle.vte_core.specs.declared.utf8.Unfinished.TheVariants.{Empty}
+use Rattle.vte_core.specs.declared.utf8.OpenCharacter.TheVariants.{Empty}
 use Rattle.vte_core.specs.Open.{open_at_end, open_of}
 use Rattle.vte_core.specs.private.AtPlace.{open_in}
-use Rattle.vte_core.specs.Stream.{IsFinished, IsUnfinished}
+use Rattle.vte_core.specs.Stream.{IsClosed, IsOpen}
 
 -- ---- what is open
 
@@ -98,24 +98,24 @@ state-settled : {B : Type 0} (limit : Option ℕ) (state : State) (parser : Mach
     → IsPlaceOfState limit state parser (InText []) → open_in state ≡ kind.Nothing
 state-settled limit state parser fields = open_in-place limit state parser (InText []) fields
 
-is_finished-settled : {limit : Option ℕ} {stream : List ℕ} → IsAfter limit stream (InText [])
-    → IsFinished limit stream
-is_finished-settled {limit} {stream} is_after more =
+is_closed-settled : {limit : Option ℕ} {stream : List ℕ} → IsAfter limit stream (InText [])
+    → IsClosed limit stream
+is_closed-settled {limit} {stream} is_after more =
     added-after more is_after
     ∙ sym (after-events more after-nothing
     ∙ ap (λ events. events ++ events_from limit (InText []) more) (events-empty limit))
 
 -- If that is nothing, the parser goes on as a new one.
-pub closed_is_finished : {B : Type 0} {limit : Option ℕ} {stream : List ℕ} (parser : Machine B)
+pub nothing_open_is_closed : {B : Type 0} {limit : Option ℕ} {stream : List ℕ} (parser : Machine B)
     → open_in parser.state ≡ kind.Nothing → HasReadWithLimit limit parser stream
-    → HasReadWithLimit limit parser [] × IsFinished limit stream
-closed_is_finished {limit} {stream} parser nothing has_read =
-    search (rules, arith, settled-open_in, place-settled_text, reads-again, is_finished-settled)
+    → HasReadWithLimit limit parser [] × IsClosed limit stream
+nothing_open_is_closed {limit} {stream} parser nothing has_read =
+    search (rules, arith, settled-open_in, place-settled_text, reads-again, is_closed-settled)
 
 -- Otherwise a `0` shows that something is open.
-pub open_is_unfinished : {B : Type 0} {limit : Option ℕ} {stream : List ℕ} {parser : Machine B}
-    → open_in parser.state ≢ kind.Nothing → HasReadWithLimit limit parser stream → IsUnfinished limit stream
-open_is_unfinished {limit} {parser} opened has_read =
+pub something_open_is_open : {B : Type 0} {limit : Option ℕ} {stream : List ℕ} {parser : Machine B}
+    → open_in parser.state ≢ kind.Nothing → HasReadWithLimit limit parser stream → IsOpen limit stream
+something_open_is_open {limit} {parser} opened has_read =
     search (rules, arith, probe-not_alone, probe-zero, is_at-place, state-settled)
 
 -- ---- memory is refused only at a data byte of an open command

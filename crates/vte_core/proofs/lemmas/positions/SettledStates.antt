@@ -1,5 +1,5 @@
 -- States in which no character is open, and their places. Whether a call may stop.
-use Rattle.vte_core.proofs.Common.{arith, bytes_of, Empty, eqb, false, InText, IsAtPlace, IsPlaceOfState, IsSettled, IsSettledPlace, Machine, nat_tests, not, Option, Place, refl, rules, State, subst, sym, Text, true, Unfinished, ℕ, [], ◌<◌, ◌≡◌, ◌≤◌}
+use Rattle.vte_core.proofs.Common.{arith, bytes_of, Empty, eqb, false, InText, IsAtPlace, IsPlaceOfState, IsSettled, IsSettledPlace, Machine, nat_tests, not, OpenCharacter, Option, Place, refl, rules, State, subst, sym, Text, true, ℕ, [], ◌<◌, ◌≡◌, ◌≤◌}
 use Rattle.vte_core.proofs.lemmas.fields.PlaceOfState.{is_at-in}
 
 -- ---- the place of a state in which no character is open
@@ -28,12 +28,12 @@ pub settled-same_state : {state other : State} → state ≡ other → IsSettled
 settled-same_state same settled = subst IsSettled (sym same) settled
 
 -- A text in which no byte of a character was read is settled.
-pub settled-nothing : (unfinished : Unfinished) → bytes_of unfinished ≡ [] → IsSettled (Text unfinished)
+pub settled-nothing : (opened : OpenCharacter) → bytes_of opened ≡ [] → IsSettled (Text opened)
 settled-nothing Empty empty = tt
 settled-nothing _ empty = cc
 
 -- Each state outside of a text is settled.
-pub settled-outside : (state : State) → ((unfinished : Unfinished) → state ≡ Text unfinished → ⊥) → IsSettled state
+pub settled-outside : (state : State) → ((opened : OpenCharacter) → state ≡ Text opened → ⊥) → IsSettled state
 settled-outside (Text u) no_text = absurd (no_text u refl)
 settled-outside _ no_text = tt
 

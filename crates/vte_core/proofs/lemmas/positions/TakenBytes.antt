@@ -14,12 +14,12 @@ pub not_escape : (b : ℕ) → b ≢ escape → eqb b escape ≡ false
 not_escape b is_no_escape = grind (arith, nat_tests)
 
 -- Between characters, it is enough to say what a byte does in a text with nothing open.
-pub takes_bytes-begun : {V B : Type 0} {step : V → Event → V} {old new : V} {limit : Option ℕ} {b : ℕ}
+pub takes_bytes-between : {V B : Type 0} {step : V → Event → V} {old new : V} {limit : Option ℕ} {b : ℕ}
     {parser next : Machine B} → parser.state ≡ Text Empty → b ≢ escape
     → (IsAtPlace limit parser (InText []) → TakesByte step old new limit (InText []) b next) → (place : Place)
     → IsAtPlace limit parser place → IsSettledPlace place
     → TakesBytes step old new limit place (b ∷ []) next
-takes_bytes-begun {step} {old} {new} {limit} {b} {parser} {next} in_state is_no_escape takes place is_at settled =
+takes_bytes-between {step} {old} {new} {limit} {b} {parser} {next} in_state is_no_escape takes place is_at settled =
     search (rules, arith, place-settled_text, takes_bytes-one, not_escape)
 
 -- ---- a byte in any state

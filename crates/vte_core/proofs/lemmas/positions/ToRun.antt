@@ -1,6 +1,6 @@
 -- Runs that a caller takes from its own input: bytes that lead from the parser's place back to it, so the parser
 -- needn't change, and that no further printed character or data byte follows.
-use Rattle.vte_core.proofs.Common.{append-nil, ArePositions, arith, BytesLead, ChunkCall, class_of, DeviceData, drop, drop_more, Empty, false, HasNoRunAt, HasReadWithLimit, InDeviceData, IsAtPlace, IsAtPosition, IsPlaceOfState, IsRun, IsSettled, length, length-drop, length-take, List, Machine, map, Option, Place, Put, refl, resumed_stream, rules, slice_index, State, subst, suc, sym, take, Text, true, Unfinished, zero, ℕ, [], ◌++◌, ◌+◌, ◌-◌, ◌<◌, ◌≡◌, ◌≤◌}
+use Rattle.vte_core.proofs.Common.{append-nil, ArePositions, arith, BytesLead, ChunkCall, class_of, DeviceData, drop, drop_more, Empty, false, HasNoRunAt, HasReadWithLimit, InDeviceData, IsAtPlace, IsAtPosition, IsPlaceOfState, IsRun, IsSettled, length, length-drop, length-take, List, Machine, map, OpenCharacter, Option, Place, Put, refl, resumed_stream, rules, slice_index, State, subst, suc, sym, take, Text, true, zero, ℕ, [], ◌++◌, ◌+◌, ◌-◌, ◌<◌, ◌≡◌, ◌≤◌}
 use Rattle.vte_core.proofs.lemmas.bytes.Classes.{data_ends_nothing}
 use Rattle.vte_core.proofs.lemmas.fields.PlaceOfState.{is_at-in, IsReachable}
 use Rattle.vte_core.proofs.lemmas.places.BytesInStream.{bytes_lead-append, bytes_lead-byte, bytes_lead-nothing, no_escape}
@@ -27,16 +27,16 @@ has-nowhere {limit} {bytes} {from} {range} {parser} within starts ends kind =
     search (rules, arith, added-nothing, append-nil)
 
 -- A state other than `Text` and `DeviceData` is outside text and data.
-pub outside-text_and_data : (state : State) → ((unfinished : Unfinished) → state ≡ Text unfinished → ⊥)
+pub outside-text_and_data : (state : State) → ((opened : OpenCharacter) → state ≡ Text opened → ⊥)
     → (state ≡ DeviceData → ⊥)
     → IsOutsideTextAndData state
 outside-text_and_data state no_text no_data = search (rules, arith)
 
 -- ---- a run of text leads from between characters back there
 
-pub settled-text : {state : State} {unfinished : Unfinished} → state ≡ Text unfinished → IsSettled state
+pub settled-text : {state : State} {opened : OpenCharacter} → state ≡ Text opened → IsSettled state
     → state ≡ Text Empty
-settled-text {unfinished} is_text settled = search (rules, arith)
+settled-text {opened} is_text settled = search (rules, arith)
 
 -- A run has bytes that lead from the parser's place to the same place.
 has-run : {B : Type 0} {limit : Option ℕ} {bytes : List ℕ} {range : RunRange} {parser : Machine B} {here : Place}

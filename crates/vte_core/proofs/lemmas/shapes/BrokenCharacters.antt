@@ -13,10 +13,10 @@ pub breaks-broken : (opened : List ℕ) (b : ℕ) → is_truncated opened ≡ tr
 unfolding is_truncated
 breaks-broken opened b truncated not_well_formed_after not_truncated_after = search (rules, arith)
 
-pub breaks-unfinished : (opened : List ℕ) (b : ℕ) → is_truncated (opened ++ b ∷ []) ≡ true
+pub breaks-open : (opened : List ℕ) (b : ℕ) → is_truncated (opened ++ b ∷ []) ≡ true
     → breaks opened (b ∷ []) ≡ false
-breaks-unfinished [] b truncated_after = refl
-breaks-unfinished (a ∷ opened) b truncated_after = rw truncated_after refl
+breaks-open [] b truncated_after = refl
+breaks-open (a ∷ opened) b truncated_after = rw truncated_after refl
 
 pub breaks-well_formed : (opened : List ℕ) (b : ℕ) → is_well_formed (opened ++ b ∷ []) ≡ true
     → breaks opened (b ∷ []) ≡ false

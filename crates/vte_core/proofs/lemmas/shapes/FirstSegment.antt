@@ -128,7 +128,7 @@ text_outcome-lone following b not_well_formed not_truncated =
     text_outcome-first b [] following (trailing_count-lone b following not_well_formed not_truncated) not_truncated
     ∙ rw not_well_formed refl
 
--- The bytes of an unfinished character alone report nothing, and leave it open.
+-- The bytes of an open character alone report nothing, and leave it open.
 pub text_outcome-end : (opened : List ℕ) → is_truncated opened ≡ true
     → text_outcome opened ≡ leaves (CharacterToClose opened)
 unfolding text_outcome is_truncated

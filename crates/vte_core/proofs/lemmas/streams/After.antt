@@ -42,16 +42,16 @@ extending_is_no_escape opened b truncated carried = elim (cases_Bool (eqb b esca
       let tests : Tests (opened ++ b ∷ []) false false = ascii-breaks opened b truncated (omega arith) in
       elim carried [
         | inl well_formed ↦ cc (well_formed, tests.is_whole)
-        | inr unfinished ↦ cc (unfinished, tests.is_open)
+        | inr still_open ↦ cc (still_open, tests.is_open)
       ]
   | inr other ↦ other
 ]
 
-closing-unfinished : (limit : Option ℕ) (opened : List ℕ) → is_truncated opened ≡ true
+closing-open : (limit : Option ℕ) (opened : List ℕ) → is_truncated opened ≡ true
     → closing_events_at limit (InText opened) ≡ Print replacement ∷ []
 unfolding is_truncated
-closing-unfinished limit [] truncated = cc
-closing-unfinished limit (a ∷ opened) truncated = refl
+closing-open limit [] truncated = cc
+closing-open limit (a ∷ opened) truncated = refl
 
 -- A byte that breaks a character is still to be read, even ESC.
 pub waits-broken : (limit : Option ℕ) (opened : List ℕ) (b : ℕ) (more : List ℕ) → is_truncated opened ≡ true
@@ -69,7 +69,7 @@ waits-broken limit opened b more truncated not_well_formed_after not_truncated_a
           outcome_from-escape limit (InText []) more refl in
           rw is_escape (
           outcome_from-escape limit (InText opened) more (may_continue-truncated opened truncated)
-          ∙ ap (λ events. report events (outcome_from limit AtEscape more)) (closing-unfinished limit opened truncated)
+          ∙ ap (λ events. report events (outcome_from limit AtEscape more)) (closing-open limit opened truncated)
           ∙ ap (report (Print replacement ∷ [])) (sym there)
           )
     ]

@@ -24,7 +24,7 @@ mod text;
 use crate::adapter::array_vec::ArrayVec;
 use crate::proved::vte_core::head::HeadProgress;
 use crate::proved::vte_core::reader::{CountedPerform, Granularity, Reader};
-use crate::proved::vte_core::utf8::Unfinished;
+use crate::proved::vte_core::utf8::OpenCharacter;
 #[cfg(any(feature = "std", feature = "ansi"))]
 pub use long_parser::LongParser;
 use machine::Machine;
@@ -41,8 +41,8 @@ pub(crate) const MAX_OSC_RAW: usize = 1024;
 /// with a star end as `HeadProgress` says: `entry`, `param`, `intermediate` or `ignore`.
 #[derive(Clone, Copy)]
 pub(crate) enum State {
-    /// In a text, after the bytes of an unfinished character (`ground`).
-    Text(Unfinished),
+    /// In a text, after the bytes of an open character (`ground`).
+    Text(OpenCharacter),
     /// After ESC (`escape`).
     Escape,
     /// After ESC and an intermediate (`escape intermediate`).

@@ -15,9 +15,10 @@ mod run_end;
 mod search;
 
 use crate::adapter::array_vec::{ArrayVec, CapacityError};
-use crate::prelude::first_chunk;
+use crate::prelude::{first_chunk, memchr};
 #[cfg(any(feature = "std", feature = "ansi"))]
 use crate::prelude::{AllocError, Vec};
+use crate::proved::vte_core::class::ESCAPE;
 use core::str;
 pub(crate) use counted_perform::CountedPerform;
 pub(crate) use granularity::Granularity;
@@ -130,6 +131,21 @@ impl Reader {
         };
         self.count_looks(19);
         Some(window)
+    }
+
+    /// Returns the position of the first ESC from a position on, or the length if there is none.
+    pub(crate) fn find_escape(self, input: &[u8], from: usize) -> usize {
+        let rest = &input[from..];
+        match memchr(ESCAPE, rest) {
+            Some(distance) => {
+                self.count_looks(distance + 1);
+                from + distance
+            }
+            None => {
+                self.count_looks(rest.len());
+                input.len()
+            }
+        }
     }
 
     /// Reports a whole character.

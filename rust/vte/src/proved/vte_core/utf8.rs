@@ -1,9 +1,9 @@
 // Written by tools/erase from crates/vte_core/src/utf8.rt: edit that one.
 //! Characters of UTF-8, byte by byte.
 
-/// The bytes of an unfinished character, at most three.
+/// The bytes of an open character, at most three.
 #[derive(Clone, Copy)]
-pub(crate) enum Unfinished {
+pub(crate) enum OpenCharacter {
     /// No character is open.
     Empty,
     /// The first byte of two, three or four.
@@ -14,40 +14,40 @@ pub(crate) enum Unfinished {
     Three(u8, u8, u8),
 }
 
-/// What one more byte makes of an unfinished character.
+/// What one more byte makes of an open character.
 #[derive(Clone, Copy)]
 pub(crate) enum Extension {
     /// More bytes, and still no character.
-    Truncated(Unfinished),
+    Truncated(OpenCharacter),
     /// The character is whole.
     WellFormed(char),
     /// The byte belongs to no character that the others began.
     Malformed,
 }
 
-impl Unfinished {
+impl OpenCharacter {
     /// Returns whether no character is open.
     pub(crate) fn is_empty(self) -> bool {
-        matches!(self, Unfinished::Empty)
+        matches!(self, OpenCharacter::Empty)
     }
 
     /// Adds a byte to those of an open character.
     #[inline(always)]
     pub(crate) fn extend(self, byte: u8) -> Extension {
         match self {
-            Unfinished::One(first) if may_be_second(first, byte) => {
+            OpenCharacter::One(first) if may_be_second(first, byte) => {
                 if first < 0xe0 {
                     return complete_character(code_point_of_two(first, byte));
                 }
-                Extension::Truncated(Unfinished::Two(first, byte))
+                Extension::Truncated(OpenCharacter::Two(first, byte))
             }
-            Unfinished::Two(first, second) if is_continuation(byte) => {
+            OpenCharacter::Two(first, second) if is_continuation(byte) => {
                 if first < 0xf0 {
                     return complete_character(code_point_of_three(first, second, byte));
                 }
-                Extension::Truncated(Unfinished::Three(first, second, byte))
+                Extension::Truncated(OpenCharacter::Three(first, second, byte))
             }
-            Unfinished::Three(first, second, third) if is_continuation(byte) => {
+            OpenCharacter::Three(first, second, third) if is_continuation(byte) => {
                 complete_character(code_point_of_four(first, second, third, byte))
             }
             _ => Extension::Malformed,

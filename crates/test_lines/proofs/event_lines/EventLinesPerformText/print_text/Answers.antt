@@ -6,7 +6,7 @@ use Rattle.std.proofs.lemmas.List.{map-id}
 use Rattle.test_lines.proofs.event_lines.EventLinesPerformText.print_text.Goals as goal
 use Rattle.test_lines.specs.Stop.{stop_after}
 use Rattle.vte_core.specs.Event.{after}
-use Rattle.vte_core.specs.Text.{run_event}
+use Rattle.vte_core.specs.RunText.{run_event}
 
 pub returns : goal.returns
 returns c =

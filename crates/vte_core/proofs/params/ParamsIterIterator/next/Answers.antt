@@ -5,6 +5,6 @@ use Rattle.vte_core.proofs.params.ParamsIterIterator.next.Goals as goal
 use Rattle.vte_core.specs.private.FlatGroups.{AreLengths}
 
 pub invariant_of-self : goal.invariant_of-self
-invariant_of-self c = rw c.split_at.ensures.back
+invariant_of-self c = rw (c.split_at.ensures.back, c.from.ensures)
     (AreLengths-rest (let P : List ℕ → Type 0 = λ lengths. AreLengths lengths c.self.inside.numbers.now in
     subst P c.in_ok-length.ensures.cases.0 c.self.invariant))

@@ -6,7 +6,7 @@ use crate::proved::vte_core::parser::{Machine, State};
 use crate::proved::vte_core::reader::{text_between, CountedPerform, Granularity, Reader};
 use crate::proved::vte_core::utf8::{
     character_of_four, character_of_three, character_of_two, is_continuation, may_begin_four,
-    may_begin_three, Extension, Unfinished,
+    may_begin_three, Extension, OpenCharacter,
 };
 
 impl<B: Buffer> Machine<B> {
@@ -28,7 +28,7 @@ impl<B: Buffer> Machine<B> {
     ) -> usize {
         let next = from + 1;
         if next >= input.len() {
-            self.state = State::Text(Unfinished::One(first));
+            self.state = State::Text(OpenCharacter::One(first));
             return next;
         }
         let second = reader.byte_at(input, next);
@@ -68,7 +68,7 @@ impl<B: Buffer> Machine<B> {
             return next;
         }
         if next + 1 >= input.len() {
-            self.state = State::Text(Unfinished::Two(first, second));
+            self.state = State::Text(OpenCharacter::Two(first, second));
             return next + 1;
         }
         let third = reader.byte_at(input, next + 1);
@@ -108,7 +108,7 @@ impl<B: Buffer> Machine<B> {
                 performer,
                 input,
                 next + 1,
-                Unfinished::Two(first, second),
+                OpenCharacter::Two(first, second),
             );
         }
         let third = reader.byte_at(input, next + 1);
@@ -141,12 +141,12 @@ impl<B: Buffer> Machine<B> {
         performer: &mut P,
         input: &[u8],
         from: usize,
-        begun: Unfinished,
+        opened: OpenCharacter,
     ) -> usize {
-        self.continue_character::<P, G, MAY_STOP>(reader, performer, input, from, begun)
+        self.continue_character::<P, G, MAY_STOP>(reader, performer, input, from, opened)
     }
 
-    /// Reads the bytes that continue an unfinished character. A byte that breaks it is left unread,
+    /// Reads the bytes that continue an open character. A byte that breaks it is left unread,
     /// and U+FFFD is printed for those before it.
     #[inline(always)]
     pub(crate) fn continue_character<
@@ -159,25 +159,25 @@ impl<B: Buffer> Machine<B> {
         performer: &mut P,
         input: &[u8],
         from: usize,
-        begun: Unfinished,
+        opened: OpenCharacter,
     ) -> usize {
-        let mut unfinished = begun;
+        let mut still_open = opened;
         for position in from..input.len() {
-            match unfinished.extend(reader.byte_at(input, position)) {
-                Extension::Truncated(more) => unfinished = more,
+            match still_open.extend(reader.byte_at(input, position)) {
+                Extension::Truncated(more) => still_open = more,
                 Extension::WellFormed(c) => {
                     reader.report_character(performer, c);
-                    self.state = State::Text(Unfinished::Empty);
+                    self.state = State::Text(OpenCharacter::Empty);
                     return position + 1;
                 }
                 Extension::Malformed => {
                     performer.print_char(reader, char::REPLACEMENT_CHARACTER);
-                    self.state = State::Text(Unfinished::Empty);
+                    self.state = State::Text(OpenCharacter::Empty);
                     return position;
                 }
             }
         }
-        self.state = State::Text(unfinished);
+        self.state = State::Text(still_open);
         input.len()
     }
 }

@@ -8,7 +8,7 @@
 use crate::proved::vte_core::buffer::Buffer;
 use crate::proved::vte_core::class::{ends_sequence, is_final, is_plain_control};
 use crate::proved::vte_core::head::{HeadEnd, HeadProgress, Separators};
-use crate::proved::vte_core::parser::{Machine, State, Unfinished};
+use crate::proved::vte_core::parser::{Machine, OpenCharacter, State};
 use crate::proved::vte_core::reader::{CountedPerform, Granularity, Reader};
 
 impl<B: Buffer> Machine<B> {
@@ -158,7 +158,7 @@ impl<B: Buffer> Machine<B> {
         final_byte: u8,
     ) -> usize {
         if let HeadProgress::IllShaped = head.progress {
-            self.state = State::Text(Unfinished::Empty);
+            self.state = State::Text(OpenCharacter::Empty);
             return head.position + 1;
         }
         let ignore = self.collected.end_head(joined);
@@ -176,7 +176,7 @@ impl<B: Buffer> Machine<B> {
         final_byte: u8,
         position: usize,
     ) -> usize {
-        self.state = State::Text(Unfinished::Empty);
+        self.state = State::Text(OpenCharacter::Empty);
         performer.csi_dispatch(reader, &self.collected, ignore, final_byte);
         position + 1
     }

@@ -4,7 +4,7 @@
 use crate::proved::vte_core::buffer::Buffer;
 use crate::proved::vte_core::class::{ends_sequence, is_device_data, is_final};
 use crate::proved::vte_core::head::HeadProgress;
-use crate::proved::vte_core::parser::{Machine, State, Unfinished};
+use crate::proved::vte_core::parser::{Machine, OpenCharacter, State};
 use crate::proved::vte_core::reader::{CountedPerform, Granularity, Reader};
 
 /// The one 8-bit control that is read: ST, the end of the data.
@@ -111,7 +111,7 @@ impl<B: Buffer> Machine<B> {
         }
         if byte == STRING_TERMINATOR {
             performer.unhook(reader);
-            self.state = State::Text(Unfinished::Empty);
+            self.state = State::Text(OpenCharacter::Empty);
         }
         from + 1
     }

@@ -9,7 +9,7 @@ use crate::proved::vte_core::class::{is_device_data, is_parameter_byte, ESCAPE};
 use crate::proved::vte_core::head::HeadProgress;
 use crate::proved::vte_core::parser::{Machine, Refused, State};
 use crate::proved::vte_core::reader::{CountedPerform, Granularity, Reader};
-use crate::proved::vte_core::utf8::{is_lead, is_printed_ascii, Extension, Unfinished};
+use crate::proved::vte_core::utf8::{is_lead, is_printed_ascii, Extension, OpenCharacter};
 
 impl<B: Buffer> Machine<B> {
     /// Reads the one byte of a call that can't stop, or none if memory is refused for it.
@@ -20,11 +20,11 @@ impl<B: Buffer> Machine<B> {
         performer: &mut P,
         input: &[u8],
     ) -> Result<usize, Refused> {
-        if let State::Text(begun) = self.state {
-            if begun.is_empty() {
+        if let State::Text(opened) = self.state {
+            if opened.is_empty() {
                 return Ok(self.read_single_byte_of_text(reader, performer, input));
             }
-            return Ok(self.read_continuing_byte(reader, performer, input, begun));
+            return Ok(self.read_continuing_byte(reader, performer, input, opened));
         }
         if let State::ControlSequence(reached) = self.state {
             return Ok(self.read_parameter_byte(reader, performer, input, reached));
@@ -61,7 +61,7 @@ impl<B: Buffer> Machine<B> {
             return self.read_escape_in_text::<P, G, false>(reader, performer, input, 0);
         }
         if is_lead(byte) {
-            self.state = State::Text(Unfinished::One(byte));
+            self.state = State::Text(OpenCharacter::One(byte));
         } else {
             reader.report_lone_byte(performer, byte);
         }
@@ -75,21 +75,21 @@ impl<B: Buffer> Machine<B> {
         reader: Reader,
         performer: &mut P,
         input: &[u8],
-        begun: Unfinished,
+        opened: OpenCharacter,
     ) -> usize {
         let byte = reader.byte_at(input, 0);
-        match begun.extend(byte) {
+        match opened.extend(byte) {
             Extension::Truncated(more) => {
                 self.state = State::Text(more);
                 1
             }
             Extension::WellFormed(c) => {
-                self.state = State::Text(Unfinished::Empty);
+                self.state = State::Text(OpenCharacter::Empty);
                 reader.report_character(performer, c);
                 1
             }
             Extension::Malformed => {
-                self.state = State::Text(Unfinished::Empty);
+                self.state = State::Text(OpenCharacter::Empty);
                 self.read_breaking_byte(reader, performer, input)
             }
         }

@@ -3,7 +3,7 @@
 
 use crate::proved::vte_core::buffer::Buffer;
 use crate::proved::vte_core::class::ESCAPE;
-use crate::proved::vte_core::parser::{Machine, State, Unfinished};
+use crate::proved::vte_core::parser::{Machine, OpenCharacter, State};
 use crate::proved::vte_core::reader::{CountedPerform, Granularity, Reader};
 
 impl<B: Buffer> Machine<B> {
@@ -22,7 +22,7 @@ impl<B: Buffer> Machine<B> {
             return;
         }
         performer.execute_control(reader, byte);
-        self.state = State::Text(Unfinished::Empty);
+        self.state = State::Text(OpenCharacter::Empty);
     }
 
     /// Reads a byte that ends what is open, and after ESC also the bytes that follow it.

@@ -7,7 +7,7 @@ use crate::proved::vte_core::class::{
     is_intermediate, is_plain_control, ESCAPE,
 };
 use crate::proved::vte_core::head::HeadProgress;
-use crate::proved::vte_core::parser::{Machine, State, Unfinished};
+use crate::proved::vte_core::parser::{Machine, OpenCharacter, State};
 use crate::proved::vte_core::reader::{CountedPerform, Granularity, Reader};
 
 impl<B: Buffer> Machine<B> {
@@ -159,6 +159,6 @@ impl<B: Buffer> Machine<B> {
         final_byte: u8,
     ) {
         performer.esc_dispatch(reader, &self.collected, final_byte);
-        self.state = State::Text(Unfinished::Empty);
+        self.state = State::Text(OpenCharacter::Empty);
     }
 }

@@ -3,7 +3,7 @@
 
 use crate::proved::vte_core::buffer::Buffer;
 use crate::proved::vte_core::head::CollectedHead;
-use crate::proved::vte_core::parser::{Open, State, Unfinished};
+use crate::proved::vte_core::parser::{Open, OpenCharacter, State};
 use crate::proved::vte_core::store::CommandStore;
 
 /// A parser over any buffer for operating system commands. The state functions are its methods.
@@ -18,7 +18,7 @@ impl<B: Buffer> Machine<B> {
     /// Creates a machine that has read nothing, over an empty buffer.
     pub(crate) const fn new(bytes: B) -> Self {
         Machine {
-            state: State::Text(Unfinished::Empty),
+            state: State::Text(OpenCharacter::Empty),
             collected: CollectedHead::new(),
             command: CommandStore::new(bytes),
         }

@@ -1,7 +1,7 @@
 // Written by tools/erase from crates/vte_core/src/parser/open.rt: edit that one.
 //! What a parser has left open.
 
-use crate::proved::vte_core::parser::{State, Unfinished};
+use crate::proved::vte_core::parser::{OpenCharacter, State};
 
 /// What is open at the end of the bytes that were read.
 ///
@@ -29,7 +29,7 @@ impl State {
     /// Returns what is open in this state.
     pub(crate) fn open(self) -> Open {
         match self {
-            State::Text(Unfinished::Empty) => Open::Nothing,
+            State::Text(OpenCharacter::Empty) => Open::Nothing,
             State::Text(_) => Open::Character,
             State::Escape | State::EscapeIntermediate => Open::EscapeSequence,
             State::ControlSequence(_) => Open::ControlSequence,

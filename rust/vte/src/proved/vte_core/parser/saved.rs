@@ -4,7 +4,7 @@
 use crate::adapter::array_vec::{ArrayVec, Element};
 use crate::proved::vte_core::head::{HeadProgress, MAX_INTERMEDIATES};
 use crate::proved::vte_core::params::{Params, MAX_NUMBERS};
-use crate::proved::vte_core::parser::{Parser, State, Unfinished, MAX_OSC_RAW};
+use crate::proved::vte_core::parser::{OpenCharacter, Parser, State, MAX_OSC_RAW};
 use crate::proved::vte_core::store::MAX_PIECES;
 
 /// A parser as plain data, laid out as a C struct. All zeros is a new parser, and any other bytes
@@ -40,7 +40,7 @@ pub struct Saved {
     ends: [usize; MAX_PIECES],
     /// Whether data bytes of the command were lost.
     lost: u8,
-    /// The number of the state, and the bytes of an unfinished character.
+    /// The number of the state, and the bytes of an open character.
     state: [u8; 4],
 }
 
@@ -62,13 +62,13 @@ fn collect_front<T: Element, const N: usize>(array: &[T; N], count: usize) -> Ar
     collected
 }
 
-/// Returns the number of a state, and the bytes of an unfinished character.
+/// Returns the number of a state, and the bytes of an open character.
 fn encode_state(state: State) -> [u8; 4] {
     match state {
-        State::Text(Unfinished::Empty) => [0, 0, 0, 0],
-        State::Text(Unfinished::One(first)) => [1, first, 0, 0],
-        State::Text(Unfinished::Two(first, second)) => [2, first, second, 0],
-        State::Text(Unfinished::Three(first, second, third)) => [3, first, second, third],
+        State::Text(OpenCharacter::Empty) => [0, 0, 0, 0],
+        State::Text(OpenCharacter::One(first)) => [1, first, 0, 0],
+        State::Text(OpenCharacter::Two(first, second)) => [2, first, second, 0],
+        State::Text(OpenCharacter::Three(first, second, third)) => [3, first, second, third],
         State::Escape => [4, 0, 0, 0],
         State::EscapeIntermediate => [5, 0, 0, 0],
         State::ControlSequence(HeadProgress::Entry) => [6, 0, 0, 0],
@@ -89,10 +89,10 @@ fn encode_state(state: State) -> [u8; 4] {
 fn decode_state(saved: [u8; 4]) -> State {
     let [number, first, second, third] = saved;
     match number {
-        0 => State::Text(Unfinished::Empty),
-        1 => State::Text(Unfinished::One(first)),
-        2 => State::Text(Unfinished::Two(first, second)),
-        3 => State::Text(Unfinished::Three(first, second, third)),
+        0 => State::Text(OpenCharacter::Empty),
+        1 => State::Text(OpenCharacter::One(first)),
+        2 => State::Text(OpenCharacter::Two(first, second)),
+        3 => State::Text(OpenCharacter::Three(first, second, third)),
         4 => State::Escape,
         5 => State::EscapeIntermediate,
         6 => State::ControlSequence(HeadProgress::Entry),
@@ -139,7 +139,7 @@ impl Parser<MAX_OSC_RAW> {
     #[inline]
     pub fn save(&self, saved: &mut Saved) {
         // Most calls end between characters of a text, where nothing else counts.
-        if let State::Text(Unfinished::Empty) = self.machine.state {
+        if let State::Text(OpenCharacter::Empty) = self.machine.state {
             saved.state = [0; 4];
         } else {
             self.save_open(saved);
@@ -179,7 +179,7 @@ impl Parser<MAX_OSC_RAW> {
     #[inline]
     pub fn restore(&mut self, saved: &Saved) {
         if saved.state[0] == 0 {
-            self.machine.state = State::Text(Unfinished::Empty);
+            self.machine.state = State::Text(OpenCharacter::Empty);
         } else {
             self.restore_open(saved);
         }

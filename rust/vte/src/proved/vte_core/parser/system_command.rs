@@ -3,7 +3,7 @@
 
 use crate::proved::vte_core::buffer::Buffer;
 use crate::proved::vte_core::class::ends_sequence;
-use crate::proved::vte_core::parser::{Machine, Refused, State, Unfinished};
+use crate::proved::vte_core::parser::{Machine, OpenCharacter, Refused, State};
 use crate::proved::vte_core::reader::{CountedPerform, Granularity, Reader};
 
 /// BEL: ends an operating system command.
@@ -40,7 +40,7 @@ impl<B: Buffer> Machine<B> {
             self.command.end_piece();
         } else if byte == BELL {
             self.command.dispatch(reader, performer, true);
-            self.state = State::Text(Unfinished::Empty);
+            self.state = State::Text(OpenCharacter::Empty);
         }
         Ok(end + 1)
     }

@@ -25,7 +25,7 @@ impl<const OSC_RAW_BUF_SIZE: usize> Parser<OSC_RAW_BUF_SIZE> {
     ///
     /// A character that an earlier call began is finished first. Then the performer is asked, and
     /// again after each character, malformed sequence or byte that was reported. While nothing is
-    /// reported, many bytes may be read between two questions. An unfinished character at the end
+    /// reported, many bytes may be read between two questions. An open character at the end
     /// of the bytes counts as read.
     #[must_use = "the bytes after the stop are still to be read"]
     pub fn advance_until_terminated<P: Perform + ?Sized>(
@@ -59,7 +59,7 @@ impl<const OSC_RAW_BUF_SIZE: usize> Parser<OSC_RAW_BUF_SIZE> {
     /// A caller can take text from its own input in this way, with its position and without a copy.
     ///
     /// A run begins at a whole character that is printed as it is, if nothing is open before it, or
-    /// at a data byte that is put. It ends before the first control, malformed sequence, unfinished
+    /// at a data byte that is put. It ends before the first control, malformed sequence, open
     /// character or byte that isn't put. What an earlier call began is reported. Without a run,
     /// the call ends with the bytes, or when the performer is terminated. It is asked as by
     /// [`advance_until_terminated`](Self::advance_until_terminated).

@@ -2,51 +2,33 @@
 //! Searches for the byte that ends data, a text or a string.
 //!
 //! Ignored strings may hold megabytes, so they are searched by blocks. Their first bytes are read
-//! one by one before any block is tried, so that no byte is read often. A search that loads bytes
-//! directly counts them at the end.
+//! one by one before any block is tried, so that no byte is read often. Bytes are read only by
+//! `byte_at`, `get_block` and `find_escape`, which count them.
 
-use crate::prelude::memchr;
-use crate::proved::vte_core::class::{
-    cannot_end, ends_sequence, is_command_data, is_device_data, ESCAPE,
-};
+use crate::proved::vte_core::class::{cannot_end, ends_sequence, is_command_data, is_device_data};
 use crate::proved::vte_core::reader::{take_prefix, Reader};
 
 impl Reader {
     /// Returns the end of the data of an operating system command that starts at `from`: the
     /// position of the next `;` or control, or the length of the input.
     pub(crate) fn find_command_data_end(self, input: &[u8], from: usize) -> usize {
-        let mut end = from;
-        while end < input.len() && is_command_data(input[end]) {
-            end += 1;
+        for end in from..input.len() {
+            if !is_command_data(self.byte_at(input, end)) {
+                return end;
+            }
         }
-        self.count_looks((end - from) + usize::from(end < input.len()));
-        end
+        input.len()
     }
 
     /// Returns the end of the data of a device control string that starts at `from`: the position
     /// of the next byte that isn't put, or the length of the input.
     pub(crate) fn find_device_data_end(self, input: &[u8], from: usize) -> usize {
-        let mut end = from;
-        while end < input.len() && is_device_data(input[end]) {
-            end += 1;
-        }
-        self.count_looks((end - from) + usize::from(end < input.len()));
-        end
-    }
-
-    /// Returns the position of the first ESC from a position on, or the length if there is none.
-    pub(crate) fn find_escape(self, input: &[u8], from: usize) -> usize {
-        let rest = &input[from..];
-        match memchr(ESCAPE, rest) {
-            Some(distance) => {
-                self.count_looks(distance + 1);
-                from + distance
-            }
-            None => {
-                self.count_looks(rest.len());
-                input.len()
+        for end in from..input.len() {
+            if !is_device_data(self.byte_at(input, end)) {
+                return end;
             }
         }
+        input.len()
     }
 
     /// Returns the end of the bytes of a text that are read next: the position after the next ESC,

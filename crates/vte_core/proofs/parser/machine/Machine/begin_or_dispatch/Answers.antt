@@ -2,7 +2,7 @@
 -- shape with nothing read.
 use Rattle.vte_core.proofs.Common.{arith, refl, rules, sequence_kind, ◌∙◌}
 use Rattle.vte_core.proofs.lemmas.bytes.Classes.{class-final, other_key}
-use Rattle.vte_core.proofs.lemmas.fields.PlaceOfState.{is_at-escape, is_at-text_begun}
+use Rattle.vte_core.proofs.lemmas.fields.PlaceOfState.{is_at-between, is_at-escape}
 use Rattle.vte_core.proofs.lemmas.places.PlaceLeads.{escape-end, escape-key}
 use Rattle.vte_core.proofs.lemmas.positions.SettledStates.{settled-same_state}
 use Rattle.vte_core.proofs.lemmas.positions.TakenBytes.{takes-byte}
@@ -42,7 +42,7 @@ returns-else-begins_ignored_string-clause-takes g c = λ s.
     let holds = is_at-escape _ s in
     takes-byte
     (rw (holds.kept, holds.too_many_intermediates) at dispatched.reports.value)
-    (is_at-text_begun dispatched.in_text)
+    (is_at-between dispatched.in_text)
     (escape-end (class-final _ c.requires.ends) refl key)
 
 pub returns-else-begins_ignored_string-clause-handles : goal.returns-else-begins_ignored_string-clause-handles

@@ -6,7 +6,7 @@ use Rattle.vte_core.proofs.lemmas.bytes.Runs.{run-append}
 use Rattle.vte_core.proofs.lemmas.bytes.Scalars.{fourth-broken, second-broken, spells-four, third-broken}
 use Rattle.vte_core.proofs.lemmas.dividing.Utf8Agrees.{run-four}
 use Rattle.vte_core.proofs.lemmas.positions.BetweenCharacters.{advances-first}
-use Rattle.vte_core.proofs.lemmas.positions.Characters.{completes-malformed, completes-then, completes-well_formed, goes_on-nowhere, goes_on-second, goes_on-third, unfinished-some}
+use Rattle.vte_core.proofs.lemmas.positions.Characters.{completes-malformed, completes-then, completes-well_formed, goes_on-nowhere, goes_on-second, goes_on-third, opened-some}
 use Rattle.vte_core.proofs.lemmas.positions.Stretches.{advances-weaker}
 use Rattle.vte_core.proofs.lemmas.positions.TextRuns.{advances-text}
 use Rattle.vte_core.proofs.parser.machine.Machine.complete_four.Goals as goal
@@ -34,7 +34,7 @@ returns-then-not-may_begin_four-clause-advances g c =
     let misfits = sym c.may_begin_four.ensures ∙ c.if-not-may_begin_four.true in
     advances-four requires.may_read requires.lead
     -- No further byte belongs to the character (`goes_on-nowhere`), and the next one breaks it.
-    (completes-malformed (goes_on-nowhere c.args.self.now (unfinished-some _ _))
+    (completes-malformed (goes_on-nowhere c.args.self.now (opened-some _ _))
     -- The definition says so, and the code printed U+FFFD.
     (λ truncated. second-broken c.args.first c.args.second truncated misfits) requires.may_read.in_state
     c.print_char.ensures.value

@@ -1,7 +1,7 @@
 -- Each of the second and third byte of a character of three fits or breaks it, unless the bytes of the call end before.
 use Rattle.vte_core.proofs.Common.{arith, rules, sym, ℕ, ◌+◌, ◌∙◌, ◌≡◌}
 use Rattle.vte_core.proofs.lemmas.bytes.Scalars.{second-broken, spells-three, third-broken}
-use Rattle.vte_core.proofs.lemmas.positions.Characters.{completes-all, completes-malformed, completes-well_formed, goes_on-nowhere, goes_on-second, unfinished-some}
+use Rattle.vte_core.proofs.lemmas.positions.Characters.{completes-all, completes-malformed, completes-well_formed, goes_on-nowhere, goes_on-second, opened-some}
 use Rattle.vte_core.proofs.parser.machine.Machine.complete_three.Goals as goal
 
 -- `omega` proves this over plain numbers, so that it has little to read.
@@ -13,7 +13,7 @@ pub returns-then-not-may_begin_three-clause-completes : goal.returns-then-not-ma
 returns-then-not-may_begin_three-clause-completes g c =
     let requires = c.requires in
     let misfits = sym c.may_begin_three.ensures ∙ c.if-not-may_begin_three.true in
-    completes-malformed (goes_on-nowhere c.args.self.now (unfinished-some _ _))
+    completes-malformed (goes_on-nowhere c.args.self.now (opened-some _ _))
     (λ truncated. second-broken c.args.first c.args.second truncated misfits) requires.may_read.in_state
     c.print_char.ensures.value requires.before_end requires.looked_at
 

@@ -51,7 +51,7 @@ returns-then-is_empty g c =
     let read = c.read_single_byte_of_text.ensures in
     reads_call-one c.args.reader.now c.read_single_byte_of_text.new.reader (Ok c.read_single_byte_of_text.result)
     c.requires.one_byte
-    (settled-same_state c.in-Text.is (settled-nothing c.in-Text.begun (c.is_empty.ensures.0 c.if-is_empty.true)))
+    (settled-same_state c.in-Text.is (settled-nothing c.in-Text.opened (c.is_empty.ensures.0 c.if-is_empty.true)))
     read.advances read.reads_within tt
 
 -- The head of a control sequence.

@@ -2,7 +2,7 @@
 use Rattle.vte_core.proofs.Common.{ap, arith, CsiDispatch, head_of, InText, refl, rules, sequence_event, [], ◌∙◌, ◌∷◌}
 use Rattle.vte_core.proofs.lemmas.bytes.Classes.{class-final}
 use Rattle.vte_core.proofs.lemmas.fields.Heads.{dispatched-ready, head-holds, ill_shaped-now}
-use Rattle.vte_core.proofs.lemmas.fields.PlaceOfState.{is_at-text_begun}
+use Rattle.vte_core.proofs.lemmas.fields.PlaceOfState.{is_at-between}
 use Rattle.vte_core.proofs.lemmas.places.PlaceLeads.{control-dispatched, control-silent}
 use Rattle.vte_core.proofs.lemmas.positions.SettledStates.{settled-same_state}
 use Rattle.vte_core.proofs.parser.machine.Machine.end_control_sequence.Goals as goal
@@ -30,7 +30,7 @@ returns-clause-takes g c = λ head s.
       performed = dispatch.reports.value
           ∙ ap (g.P.CountedPerform.step (g.P.CountedPerform.value_of c.args.performer.now))
           (dispatched-ready CsiDispatch c.args.final_byte ready);
-      is_at = is_at-text_begun dispatch.in_text;
+      is_at = is_at-between dispatch.in_text;
       leads = control-dispatched (class-final _ c.requires.final_byte) ready.well_shaped;
     }
 

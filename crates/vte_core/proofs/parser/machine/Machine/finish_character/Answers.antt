@@ -26,7 +26,7 @@ returns-in_default-clause-is_at_position g c = λ stream has_read.
 pub returns-then-is_empty-clause-outside_runs : goal.returns-then-is_empty-clause-outside_runs
 returns-then-is_empty-clause-outside_runs g c stream has_read =
     reports-nothing
-    (settled-same_state c.in-Text.is (settled-nothing c.in-Text.begun (c.is_empty.ensures.0 c.if-is_empty.true)))
+    (settled-same_state c.in-Text.is (settled-nothing c.in-Text.opened (c.is_empty.ensures.0 c.if-is_empty.true)))
     has_read
 
 pub returns-in_default-clause-outside_runs : goal.returns-in_default-clause-outside_runs

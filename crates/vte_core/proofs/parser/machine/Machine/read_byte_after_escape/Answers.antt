@@ -2,7 +2,7 @@
 -- dropped. In each case the state is that of the place to which the byte leads.
 use Rattle.vte_core.proofs.Common.{arith, class_of, refl, rules, sym, [], ◌∙◌}
 use Rattle.vte_core.proofs.lemmas.bytes.Classes.{below_40_is_escape_sequence, class-control, class-intermediate, final_ends_nothing, head_byte_below_40, head_ends_nothing, other_dispatches}
-use Rattle.vte_core.proofs.lemmas.fields.PlaceOfState.{is_at-by, is_at-text_begun}
+use Rattle.vte_core.proofs.lemmas.fields.PlaceOfState.{is_at-between, is_at-by}
 use Rattle.vte_core.proofs.lemmas.places.PlaceLeads.{byte-executed, escape-end, escape-intermediate}
 use Rattle.vte_core.proofs.lemmas.positions.EscapeStretches.{takes_bytes-dropped}
 use Rattle.vte_core.proofs.lemmas.positions.SettledStates.{settled-same_state}
@@ -35,7 +35,7 @@ returns-then-is_head_byte-clause-takes g c =
     (takes-at_escape c.args.self.now
     (λ holds. takes-byte
     (rw (holds.kept, holds.too_many_intermediates) at dispatched.reports.value)
-    (is_at-text_begun dispatched.in_text)
+    (is_at-between dispatched.in_text)
     (escape-end refl ends (below_40_is_escape_sequence b (head_byte_below_40 b head)))))
 
 -- A control is executed; the place stays after ESC.

@@ -1,13 +1,13 @@
 -- From inside the character the byte goes on with it, completes it, or breaks it: then the call goes on with the byte
 -- from between characters.
-use Rattle.vte_core.proofs.Common.{arith, ChunkCall, HasReadWithLimit, IsAtPosition, List, Machine, refl, Text, Unfinished, ℕ, ◌≡◌}
+use Rattle.vte_core.proofs.Common.{arith, ChunkCall, HasReadWithLimit, IsAtPosition, List, Machine, OpenCharacter, refl, Text, ℕ, ◌≡◌}
 use Rattle.vte_core.proofs.lemmas.positions.CallEnds.{starts-inside}
 use Rattle.vte_core.proofs.lemmas.positions.Characters.{completes-all, completes-malformed, completes-well_formed, goes_on-more, goes_on-nowhere}
 use Rattle.vte_core.proofs.parser.machine.Machine.read_continuing_byte.Goals as goal
 use Rattle.vte_core.specs.private.Prelude.{Completes}
 
-from_start : {V B : Type 0} {call : ChunkCall V} {old new : V} {j : ℕ} {begun : Unfinished} {before next : Machine B}
-    → before.state ≡ Text begun → Completes call old new 0 j begun next
+from_start : {V B : Type 0} {call : ChunkCall V} {old new : V} {j : ℕ} {opened : OpenCharacter}
+    {before next : Machine B} → before.state ≡ Text opened → Completes call old new 0 j opened next
     → (stream : List ℕ) → HasReadWithLimit call.limit before stream → IsAtPosition call old new stream j next
 from_start in_state completes stream has_read =
     completes.is_at_position _ stream _ in_state (starts-inside has_read)

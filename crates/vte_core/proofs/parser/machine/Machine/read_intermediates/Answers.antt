@@ -2,7 +2,7 @@
 -- a control, or one that is dropped. In each case the machine is at the place to which the byte leads.
 use Rattle.vte_core.proofs.Common.{arith, class_of, refl, rules, sym, ◌∙◌}
 use Rattle.vte_core.proofs.lemmas.bytes.Classes.{class-control, class-intermediate, dispatch_ends_nothing, other_than_intermediate}
-use Rattle.vte_core.proofs.lemmas.fields.PlaceOfState.{is_at-by, is_at-text_begun}
+use Rattle.vte_core.proofs.lemmas.fields.PlaceOfState.{is_at-between, is_at-by}
 use Rattle.vte_core.proofs.lemmas.places.PlaceLeads.{byte-dropped, byte-executed, intermediate-end, intermediate-more}
 use Rattle.vte_core.proofs.lemmas.positions.SettledStates.{settled-same_state}
 use Rattle.vte_core.proofs.lemmas.positions.Stretches.{advances-byte, advances-given, advances-nothing, advances-then}
@@ -72,7 +72,7 @@ returns-then-dispatches_escape-clause-advances g c =
     (dispatch_ends_nothing (class_of b) ends)
     (takes-in_escape c.loop-position.self
     (λ intermediates holds. takes-byte
-    (rw (holds.kept, holds.too_many_intermediates) at dispatched.reports.value) (is_at-text_begun dispatched.in_text)
+    (rw (holds.kept, holds.too_many_intermediates) at dispatched.reports.value) (is_at-between dispatched.in_text)
     (intermediate-end refl ends))) (settled-same_state dispatched.in_text tt)))
 
 -- CAN, SUB or ESC: the sequence is left without being reported.

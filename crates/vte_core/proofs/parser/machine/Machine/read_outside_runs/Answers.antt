@@ -34,7 +34,7 @@ loop-byte-preserved g c =
       other = sym c.is_printed_ascii.ensures ∙ c.if-is_printed_ascii.false;
       lone = sym c.is_lead-else-is_printed_ascii.ensures ∙ c.if-is_lead-2.false;
       spends = search rules;
-      caller_looks = search rules;
+      looks_at_least = search rules;
     }
 
 -- The byte was the last one, or the performer was terminated after it.

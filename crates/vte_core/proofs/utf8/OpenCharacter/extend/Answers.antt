@@ -1,7 +1,7 @@
 -- One byte more after one, two or three: it ends the character, leaves it open or breaks it (`bytes/Scalars`).
 use Rattle.vte_core.proofs.Common.{arith, rules}
 use Rattle.vte_core.proofs.lemmas.bytes.Scalars.{fourth-broken, fourth-whole, second-broken, second-open, second-whole, third-broken, third-open, third-whole}
-use Rattle.vte_core.proofs.utf8.Unfinished.extend.Goals as goal
+use Rattle.vte_core.proofs.utf8.OpenCharacter.extend.Goals as goal
 
 pub returns-then-first-lt224 : goal.returns-then-first-lt224
 returns-then-first-lt224 c = search (rules, arith, second-whole)

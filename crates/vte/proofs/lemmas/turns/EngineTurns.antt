@@ -1,7 +1,7 @@
 -- From turns to a call: what the private functions ensure of parser, hold and handler is put together into
 -- `HasTakenTurn` and `HasBeenRefused`, and the loop over turns into `TakesTurns` and `TakesTurnsUntilRefused`.
 use Rattle.std.proofs.lemmas.List.{take_rest}
-use Rattle.vte.proofs.Common.{AdvancesUntilRefused, all_bytes, ap, append_assoc, append_cancel_right, arith, between_turns, Bool, done, drop, drop-drop, drop_all, EndsParsingTurn, EndsTurn, Engine, engine_facts, EngineIsAt, EngineReaches, EngineView, Err, false, FromEachState, HasAdvanced, HasAdvancedPart, HasBeenRefused, HasParsedPrefix, HasParsedWithoutBegin, HasTakenTurn, held_of, hold_turn, inside_turn, IsAt, KeepsMemory, length, length-drop, List, MatchResult, Meaning, Ok, parse, PartsAreAt, PartsAreAtWithMemory, PartsReach, ProcessorFacts, ProcessorLacksMemory, ProcessorState, refl, Refused, Reserves, Result, rules, State, stop, StopsSync, sym, take, take-append-drop, take_all, TakesTurns, TakesTurnsUntilRefused, true, turn, ℕ, [], ◌++◌, ◌+◌, ◌-◌, ◌<◌, ◌∙◌, ◌≡◌, ◌≤◌}
+use Rattle.vte.proofs.Common.{AdvancesUntilRefused, all_bytes, ap, append_assoc, append_cancel_right, arith, between_turns, Bool, done, drop, drop-drop, drop_all, EndsParsingTurn, EndsTurn, Engine, engine_facts, EngineIsAt, EngineReaches, EngineView, Err, false, FromEachState, HasAdvanced, HasAdvancedPart, HasParsedPrefix, HasParsedWithoutBegin, HasTakenTurn, held_of, hold_turn, inside_turn, IsAt, KeepsMemory, length, length-drop, List, MatchResult, Meaning, Ok, parse, PartsAreAt, PartsAreAtWithMemory, PartsReach, ProcessorFacts, ProcessorLacksMemory, ProcessorState, refl, Refused, Reserves, Result, rules, State, stop, StopsSync, sym, take, take-append-drop, take_all, TakesTurns, TakesTurnsUntilRefused, true, turn, ℕ, [], ◌++◌, ◌+◌, ◌-◌, ◌<◌, ◌∙◌, ◌≡◌, ◌≤◌}
 use Rattle.vte.proofs.lemmas.turns.EachOnce.{all_bytes-grown}
 use Rattle.vte.proofs.lemmas.turns.RefusedTurns.{progresses-until_refused, taken_on, takes-one, until_refused-all, until_refused-invariant, until_refused-on}
 use Rattle.vte.proofs.lemmas.turns.Slices.{parsing-refused}

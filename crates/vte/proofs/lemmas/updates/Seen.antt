@@ -5,7 +5,7 @@
 use Rattle.std.proofs.lemmas.List.{take_rest}
 use Rattle.std.specs.Prelude.{nat_lt, ◌&&◌}
 use Rattle.memchr.specs.Find.{is_byte, NoneAfter, Nowhere, Passes}
-use Rattle.vte.proofs.Common.{add-zero, after_last_end, after_word, ap, arith, begin_update, begins_ending_in_last, cases_Bool, drop, drop-drop, drop_all, drop_more, end_update, eqb, false, FindsRelease, from_begin_update, get_or, get_or-drop, get_or-take, inl, inr, is_prefix_of, IsHeldTail, length, length-append, length-drop, length-take-le, List, nat_tests, None, refl, rules, Some, subst, suc, take, true, zero, ℕ, [], ◌++◌, ◌+◌, ◌-◌, ◌<◌, ◌∙◌, ◌∷◌, ◌≡◌, ◌≤◌}
+use Rattle.vte.proofs.Common.{add-zero, after_last_end, after_word, ap, arith, begin_update, begins_ending_in_last, cases_Bool, drop, drop-drop, drop_all, drop_more, end_update, eqb, false, FindsRelease, from_begin_update, get_or, get_or-drop, get_or-take, inl, inr, is_prefix_of, IsHeldTail, length, length-append, length-drop, length-take-le, List, nat_tests, None, refl, rules, Some, suc, take, true, zero, ℕ, [], ◌++◌, ◌+◌, ◌-◌, ◌<◌, ◌∙◌, ◌∷◌, ◌≡◌, ◌≤◌}
 use Rattle.vte.proofs.lemmas.updates.Sequences.{after_last_end-tail, after_word-whole, begins_ending_in_last-tail, from_begin-end_skipped, is_prefix_of-further, is_prefix_of-is, is_prefix_of-length, none_from_is_some}
 use Rattle.vte.specs.private.Hold.{HasNoPrivateSequence, HasNoSequenceAt, HasNoSequenceBetween}
 

@@ -1,6 +1,6 @@
 //! What a processor is, whatever its limit. It takes turns: each parses bytes of a call, or holds
 //! them back.
-ghost use Rattle.std.specs.Prelude.{IfErr, IfOk, length, MatchResult, nat_le, ℕ, [], ◌+◌, ◌-◌, ◌<◌, ◌≡◌, ◌≤◌};
+ghost use Rattle.std.specs.Prelude.{IfErr, IfOk, length, MatchResult, nat_le, [], ◌+◌, ◌-◌, ◌<◌, ◌≡◌, ◌≤◌};
 ghost use Rattle.vte.specs.LongProcessor.{AdvancesUntilRefused, ProcessorLacksMemory, Reserves};
 ghost use Rattle.vte.specs.private.Engine.{EndsParsingTurn, EndsTurn, EndsUpdate, FromEachState, ParsesReleased, PartsLeaveMemory};
 ghost use Rattle.vte.specs.private.Hold.{released_of};

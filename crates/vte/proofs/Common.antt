@@ -29,7 +29,7 @@ pub use Rattle.vte.specs.LongProcessor.{AdvancesLong, AdvancesUntilRefused, Proc
 pub use Rattle.vte.specs.Memory.{HasTextMemory, KeepsMemory, ParserHasMemory}
 pub use Rattle.vte.specs.Numbers.{decimal_number, first_number, first_numbers}
 pub use Rattle.vte.specs.private.Colors.{first_component}
-pub use Rattle.vte.specs.private.Engine.{EndsParsingTurn, EndsTurn, EngineIsAt, HasBeenRefused, HasParsedPrefix, HasParsedWithoutBegin, HasTakenParsingTurn, HasTurned, IsAtKeepingMemory, PartsAreAt, PartsAreAtKeepingMemory, PartsAreAtWithMemory}
+pub use Rattle.vte.specs.private.Engine.{EndsParsingTurn, EndsTurn, EndsUpdate, EngineIsAt, EngineReaches, FromEachState, HasBeenRefused, HasParsedPrefix, HasParsedWithoutBegin, HasTakenParsingTurn, HasTakenTurn, ParsesReleased, PartsAreAt, PartsAreAtWithMemory, PartsLeaveMemory, PartsReach}
 pub use Rattle.vte.specs.private.Hold.{AddsToHold, FindsRelease, IsHeldTail, released_of, still_held}
 pub use Rattle.vte.specs.private.JoinedTexts.{fits_text_capacity, FitsTextCapacity, joined_size, parts_left, text_to_join}
 pub use Rattle.vte.specs.private.Parsing.{AdvancesAll, AdvancesUntilStop}

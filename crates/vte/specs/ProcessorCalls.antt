@@ -45,10 +45,10 @@ pub record IsAt {T V W : Type 0} (processor : ProcessorFacts T W) (value : V)
 
 -- ---- what is true after calls
 
--- A call of `advance`. `IsNowAt` says of a state that the processor and the handler's value are at
--- it, as `IsAt` does.
+-- A call of `advance`. `IsReached` says of a state that the processor and the handler's value are
+-- at it after the call, as `IsAt` does.
 pub record HasAdvanced {V W : Type 0} (meaning : Meaning V W) (state : State V W) (bytes : List ℕ)
-    (IsNowAt : State V W → Type 0) : Type 0 where
+    (IsReached : State V W → Type 0) : Type 0 where
   -- The state to which it led.
   pub next : State V W
   -- It led there by turns.
@@ -58,12 +58,12 @@ pub record HasAdvanced {V W : Type 0} (meaning : Meaning V W) (state : State V W
   -- `HoldInvariant` stays true.
   pub hold_invariant : HoldInvariantAt meaning state → HoldInvariantAt meaning next
   -- Processor and handler are at that state.
-  pub is_at : IsNowAt next
+  pub is_at : IsReached next
 
 -- A list of calls.
 pub record HasReplayed {V W : Type 0} (meaning : Meaning V W) (state : State V W)
     (steps : List Step)
-    (IsNowAt : State V W → Type 0) : Type 0 where
+    (IsReached : State V W → Type 0) : Type 0 where
   -- The state to which they led.
   pub next : State V W
   -- They led there step by step.
@@ -77,7 +77,7 @@ pub record HasReplayed {V W : Type 0} (meaning : Meaning V W) (state : State V W
       → TakesSteps meaning state steps other
       → other ≡ next
   -- Processor and handler are at that state.
-  pub is_at : IsNowAt next
+  pub is_at : IsReached next
 
 -- No value of the timeout allows the answer "pending".
 abbrev pub IsNeverPending : {W : Type 0} → (W → Bool → Type 0) → Type 0

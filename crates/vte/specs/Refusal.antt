@@ -47,10 +47,10 @@ module _ {V W : Type 0} (meaning : Meaning V W) where
         → TurnIsRefused pending reached rest next left
         → TakesTurnsUntilRefused state bytes next left
 
-  -- A call that may have been refused memory has read `read` of its bytes. `IsNowAt` is as in
+  -- A call that may have been refused memory has read `read` of its bytes. `IsReached` is as in
   -- `HasAdvanced`.
   pub record HasAdvancedPart (state : State V W) (bytes : List ℕ) (read : ℕ)
-      (IsNowAt : State V W → Type 0) : Type 0 where
+      (IsReached : State V W → Type 0) : Type 0 where
     -- The state to which it led.
     pub next : State V W
     -- It led there by turns, of which the last may have been refused memory.
@@ -60,19 +60,19 @@ module _ {V W : Type 0} (meaning : Meaning V W) where
     -- `HoldInvariant` stays true.
     pub hold_invariant : HoldInvariantAt meaning state → HoldInvariantAt meaning next
     -- Processor and handler are at that state.
-    pub is_at : IsNowAt next
+    pub is_at : IsReached next
 
   -- The first of these steps, an `Advance`, was refused memory after `read` of its bytes.
   abbrev pub IsFirstRefused : State V W → List Step → ℕ → (State V W → Type 0) → Type 0
-  IsFirstRefused state (Advance bytes ∷ steps) read IsNowAt =
-      (read < length bytes.now) × HasAdvancedPart state bytes.now read IsNowAt
-  IsFirstRefused state _ read IsNowAt = ⊥
+  IsFirstRefused state (Advance bytes ∷ steps) read IsReached =
+      (read < length bytes.now) × HasAdvancedPart state bytes.now read IsReached
+  IsFirstRefused state _ read IsReached = ⊥
 
   -- The steps before the refused one were taken, and led to a state at which it was refused.
   abbrev pub HasReplayedUntil : State V W → List Step → RefusedStep → (State V W → Type 0) → Type 0
-  HasReplayedUntil state steps refused IsNowAt =
+  HasReplayedUntil state steps refused IsReached =
       HasReplayed meaning state (take refused.index steps)
-      (λ next. IsFirstRefused next (drop refused.index steps) refused.read IsNowAt)
+      (λ next. IsFirstRefused next (drop refused.index steps) refused.read IsReached)
 
 -- How many bytes of the refused one of these steps are left.
 abbrev pub left_by : List Step → RefusedStep → ℕ

@@ -1,6 +1,6 @@
 -- A performer's value after the events of bytes. The handler and the state that it was lent come back as they are
 -- after the bytes, and an early stop reads the prefix up to the begin of an update.
-use Rattle.vte.proofs.Common.{added, after, All, All-head, All-tail, ap, arith, begin_count, begin_count_in_event, Bool, calls_from, calls_of, cases_lt, engine_view, Event, events, events_grow, false, false≢true, FitsText, inl, inr, KeepsMemory, last_printed, last_printed_after, last_printed_from, length, List, Meaning, nat_lt, nat_tests, or-false, parse, ParserView, PartsAreAt, PartsAreAtKeepingMemory, performer_value, performer_with_event, PerformerValue, prefix_to_begin, ProcessorState, refl, reported-settled, reported_before, resumed_stream, resumed_stream-settled, starts-settled, State, StopsExactly, sym, take, timeout_set_times, ℕ, [], ◌++◌, ◌+◌, ◌<◌, ◌||◌, ◌∙◌, ◌∷◌, ◌≡◌}
+use Rattle.vte.proofs.Common.{added, after, All, All-head, All-tail, ap, arith, begin_count, begin_count_in_event, Bool, calls_from, calls_of, cases_lt, engine_view, Event, events, events_grow, false, false≢true, FitsText, inl, inr, KeepsMemory, last_printed, last_printed_after, last_printed_from, length, List, Meaning, nat_lt, nat_tests, or-false, parse, ParserView, PartsAreAt, PartsReach, performer_value, performer_with_event, PerformerValue, prefix_to_begin, ProcessorState, refl, reported-settled, reported_before, resumed_stream, resumed_stream-settled, starts-settled, State, StopsExactly, sym, take, timeout_set_times, ℕ, [], ◌++◌, ◌+◌, ◌<◌, ◌||◌, ◌∙◌, ◌∷◌, ◌≡◌}
 use Rattle.vte.proofs.lemmas.events.EventCalls.{added_calls-events, after_calls-append, last_printed-append, timeout_set_times-add}
 use Rattle.vte.proofs.lemmas.updates.Prefixes.{begin_count-reported, breaks_at-prefix, IsPrefix, open_character-prefix, prefix-is}
 use Rattle.vte.specs.declared.ansi.calls.performer.Performer.{Performer}
@@ -71,7 +71,7 @@ module _ {H T B G V W : Type 0} (handler_of : H → V) (timeout_of : T → W) (t
       → view.has_read next (start.parsed ++ bytes)
       → (old.handler_name ≡ new.handler.ghost_name → handler ≡ new.handler.now)
       → ((size : ℕ) → KeepsMemory (view.has_memory parser size) (view.has_memory next size))
-      → PartsAreAtKeepingMemory (engine_view m.limit view text_capacity_of timeout_of) parser lent next state
+      → PartsReach (engine_view m.limit view text_capacity_of timeout_of) parser lent next state
       (handler_of handler)
       (parse m start bytes)
   performer-given_back {lent} parts_at lent_last lent_timeout lent_handler lent_text_capacity has_read back_handler

@@ -2,7 +2,7 @@
 -- limit no memory is refused, since the memory for texts is there at any time.
 use Rattle.vte.proofs.Common.{AdvancesInTurns, AdvancesLong, AdvancesUntilRefused, ap, arith, Bor, counts_data, drop, Engine, engine_facts, engine_facts_with, EngineView, Err, HasAdvanced, HasAdvancedPart, HasParsedAndHolds, HasTextMemory, IsAt, length, length-append, length-drop, limited_engine_view, List, long_facts, Meaning, Ok, ParserHasMemory, ProcessorFacts, ProcessorLacksMemory, refl, Refused, Result, State, StopsSync, ℕ, [], ◌++◌, ◌+◌, ◌-◌, ◌<◌, ◌≡◌}
 use Rattle.vte.proofs.lemmas.replays.WithoutUpdates.{plain_call}
-use Rattle.vte.proofs.lemmas.turns.EngineTurns.{has_advanced, taken-to}
+use Rattle.vte.proofs.lemmas.turns.EngineTurns.{advanced_part-to, has_advanced}
 use Rattle.vte.proofs.lemmas.turns.RefusedTurns.{progresses-until_refused}
 use Rattle.vte.specs.declared.ansi.calls.joined_text.TheConstants.{TEXT_CAPACITY}
 use Rattle.vte.specs.declared.ansi.long_processor.LongProcessor.{LongProcessor}
@@ -89,7 +89,7 @@ module _ {N : ℕ} {B T A V W : Type 0} {size_of : B → ℕ} {timeout_of : T �
   refused-never bytes (Ok _) reads =
       advances_in_turns bytes (λ state is_at. (
       let memory = reads.keeps_memory state (is_at-limited had is_at) [] 0 (had is_at.processor_is.has_memory) in
-      taken-to (λ reached. is_at-with_memory (has memory)) (reads.takes state (is_at-limited had is_at)))) refl
+      advanced_part-to (λ reached. is_at-with_memory (has memory)) (reads.takes state (is_at-limited had is_at)))) refl
   refused-never bytes (Err refused) reads =
       advances_in_turns bytes {read = length bytes.now} (λ state is_at. absurd (
       let taken = reads.takes state (is_at-limited had is_at) in

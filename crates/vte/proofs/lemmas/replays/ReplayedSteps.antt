@@ -112,9 +112,9 @@ module _ {V W : Type 0} (meaning : Meaning V W) where
       (delivers-refused meaning next state reached steps bytes (drop read bytes) takes until_refused)
 
   -- All that is promised of a list of calls follows from the state to which it leads.
-  pub has_replayed : {state : State V W} (next : State V W) {steps : List Step} {IsNowAt : State V W → Type 0}
+  pub has_replayed : {state : State V W} (next : State V W) {steps : List Step} {IsReached : State V W → Type 0}
       → TakesSteps meaning state steps next
-      → IsNowAt next → HasReplayed meaning state steps IsNowAt
+      → IsReached next → HasReplayed meaning state steps IsReached
   has_replayed {state} next {steps} takes is_at = record {
     next = next;
     takes = takes;
@@ -128,8 +128,8 @@ module _ {V W : Type 0} (meaning : Meaning V W) where
   }
 
   -- A call of `advance` is a list of one step.
-  pub advance_runs : {state : State V W} {bytes : Bor (List ℕ)} {IsNowAt : State V W → Type 0}
-      → HasAdvanced meaning state bytes.now IsNowAt → HasReplayed meaning state (Advance bytes ∷ []) IsNowAt
+  pub advance_runs : {state : State V W} {bytes : Bor (List ℕ)} {IsReached : State V W → Type 0}
+      → HasAdvanced meaning state bytes.now IsReached → HasReplayed meaning state (Advance bytes ∷ []) IsReached
   advance_runs advanced = has_replayed advanced.next (advanced.next, (advanced.advances, refl)) advanced.is_at
 
   module _ (state : State V W) (steps : List Step) {i : ℕ} (missing : Step) {old : State V W → Type 0}

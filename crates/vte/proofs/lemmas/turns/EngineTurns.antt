@@ -1,7 +1,7 @@
--- From turns to a call: what the private functions ensure of parser, hold and handler is put together into `HasTurned`
--- and `HasBeenRefused`, and the loop over turns into `TakesTurns` and `TakesTurnsUntilRefused`.
+-- From turns to a call: what the private functions ensure of parser, hold and handler is put together into
+-- `HasTakenTurn` and `HasBeenRefused`, and the loop over turns into `TakesTurns` and `TakesTurnsUntilRefused`.
 use Rattle.std.proofs.lemmas.List.{take_rest}
-use Rattle.vte.proofs.Common.{AdvancesUntilRefused, all_bytes, ap, append_assoc, append_cancel_right, arith, between_turns, Bool, done, drop, drop-drop, drop_all, EndsParsingTurn, EndsTurn, Engine, engine_facts, EngineIsAt, EngineView, Err, false, HasAdvanced, HasAdvancedPart, HasBeenRefused, HasParsedPrefix, HasParsedWithoutBegin, HasTurned, held_of, hold_turn, inside_turn, IsAt, IsAtKeepingMemory, KeepsMemory, length, length-drop, List, MatchResult, Meaning, Ok, parse, PartsAreAt, PartsAreAtKeepingMemory, PartsAreAtWithMemory, ProcessorFacts, ProcessorLacksMemory, ProcessorState, refl, Refused, Reserves, Result, rules, State, stop, StopsSync, sym, take, take-append-drop, take_all, TakesTurns, TakesTurnsUntilRefused, true, turn, ℕ, [], ◌++◌, ◌+◌, ◌-◌, ◌<◌, ◌∙◌, ◌≡◌, ◌≤◌}
+use Rattle.vte.proofs.Common.{AdvancesUntilRefused, all_bytes, ap, append_assoc, append_cancel_right, arith, between_turns, Bool, done, drop, drop-drop, drop_all, EndsParsingTurn, EndsTurn, Engine, engine_facts, EngineIsAt, EngineReaches, EngineView, Err, false, FromEachState, HasAdvanced, HasAdvancedPart, HasParsedPrefix, HasParsedWithoutBegin, HasTakenTurn, held_of, hold_turn, inside_turn, IsAt, KeepsMemory, length, length-drop, List, MatchResult, Meaning, Ok, parse, PartsAreAt, PartsAreAtWithMemory, PartsReach, ProcessorFacts, ProcessorLacksMemory, ProcessorState, refl, Refused, Reserves, Result, rules, State, stop, StopsSync, sym, take, take-append-drop, take_all, TakesTurns, TakesTurnsUntilRefused, true, turn, ℕ, [], ◌++◌, ◌+◌, ◌-◌, ◌<◌, ◌∙◌, ◌≡◌, ◌≤◌}
 use Rattle.vte.proofs.lemmas.turns.EachOnce.{all_bytes-grown}
 use Rattle.vte.proofs.lemmas.turns.RefusedTurns.{progresses-until_refused, taken_on, takes-one, until_refused-all, until_refused-invariant, until_refused-on}
 use Rattle.vte.proofs.lemmas.turns.Slices.{parsing-refused}
@@ -34,26 +34,26 @@ module _ {P B T A V W : Type 0} {view : EngineView P B T W} {engine : Engine P B
       handler_is = parts_at.handler_is;
     }
 
--- Turns go on with the memory that was there before.
+-- What an engine reaches in several steps, it reaches.
 module _ {T V W : Type 0} {value : V} {state : State V W} where
   -- An engine that does nothing keeps its memory.
-  pub keeping_memory-same : {engine : ProcessorFacts T W} → IsAt engine value state
-      → IsAtKeepingMemory engine engine value state
-  keeping_memory-same is_at = record { engine_at = is_at; keeps_memory = λ stream count had. had }
+  pub reaches-same : {engine : ProcessorFacts T W} → IsAt engine value state
+      → EngineReaches engine engine value state
+  reaches-same is_at = record { engine_at = is_at; keeps_memory = λ stream count had. had }
 
   -- If two parts of a turn keep memory, both together do.
-  pub keeping_memory-then : {old mid new : ProcessorFacts T W} {other : V} {reached : State V W}
-      → IsAtKeepingMemory old mid other reached → IsAtKeepingMemory mid new value state
-      → IsAtKeepingMemory old new value state
-  keeping_memory-then here next = record {
+  pub reaches-then : {old mid new : ProcessorFacts T W} {other : V} {reached : State V W}
+      → EngineReaches old mid other reached → EngineReaches mid new value state
+      → EngineReaches old new value state
+  reaches-then here next = record {
     engine_at = next.engine_at;
     keeps_memory = λ stream count had. next.keeps_memory stream count (here.keeps_memory stream count had);
   }
 
   -- A reservation, whatever its result, changes neither the state nor the handler.
-  pub keeping_memory-reserved : {old mid new : ProcessorFacts T W} {more : ℕ} {result : Bool}
-      → Reserves mid new more result → IsAtKeepingMemory old mid value state → IsAtKeepingMemory old new value state
-  keeping_memory-reserved reserves is_at = record {
+  pub reaches-reserved : {old mid new : ProcessorFacts T W} {more : ℕ} {result : Bool}
+      → Reserves mid new more result → EngineReaches old mid value state → EngineReaches old new value state
+  reaches-reserved reserves is_at = record {
     engine_at = record {
       processor_is = reserves.stays state.parsed state.held state.timeout is_at.engine_at.processor_is;
       handler_is = is_at.engine_at.handler_is;
@@ -67,18 +67,18 @@ module _ {P B T A V W : Type 0} {view : EngineView P B T W} {meaning : Meaning V
     {first old taken : Engine P B T A} {parser : P} {state : ProcessorState T B}
     {before value : V} where
   pub slice-parsed : HasParsedWithoutBegin meaning start bytes read
-      (IsAtKeepingMemory (engine_facts view first) (engine_facts view old) before)
+      (EngineReaches (engine_facts view first) (engine_facts view old) before)
       → Reserves (engine_facts view old) (engine_facts view taken) count true
       → length slice ≡ count → start.held ≡ []
       → ((next : State V W) (spare : ℕ)
       → PartsAreAtWithMemory view taken.parser taken.state before next (length slice + spare)
       → HasParsedPrefix meaning next slice n begins
-      (PartsAreAtKeepingMemory view taken.parser taken.state parser state value))
+      (PartsReach view taken.parser taken.state parser state value))
       → HasParsedPrefix meaning (parse meaning start (take read bytes)) slice n begins
-      (IsAtKeepingMemory (engine_facts view first)
+      (EngineReaches (engine_facts view first)
       (engine_facts view (record taken { parser = parser; state = state })) value)
   slice-parsed parsed reserves size_is none_held parses =
-      let here = keeping_memory-reserved reserves parsed.is_at in
+      let here = reaches-reserved reserves parsed.is_at in
       let sum : length slice + 0 ≡ length start.held + count = omega (arith, size_is, ap length none_held) in
       let parsed_slice =
       parses (parse meaning start (take read bytes)) 0
@@ -99,10 +99,10 @@ module _ {P B T A V W : Type 0} {view : EngineView P B T W} {meaning : Meaning V
         };
       }
 
--- A stop ends the update if the engine comes to the stopped state and keeps its memory.
+-- A stop ends the update if the engine reaches the stopped state.
 module _ {T V W : Type 0} {meaning : Meaning V W} {old new : ProcessorFacts T W} {before value : V} where
   pub stops_update : {mid : ProcessorFacts T W}
-      → ((state : State V W) → IsAt old before state → IsAtKeepingMemory mid new value (stop meaning state))
+      → ((state : State V W) → IsAt old before state → EngineReaches mid new value (stop meaning state))
       → KeepsMemory old.has_memory mid.has_memory → StopsSync meaning old new before value
   stops_update ends keeps = record {
     stops = λ state is_at. (ends state is_at).engine_at;
@@ -114,17 +114,17 @@ module _ {T V W : Type 0} {meaning : Meaning V W} {old new : ProcessorFacts T W}
 
   -- The converse, from the stop's contract.
   pub engine-at_stop : {state : State V W} → StopsSync meaning old new before value → IsAt old before state
-      → IsAtKeepingMemory old new value (stop meaning state)
+      → EngineReaches old new value (stop meaning state)
   engine-at_stop stops is_at = record { engine_at = stops.stops _ is_at; keeps_memory = stops.keeps_memory _ is_at }
 
 -- A turn whose bytes aren't held parses them, after a stop if one is due.
 pub ends_turn : {T V W : Type 0} {meaning : Meaning V W} {old mid new : ProcessorFacts T W} {before value : V}
     {state : State V W} {bytes : List ℕ} (pending : Bool)
     → meaning.timeout.allows state.timeout pending → is_held pending state bytes ≡ false
-    → IsAtKeepingMemory old mid before (stop_if_due meaning pending state) → (result : Result ℕ Refused)
+    → EngineReaches old mid before (stop_if_due meaning pending state) → (result : Result ℕ Refused)
     → MatchResult result (λ read. read ≤ length bytes) (λ refused. refused.read < length bytes)
-    → EndsParsingTurn meaning (stop_if_due meaning pending state) bytes result (IsAtKeepingMemory mid new value)
-    → EndsTurn meaning state bytes result (IsAtKeepingMemory old new value)
+    → EndsParsingTurn meaning (stop_if_due meaning pending state) bytes result (EngineReaches mid new value)
+    → EndsTurn meaning state bytes result (EngineReaches old new value)
 ends_turn {meaning} {state} {bytes} pending allowed not_held here (Ok read) within ends = record {
   turned =
       record {
@@ -132,7 +132,7 @@ ends_turn {meaning} {state} {bytes} pending allowed not_held here (Ok read) with
         allowed = allowed;
         progress = ends.parsed.progress;
         rest = rw (turn-parses meaning pending state bytes not_held) ends.parsed.rest;
-        is_at = rw (turn-parses meaning pending state bytes not_held) (keeping_memory-then here ends.parsed.is_at);
+        is_at = rw (turn-parses meaning pending state bytes not_held) (reaches-then here ends.parsed.is_at);
       };
   refused = tt;
 }
@@ -143,66 +143,56 @@ ends_turn {meaning} {state} {bytes} pending allowed not_held here (Err refused) 
     takes = inside_turn done pending allowed
         (refused-by_parsing meaning pending state _ bytes _
         (not_held, parsing-refused meaning (stop_if_due meaning pending state) bytes ends.refused within));
-    is_at = keeping_memory-then here ends.refused.is_at;
+    is_at = reaches-then here ends.refused.is_at;
   };
 }
 
 -- ---- one turn
 
 module _ {V W : Type 0} (meaning : Meaning V W) {state : State V W} {bytes : List ℕ} {n : ℕ}
-    {IsNowAt : State V W → Type 0} where
+    {IsReached : State V W → Type 0} where
   -- A turn that holds its bytes has read all of them.
   pub turned_hold : {pending : Bool} → meaning.timeout.allows state.timeout pending → is_held pending state bytes ≡ true
-      → n ≡ length bytes → IsNowAt (hold_turn meaning state bytes) → HasTurned meaning state bytes n IsNowAt
+      → n ≡ length bytes → IsReached (hold_turn meaning state bytes) → HasTakenTurn meaning state bytes n IsReached
   turned_hold {pending} allowed held all_read is_at = search (rules, arith, turn-holds, drop_all)
 
 -- ---- the turns of a call
 
--- The loop keeps `HasReached`, and at its end or at refused memory has `HasAdvancedPart`, which gives
+-- The loop keeps `HasTakenTurns`. This gives `HasAdvancedPart` at its end or when memory is refused, and that
 -- `AdvancesUntilRefused`.
 
--- As many bytes are left as weren't read.
-pub rest-size : (bytes : List ℕ) (read : ℕ) → read ≤ length bytes
-    → length (take (length bytes - read) (drop read bytes)) ≡ length bytes - read
-rest-size bytes read inside = rw (take_rest bytes read, length-drop)
+-- The bytes that a call has still to read, as the slice that its next turn gets.
+module _ (bytes : List ℕ) (read : ℕ) where
+  abbrev unread : List ℕ
+  unread = take (length bytes - read) (drop read bytes)
+
+  unread-is : unread ≡ drop read bytes
+  unread-is = take_rest bytes read
+
+  unread-drop : (n : ℕ) → drop n unread ≡ drop (read + n) bytes
+  unread-drop n = rw (unread-is, drop-drop n read bytes)
+
+  -- As many bytes are left as weren't read.
+  pub rest-size : read ≤ length bytes → length (take (length bytes - read) (drop read bytes)) ≡ length bytes - read
+  rest-size inside = rw (take_rest bytes read, length-drop)
 
 module _ {V W : Type 0} (meaning : Meaning V W) (state : State V W) (bytes : List ℕ) where
   -- `count` turns have read `read` bytes, at least one each.
-  pub record HasReached (count read : ℕ) (IsNowAt : State V W → Type 0) : Type 0 where
+  pub record HasTakenTurns (count read : ℕ) (IsReached : State V W → Type 0) : Type 0 where
     pub here : State V W
     pub enough : count ≤ read
     pub takes : TakesTurns meaning state bytes here (drop read bytes)
-    pub is_at : IsNowAt here
+    pub is_at : IsReached here
 
   -- Before the first turn.
-  pub reaches-nothing : {IsNowAt : State V W → Type 0} → IsNowAt state → HasReached 0 0 IsNowAt
-  reaches-nothing is_at = record { here = state; enough = omega arith; takes = done; is_at = is_at }
+  pub taken_turns-none : {IsReached : State V W → Type 0} → IsReached state → HasTakenTurns 0 0 IsReached
+  taken_turns-none is_at = record { here = state; enough = omega arith; takes = done; is_at = is_at }
 
-  -- One more turn reads at least one more byte.
-  pub reaches-more : {T : Type 0} {first mid new : ProcessorFacts T W} {before value : V} {count read n : ℕ}
-      → (reached : HasReached count read (IsAtKeepingMemory first mid before)) → read < length bytes
-      → HasTurned meaning reached.here (take (length bytes - read) (drop read bytes)) n
-      (IsAtKeepingMemory mid new value)
-      → HasReached (count + 1) (read + n) (IsAtKeepingMemory first new value)
-  reaches-more {count} {read} {n} reached bytes_left turned =
-      let slice = take (length bytes - read) (drop read bytes) in
-      let slice_is : slice ≡ drop read bytes = take_rest bytes read in
-      let some_bytes : 0 < length slice = rw (slice_is, length-drop read bytes) (omega arith) in
-      let rest_is : (turn meaning turned.pending reached.here slice).rest ≡ drop (read + n) bytes =
-      turned.rest ∙ rw (slice_is, drop-drop n read bytes) in
-      record {
-        here = (turn meaning turned.pending reached.here slice).state;
-        enough = omega (arith, reached.enough, turned.progress some_bytes);
-        takes = rw rest_is at
-            (taken_on meaning state reached.here _ bytes slice _ (rw slice_is reached.takes)
-            (takes-one meaning turned.pending some_bytes turned.allowed));
-        is_at = keeping_memory-then reached.is_at turned.is_at;
-      }
-
-  has_taken-turns : {read : ℕ} {IsNowAt : State V W → Type 0} (next : State V W)
+  -- The turns of a call, as what the call has done: each byte is parsed or held, once.
+  advanced_part-until_refused : {read : ℕ} {IsReached : State V W → Type 0} (next : State V W)
       → TakesTurnsUntilRefused meaning state bytes next (drop read bytes)
-      → IsNowAt next → HasAdvancedPart meaning state bytes read IsNowAt
-  has_taken-turns {read} next takes is_at = record {
+      → IsReached next → HasAdvancedPart meaning state bytes read IsReached
+  advanced_part-until_refused {read} next takes is_at = record {
     next = next;
     takes = takes;
     each_once = append_cancel_right _ _ (drop read bytes)
@@ -213,30 +203,14 @@ module _ {V W : Type 0} (meaning : Meaning V W) (state : State V W) (bytes : Lis
     is_at = is_at;
   }
 
-  has_taken-reached : {count read : ℕ} {IsNowAt : State V W → Type 0} → HasReached count read IsNowAt
-      → HasAdvancedPart meaning state bytes read IsNowAt
-  has_taken-reached reached = has_taken-turns reached.here (between_turns reached.takes) reached.is_at
-
-  -- If a turn was refused memory after n bytes, its call has taken `read + n` of them.
-  pub reached-refused : {T : Type 0} {first mid new : ProcessorFacts T W} {before value : V} {count read n : ℕ}
-      → (reached : HasReached count read (IsAtKeepingMemory first mid before)) → read ≤ length bytes
-      → HasBeenRefused meaning reached.here (take (length bytes - read) (drop read bytes)) n
-      (IsAtKeepingMemory mid new value)
-      → HasAdvancedPart meaning state bytes (read + n) (IsAtKeepingMemory first new value)
-  reached-refused {read} {n} reached within refused =
-      let slice = take (length bytes - read) (drop read bytes) in
-      let slice_is : slice ≡ drop read bytes = take_rest bytes read in
-      let rest_is : drop n slice ≡ drop (read + n) bytes = rw (slice_is, drop-drop n read bytes) in
-      has_taken-turns refused.next
-      (rw rest_is at
-      (until_refused-on meaning state reached.here refused.next bytes slice (drop n slice)
-      (rw slice_is reached.takes) refused.takes))
-      (keeping_memory-then reached.is_at refused.is_at)
+  advanced_part-turns : {count read : ℕ} {IsReached : State V W → Type 0} → HasTakenTurns count read IsReached
+      → HasAdvancedPart meaning state bytes read IsReached
+  advanced_part-turns reached = advanced_part-until_refused reached.here (between_turns reached.takes) reached.is_at
 
   -- A call that has read all its bytes ensures `HasAdvanced`.
-  pub has_advanced : {read : ℕ} {IsNowAt : State V W → Type 0} → HasAdvancedPart meaning state bytes read IsNowAt
+  pub has_advanced : {read : ℕ} {IsReached : State V W → Type 0} → HasAdvancedPart meaning state bytes read IsReached
       → length bytes ≤ read
-      → HasAdvanced meaning state bytes IsNowAt
+      → HasAdvanced meaning state bytes IsReached
   has_advanced {read} taken all_read = record {
     next = taken.next;
     advances = until_refused-all meaning (rw (drop_all read bytes all_read) at taken.takes);
@@ -245,30 +219,66 @@ module _ {V W : Type 0} (meaning : Meaning V W) (state : State V W) (bytes : Lis
     is_at = taken.is_at;
   }
 
+-- One more turn, from each state that the engine was at before the call.
+module _ {T V W : Type 0} {meaning : Meaning V W} {bytes : List ℕ} {first mid new : ProcessorFacts T W}
+    {before between value : V} {count read : ℕ}
+    (so_far : FromEachState first mid before between (λ state. HasTakenTurns meaning state bytes count read)) where
+  -- It reads at least one more byte.
+  pub taken_turns-more : {n : ℕ} → read < length bytes
+      → FromEachState mid new between value (λ state. EndsTurn meaning state (unread bytes read) (Ok n))
+      → FromEachState first new before value (λ state. HasTakenTurns meaning state bytes (count + 1) (read + n))
+  taken_turns-more {n} bytes_left ends = λ state is_at.
+      let reached = so_far state is_at in
+      let turned = (ends reached.here reached.is_at.engine_at).turned in
+      let slice = unread bytes read in
+      let some_bytes : 0 < length slice = rw (unread-is bytes read, length-drop read bytes) (omega arith) in
+      record {
+        here = (turn meaning turned.pending reached.here slice).state;
+        enough = omega (arith, reached.enough, turned.progress some_bytes);
+        takes = rw (turned.rest ∙ unread-drop bytes read n) at
+            (taken_on meaning state reached.here _ bytes slice _ (rw (unread-is bytes read) reached.takes)
+            (takes-one meaning turned.pending some_bytes turned.allowed));
+        is_at = reaches-then reached.is_at turned.is_at;
+      }
+
+  -- If it was refused memory after some bytes, the call has read those as well.
+  pub taken_turns-refused : {refused : Refused}
+      → FromEachState mid new between value (λ state. EndsTurn meaning state (unread bytes read) (Err refused))
+      → FromEachState first new before value (λ state. HasAdvancedPart meaning state bytes (read + refused.read))
+  taken_turns-refused {refused} ends = λ state is_at.
+      let reached = so_far state is_at in
+      let turned = (ends reached.here reached.is_at.engine_at).refused in
+      let slice = unread bytes read in
+      advanced_part-until_refused meaning state bytes turned.next
+      (rw (unread-drop bytes read refused.read) at
+      (until_refused-on meaning state reached.here turned.next bytes slice (drop refused.read slice)
+      (rw (unread-is bytes read) reached.takes) turned.takes))
+      (reaches-then reached.is_at turned.is_at)
+
 -- `HasAdvancedPart` may promise less about the state that a call reaches.
 module _ {V W : Type 0} {meaning : Meaning V W} {state : State V W} {bytes : List ℕ} {read : ℕ} where
-  pub taken-to : {IsNowAt other : State V W → Type 0} → ((state : State V W) → IsNowAt state → other state)
-      → HasAdvancedPart meaning state bytes read IsNowAt → HasAdvancedPart meaning state bytes read other
-  taken-to follows taken = search (rules, arith)
+  pub advanced_part-to : {IsReached other : State V W → Type 0} → ((state : State V W) → IsReached state → other state)
+      → HasAdvancedPart meaning state bytes read IsReached → HasAdvancedPart meaning state bytes read other
+  advanced_part-to follows taken = search (rules, arith)
 
-  taken-at : {T : Type 0} {old new : ProcessorFacts T W} {value : V}
-      → HasAdvancedPart meaning state bytes read (IsAtKeepingMemory old new value)
+  advanced_part-at : {T : Type 0} {old new : ProcessorFacts T W} {value : V}
+      → HasAdvancedPart meaning state bytes read (EngineReaches old new value)
       → HasAdvancedPart meaning state bytes read (IsAt new value)
-  taken-at = taken-to (λ state next. next.engine_at)
+  advanced_part-at = advanced_part-to (λ state next. next.engine_at)
 
 -- What a call ensures follows from its turns.
 module _ {T V W : Type 0} {meaning : Meaning V W} {old new : ProcessorFacts T W} {before value : V} (bytes : List ℕ)
   where
     -- At the loop's end all bytes are read.
     pub engine_reads-all : {count read : ℕ}
-        → ((state : State V W) → IsAt old before state
-        → HasReached meaning state bytes count read (IsAtKeepingMemory old new value))
+        → FromEachState old new before value (λ state. HasTakenTurns meaning state bytes count read)
         → ((state : State V W) → IsAt old before state → read ≡ length bytes)
         → AdvancesUntilRefused meaning old new before value bytes (Ok tt)
     engine_reads-all reaches all_read = record {
       takes =
           λ state is_at.
-          rw (all_read state is_at) at (taken-at (has_taken-reached meaning state bytes (reaches state is_at)));
+          rw (all_read state is_at) at
+          (advanced_part-at (advanced_part-turns meaning state bytes (reaches state is_at)));
       within = tt;
       lacks_memory = tt;
       keeps_memory = λ state is_at. (reaches state is_at).is_at.keeps_memory;
@@ -276,13 +286,12 @@ module _ {T V W : Type 0} {meaning : Meaning V W} {old new : ProcessorFacts T W}
 
     -- At a refusal some bytes are left, and there is no memory for them.
     pub engine_reads-until : {refused : Refused}
-        → ((state : State V W) → IsAt old before state
-        → HasAdvancedPart meaning state bytes refused.read (IsAtKeepingMemory old new value))
+        → FromEachState old new before value (λ state. HasAdvancedPart meaning state bytes refused.read)
         → refused.read < length bytes → ProcessorLacksMemory new (length bytes - refused.read)
         → AdvancesUntilRefused meaning old new before value bytes (Err refused)
     engine_reads-until taken bytes_left lacks =
         record {
-          takes = λ state is_at. taken-at (taken state is_at);
+          takes = λ state is_at. advanced_part-at (taken state is_at);
           within = bytes_left;
           lacks_memory = lacks;
           keeps_memory = λ state is_at. (taken state is_at).is_at.keeps_memory;

@@ -1,7 +1,7 @@
 -- A hold turn, of states and of the engine: bytes join the hold, the timeout is set as often as they begin updates, and
 -- what the hold releases is parsed, with a stop if nothing stays held.
 use Rattle.std.proofs.lemmas.List.{nil_from_length}
-use Rattle.vte.proofs.Common.{AddsToHold, after_last_end, ap, arith, Engine, engine_facts, EngineIsAt, EngineView, extend, from_begin_update, held_of, hold_turn, inl, inr, IsAtKeepingMemory, length, length-append, length-take, List, Meaning, parse, PartsAreAt, PartsAreAtKeepingMemory, PartsAreAtWithMemory, refl, release, released_of, rules, State, still_held, stop, sym, take, take_all, timeout_set_times, with_held, ℕ, [], ◌++◌, ◌+◌, ◌-◌, ◌<◌, ◌∙◌, ◌∷◌, ◌≡◌}
+use Rattle.vte.proofs.Common.{AddsToHold, after_last_end, ap, arith, EndsUpdate, Engine, engine_facts, EngineIsAt, EngineReaches, EngineView, extend, from_begin_update, held_of, hold_turn, inl, inr, length, length-append, length-take, List, Meaning, parse, ParsesReleased, PartsAreAt, PartsLeaveMemory, refl, release, released_of, rules, State, still_held, stop, sym, take, take_all, timeout_set_times, with_held, ℕ, [], ◌++◌, ◌+◌, ◌-◌, ◌<◌, ◌∙◌, ◌∷◌, ◌≡◌}
 use Rattle.vte.proofs.lemmas.turns.Slices.{parse-nothing}
 use Rattle.vte.proofs.lemmas.turns.TurnKinds.{hold_turn-all, hold_turn-rest}
 use Rattle.vte.proofs.lemmas.updates.Sequences.{cases_Option, stays_held, suffix-length}
@@ -63,17 +63,11 @@ module _ {P B T A V W : Type 0} {view : EngineView P B T W} (meaning : Meaning V
 
   -- If some bytes stay held, the released ones are parsed, with memory to parse the others later.
   pub turned_cut : {last : Engine P B T A} {next : V} → 0 < length (held_of hold)
-      → ((state : State V W) (spare : ℕ) → PartsAreAt view extended_engine.parser extended_engine.state value state
-      → (0 < length (released_of hold)
-      → HasMemoryFor state.parsed (length (released_of hold) + spare))
-      → PartsAreAtKeepingMemory view extended_engine.parser extended_engine.state last.parser last.state next
-      (parse meaning state (released_of hold)))
-      → ((state : State V W) (spare : ℕ)
-      → PartsAreAtWithMemory view extended_engine.parser extended_engine.state value state
-      (length (released_of hold) + spare)
-      → view.parser.has_memory last.parser (view.text_capacity_of last.state.text)
-      (state.parsed ++ released_of hold) spare)
-      → last.hold ≡ hold → IsAtKeepingMemory (engine_facts view old) (engine_facts view last) next
+      → ParsesReleased view meaning extended_engine.parser extended_engine.state value last.parser last.state next
+      (released_of hold)
+      → PartsLeaveMemory view extended_engine.parser extended_engine.state value last.parser last.state
+      (released_of hold)
+      → last.hold ≡ hold → EngineReaches (engine_facts view old) (engine_facts view last) next
       (hold_turn meaning state more)
   turned_cut {last} {next} some_held parses leaves same_hold =
       let extended_state = extend meaning state more in
@@ -119,14 +113,8 @@ module _ {P B T A V W : Type 0} {view : EngineView P B T W} (meaning : Meaning V
 
   -- If no bytes stay held, the update is stopped.
   pub turned_stop : {last : Engine P B T A} {next : V} → 0 < length more → length (held_of hold) ≡ 0
-      → ((state : State V W) (spare : ℕ) → PartsAreAt view extended_engine.parser extended_engine.state value state
-      → released_of hold ≡ state.held
-      → held_of hold ≡ []
-      → (0 < length state.held → HasMemoryFor state.parsed
-      (length state.held + spare))
-      → IsAtKeepingMemory (engine_facts view extended_engine) (engine_facts view last) next
-      (stop meaning state))
-      → IsAtKeepingMemory (engine_facts view old) (engine_facts view last) next
+      → EndsUpdate view meaning extended_engine last value next
+      → EngineReaches (engine_facts view old) (engine_facts view last) next
       (hold_turn meaning state more)
   turned_stop {last} {next} some_bytes none_held stops =
       let all = state.held ++ more in

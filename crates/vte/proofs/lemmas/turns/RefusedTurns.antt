@@ -12,7 +12,7 @@ use Rattle.vte.proofs.lemmas.updates.Prefixes.{prefix-after}
 
 -- A refusal before the first turn has read nothing.
 pub refused-nothing : {V W : Type 0} (meaning : Meaning V W) {state : State V W} {bytes : List ℕ}
-    {IsNowAt : State V W → Type 0} → IsNowAt state → HasBeenRefused meaning state bytes 0 IsNowAt
+    {IsReached : State V W → Type 0} → IsReached state → HasBeenRefused meaning state bytes 0 IsReached
 refused-nothing meaning {state} is_at = record { next = state; takes = between_turns done; is_at = is_at }
 
 module _ {V W : Type 0} (meaning : Meaning V W) where

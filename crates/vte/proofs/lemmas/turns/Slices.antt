@@ -31,8 +31,8 @@ module _ {V W : Type 0} (meaning : Meaning V W) where
 
 -- If no update begins in bytes, they are their own prefix.
 module _ {V W : Type 0} {meaning : Meaning V W} {state : State V W} {bytes : List ℕ} {n : ℕ} {begins : Bool}
-    {IsNowAt : State V W → Type 0}
-    (parsed : HasParsedPrefix meaning state bytes n begins IsNowAt) (no_begin : begins ≡ false) where
+    {IsReached : State V W → Type 0}
+    (parsed : HasParsedPrefix meaning state bytes n begins IsReached) (no_begin : begins ≡ false) where
   prefix-begins_none : begin_count (added meaning.limit state.parsed
       (prefix_to_begin meaning.limit state.parsed bytes)) ≡ 0
   prefix-begins_none = search (rules, arith)
@@ -44,16 +44,17 @@ module _ {V W : Type 0} {meaning : Meaning V W} {state : State V W} {bytes : Lis
   count-whole = parsed.count ∙ ap length prefix-whole
 
 module _ {V W : Type 0} (meaning : Meaning V W) (state : State V W) (bytes : List ℕ) where
-  pub parsing-nothing : {IsNowAt : State V W → Type 0} → IsNowAt state
-      → HasParsedWithoutBegin meaning state bytes 0 IsNowAt
+  pub parsing-nothing : {IsReached : State V W → Type 0} → IsReached state
+      → HasParsedWithoutBegin meaning state bytes 0 IsReached
   parsing-nothing is_at = record {
     none_begin = begin_count-nothing meaning.limit state.parsed;
     is_at = rw (parse-nothing meaning state) is_at;
   }
 
-  pub parsing-all : {read : ℕ} {IsNowAt : State V W → Type 0} → HasParsedWithoutBegin meaning state bytes read IsNowAt
+  pub parsing-all : {read : ℕ} {IsReached : State V W → Type 0}
+      → HasParsedWithoutBegin meaning state bytes read IsReached
       → length bytes ≤ read
-      → HasTakenParsingTurn meaning state bytes read IsNowAt
+      → HasTakenParsingTurn meaning state bytes read IsReached
   parsing-all {read} parsed all_read =
       let taken_is = take_all read bytes all_read in
       let none_begin : begin_count (added meaning.limit state.parsed bytes) ≡ 0 = rw taken_is at parsed.none_begin in
@@ -129,8 +130,8 @@ module _ {V W : Type 0} (meaning : Meaning V W) (state : State V W) (bytes : Lis
         is_at = rw (prefix_is, ← parse-append meaning state (take read bytes) prefix) parsed_slice.is_at;
       }
 
-  pub parsing-refused : {read : ℕ} {IsNowAt : State V W → Type 0}
-      → HasParsedWithoutBegin meaning state bytes read IsNowAt
+  pub parsing-refused : {read : ℕ} {IsReached : State V W → Type 0}
+      → HasParsedWithoutBegin meaning state bytes read IsReached
       → read < length bytes
       → ParsingTurnIsRefused meaning state bytes (parse meaning state (take read bytes)) (drop read bytes)
   parsing-refused {read} parsed bytes_left = search (rules, arith, take-append-drop, length-drop)

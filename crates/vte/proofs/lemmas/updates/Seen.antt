@@ -5,7 +5,7 @@
 use Rattle.std.proofs.lemmas.List.{take_rest}
 use Rattle.std.specs.Prelude.{nat_lt, ◌&&◌}
 use Rattle.memchr.specs.Find.{is_byte, NoneAfter, Nowhere, Passes}
-use Rattle.vte.proofs.Common.{add-zero, after_last_end, after_word, ap, arith, begin_update, begins_ending_in_last, cases_Bool, drop, drop-drop, drop_all, drop_more, end_update, eqb, false, FindsRelease, from_begin_update, get_or, get_or-drop, get_or-take, inl, inr, is_prefix_of, IsHeldTail, length, length-append, length-drop, length-take-le, List, nat_tests, None, refl, rules, Some, subst, suc, take, true, zero, ℕ, [], ◌++◌, ◌+◌, ◌-◌, ◌<◌, ◌∙◌, ◌∷◌, ◌≡◌, ◌≤◌}
+use Rattle.vte.proofs.Common.{add-zero, after_last_end, after_word, ap, arith, begin_update, begins_ending_in_last, cases_Bool, drop, drop-drop, drop_all, drop_more, end_update, eqb, false, FindsRelease, from_begin_update, get_or, get_or-drop, get_or-take, inl, inr, is_prefix_of, IsHeldTail, length, length-append, length-drop, length-take-le, List, nat_tests, None, refl, rules, Some, suc, take, true, zero, ℕ, [], ◌++◌, ◌+◌, ◌-◌, ◌<◌, ◌∙◌, ◌∷◌, ◌≡◌, ◌≤◌}
 use Rattle.vte.proofs.lemmas.updates.Sequences.{after_last_end-tail, after_word-whole, begins_ending_in_last-tail, from_begin-end_skipped, is_prefix_of-further, is_prefix_of-is, is_prefix_of-length, none_from_is_some}
 use Rattle.vte.specs.private.Hold.{HasNoPrivateSequence, HasNoSequenceAt, HasNoSequenceBetween}
 
@@ -54,9 +54,7 @@ neither-block text from n no_private_sequence k low high =
     byte (i + 2) (omega arith) ∙ ap (λ position. get_or text position 0) (omega arith) in
     -- So the test of the block says that byte k isn't ESC, or that the third byte from there isn't `?`.
     let not_both : (eqb (get_or text k 0) 0x1b && eqb (get_or text (k + 2) 0) 0x3f) ≡ false =
-    subst (λ a. (eqb a 0x1b && eqb (get_or text (k + 2) 0) 0x3f) ≡ false) first
-    (subst (λ a. (eqb (get_or (take (n + 2) (drop from text)) i 0) 0x1b && eqb a 0x3f) ≡ false) third
-    (no_private_sequence i (omega arith))) in
+    rw (← first, ← third) (no_private_sequence i (omega arith)) in
     record {
       no_begin = neither-pair 0x5b (drop 3 begin_update) text k not_both;
       no_end = neither-pair 0x5b (drop 3 end_update) text k not_both;
@@ -305,27 +303,47 @@ module _ {held more text : List ℕ} {start : ℕ} (held_tail : IsHeldTail held 
 
 -- ---- a round of the search
 
--- The last ESC of what is unread is read, and blocks before it are skipped.
+-- The last ESC of what is unread is read, at `position`, and the blocks from `next` to `before` are skipped.
+pub record IsRound (text : List ℕ) (unread position before next : ℕ) : Type 0 where
+  pub within : unread ≤ length text
+  pub none_after : NoneAfter (Passes (is_byte 0x1b) (take unread text)) 0 (length (take unread text)) position
+  pub is_escape : Passes (is_byte 0x1b) (take unread text) position
+  pub before_is : before ≡ position - 7
+  pub skips : next ≤ before
+  pub none_between : HasNoSequenceBetween text next before
 
-module _ (text : List ℕ) {unread before next : ℕ} (position : ℕ) (within : unread ≤ length text)
-    (none_after : NoneAfter (Passes (is_byte 0x1b) (take unread text)) 0 (length (take unread text)) position)
-    (before_is : before ≡ position - 7) (skips : next ≤ before) where
+-- A round by the contracts of what it calls: the `memrchr` that finds the ESC, and the function that skips blocks.
+pub is_round : (text : List ℕ) (unread : ℕ) {position before next : ℕ} → unread ≤ length text
+    → NoneAfter (Passes (is_byte 0x1b) (take unread text)) 0 (length (take unread text)) position
+    × Passes (is_byte 0x1b) (take unread text) position
+    → before ≡ position - 7 → next ≤ before → HasNoSequenceBetween text next before
+    → IsRound text unread position before next
+is_round text unread within found before_is skips none_between = record {
+  within = within;
+  none_after = found.0;
+  is_escape = found.1;
+  before_is = before_is;
+  skips = skips;
+  none_between = none_between;
+}
+
+module _ {text : List ℕ} {unread position before next : ℕ} (round : IsRound text unread position before next) where
   escape-earlier : position < unread
-  escape-earlier = omega (arith, length-take-le unread text within, none_after.high)
+  escape-earlier = omega (arith, length-take-le unread text round.within, round.none_after.high)
 
   pub unread-decreases : next < unread
-  unread-decreases = omega (arith, escape-earlier, before_is, skips)
+  unread-decreases = omega (arith, escape-earlier, round.before_is, round.skips)
 
   -- What is seen if the ESC is read was seen from the end of the skipped blocks on.
   pub seen-round : {held more : List ℕ} {start first_begin begin_count first_begin_then begin_count_then : ℕ}
-      (held_tail : IsHeldTail held more text start) → Passes (is_byte 0x1b) (take unread text) position
-      → HasNoSequenceBetween text next before
+      (held_tail : IsHeldTail held more text start)
       → HasSeen (held ++ more) (length more) (start + unread) first_begin begin_count
       → (IsLastEscape (held ++ more) (length more) (start + position) (start + unread) first_begin begin_count
       → (from : ℕ) → from ≤ start + position → start + position ≤ from + 7
       → HasSeen (held ++ more) (length more) from first_begin_then begin_count_then)
       → HasSeen (held ++ more) (length more) (start + next) first_begin_then begin_count_then
-  seen-round {start} held_tail is_escape none_between seen reads =
-      seen-skipped held_tail next before skips (omega (arith, escape-earlier, before_is, within)) none_between
-      (reads (last_escape held_tail position unread within none_after is_escape seen) (start + before)
-      (omega (arith, before_is)) (omega (arith, before_is)))
+  seen-round {start} held_tail seen reads =
+      let before_is = round.before_is in
+      seen-skipped held_tail next before round.skips (omega (arith, escape-earlier, round.within)) round.none_between
+      (reads (last_escape held_tail position unread round.within round.none_after round.is_escape seen) (start + before)
+      (omega arith) (omega arith))

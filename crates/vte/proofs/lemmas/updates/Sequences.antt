@@ -61,6 +61,9 @@ pub record IsSuffix (part text : List ℕ) : Type 0 where
   pub within : prefix ≤ length text
   pub part_is : part ≡ drop prefix text
 
+suffix-all : {text : List ℕ} → IsSuffix text text
+suffix-all = record { prefix = 0; within = omega arith; part_is = refl }
+
 -- A suffix and what precedes it are the text.
 pub suffix-length : {part text : List ℕ} → (suffix : IsSuffix part text) → suffix.prefix + length part ≡ length text
 suffix-length {part} {text} suffix =
@@ -110,15 +113,9 @@ pub record StartsAtBegin (kept text : List ℕ) : Type 0 where
   pub begins : 0 < length kept → is_prefix_of begin_update kept ≡ true
 
 starts_at_begin : (text : List ℕ) → StartsAtBegin (from_begin_update text) text
-starts_at_begin [] =
-    record {
-      suffix = record { prefix = 0; within = omega arith; part_is = refl };
-      begins = λ some_kept. absurd (omega arith);
-    }
+starts_at_begin [] = record { suffix = suffix-all; begins = λ some_kept. absurd (omega arith) }
 starts_at_begin (b ∷ text) = elim (cases_Bool (is_prefix_of begin_update (b ∷ text))) [
-  | inl here ↦
-      rw here
-      (record { suffix = record { prefix = 0; within = omega arith; part_is = refl }; begins = λ some_kept. here })
+  | inl here ↦ rw here (record { suffix = suffix-all; begins = λ some_kept. here })
   | inr later ↦
       let start = starts_at_begin text in
       rw later (record { suffix = suffix-more b start.suffix; begins = start.begins })
@@ -133,13 +130,7 @@ pub record StaysHeld (held kept : List ℕ) : Type 0 where
 -- By whether there is an end-update.
 pub stays_held : (held : List ℕ) → StaysHeld held (still_held held)
 stays_held held = elim (cases_Option (after_last_end held)) [
-  | inl no_end ↦
-      rw no_end
-      (record {
-        suffix = record { prefix = 0; within = omega arith; part_is = refl };
-        no_end = no_end;
-        begins = inl refl;
-      })
+  | inl no_end ↦ rw no_end (record { suffix = suffix-all; no_end = no_end; begins = inl refl })
   | inr last_end ↦
       let follows = follows_last_end held last_end.0 last_end.1 in
       let starts = starts_at_begin last_end.0 in

@@ -1,6 +1,6 @@
 //! The calls of control sequences.
 ghost use Rattle.std.specs.Prelude.{unwrap_or, [], ◌∷◌, ◌≡◌, ◌≢◌};
-ghost use Rattle.vte.specs.ControlSequenceCalls.{change_call, change_calls, control_sequence_calls, repeat_calls, table_without_intermediates, window_operation_table};
+ghost use Rattle.vte.specs.ControlSequenceCalls.{change_call, change_calls, control_sequence_calls, repeat_calls, scp_calls, table_without_intermediates, window_operation_table};
 ghost use Rattle.vte.specs.Numbers.{first_numbers};
 ghost use Rattle.vte.specs.OptionalCalls.{call_some};
 ghost use Rattle.vte.specs.SelectedValues.{clear_line_table, clear_screen_table, clear_tabs_table, cursor_style_table, modify_other_keys_table};
@@ -69,13 +69,7 @@ pub(crate) fn perform_control_sequence<H: InputAs<G>, G>(
             handler.set_keyboard_mode(modes, read_keyboard_behavior(numbers.next_or(1)));
         }
         ([b'<'], 'u') => handler.pop_keyboard_modes(numbers.next_or(1)),
-        ([b' '], 'k') => {
-            let path = read_character_path(numbers.next_or(0));
-            let update = read_scp_update_mode(numbers.next_or(0));
-            if let (Some(path), Some(update)) = (path, update) {
-                handler.set_scp(path, update);
-            }
-        }
+        ([b' '], 'k') => set_character_path(handler, numbers.next_or(0), numbers.next_or(0)),
         ([b' '], 'q') => set_cursor_style(handler, numbers.next_or(0)),
         ([b'$'], 'p') => handler.report_mode(Mode::new(numbers.next_or(0))),
         ([b'?', b'$'], 'p') => handler.report_private_mode(PrivateMode::new(numbers.next_or(0))),
@@ -215,6 +209,18 @@ fn set_modify_other_keys<H: Handler>(handler: &mut H, number: u16)
         1 => handler.set_modify_other_keys(ModifyOtherKeys::EnableExceptWellDefined),
         2 => handler.set_modify_other_keys(ModifyOtherKeys::EnableAll),
         _ => {}
+    }
+}
+
+/// Sets the character path, and how the display follows it, if SCP selects both.
+fn set_character_path<H: Handler>(handler: &mut H, path: u16, update: u16)
+    ensures { H.value_of handler.new ≡ after H.step (H.value_of handler.old)
+        (scp_calls path update) }
+{
+    let path = read_character_path(path);
+    let update = read_scp_update_mode(update);
+    if let (Some(path), Some(update)) = (path, update) {
+        handler.set_scp(path, update);
     }
 }
 

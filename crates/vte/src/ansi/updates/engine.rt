@@ -1,10 +1,10 @@
 //! What a processor is, whatever its limit. It takes turns: each parses bytes of a call, or holds
 //! them back.
-ghost use Rattle.std.specs.Prelude.{IfErr, IfOk, length, MatchResult, nat_le, ℕ, [], ◌+◌, ◌-◌, ◌<◌, ◌≡◌, ◌≤◌};
+ghost use Rattle.std.specs.Prelude.{IfErr, IfOk, length, MatchResult, nat_le, [], ◌+◌, ◌-◌, ◌<◌, ◌≡◌, ◌≤◌};
 ghost use Rattle.vte.specs.LongProcessor.{AdvancesUntilRefused, ProcessorLacksMemory, Reserves};
-ghost use Rattle.vte.specs.private.Engine.{EndsParsingTurn, EndsTurn, IsAtKeepingMemory, LeadsOn, PartsAreAt, PartsAreAtKeepingMemory, PartsHaveMemory, PartsLeaveMemory};
+ghost use Rattle.vte.specs.private.Engine.{EndsParsingTurn, EndsTurn, EndsUpdate, FromEachState, ParsesReleased, PartsLeaveMemory};
 ghost use Rattle.vte.specs.private.Hold.{released_of};
-ghost use Rattle.vte.specs.Processor.{hold_turn, max_held, parse, processor_meaning, State, stop, timeout_set_times};
+ghost use Rattle.vte.specs.Processor.{hold_turn, max_held, processor_meaning, timeout_set_times};
 ghost use Rattle.vte.specs.ProcessorCalls.{StopsSync};
 ghost use Rattle.vte.specs.ProcessorFacts.{engine_facts, held_of};
 ghost use Rattle.vte.specs.Views.{engine_view};
@@ -113,15 +113,9 @@ impl<P: EventParser + Drop, B: TextBuffer + Drop, T: Timeout + Drop, A: Allocato
     /// Parses the released bytes, after which nothing is held, and tells the handler that the
     /// update has ended.
     fn end_update<H: Handler, G: ParseAs<H, T, P>>(&mut self, handler: &mut H)
-        // There is memory for the held bytes and `spare` more.
-        ensures stops { let view = engine_view P.limit P.view B.text_capacity T.value_of in
-            (state : State H.Value T.Value) (spare : ℕ)
-            → PartsAreAt view self.old.parser self.old.state (H.value_of handler.old) state
-            → released_of self.old.hold ≡ state.held → held_of self.old.hold ≡ []
-            → PartsHaveMemory view self.old.parser self.old.state state state.held spare
-            → IsAtKeepingMemory (engine_facts view self.old)
-            (engine_facts view self.new) (H.value_of handler.new)
-            (stop (processor_meaning P.limit H.step T.set T.clear T.allows) state) }
+        ensures stops { EndsUpdate (engine_view P.limit P.view B.text_capacity T.value_of)
+            (processor_meaning P.limit H.step T.set T.clear T.allows)
+            self.old self.new (H.value_of handler.old) (H.value_of handler.new) }
         ensures same_hold { self.new.hold ≡ self.old.hold }
     {
         self.parse_released::<H, G>(handler);
@@ -131,14 +125,10 @@ impl<P: EventParser + Drop, B: TextBuffer + Drop, T: Timeout + Drop, A: Allocato
 
     /// Parses the released bytes, if there are any.
     fn parse_released<H: Handler, G: ParseAs<H, T, P>>(&mut self, handler: &mut H)
-        ensures parsed { let view = engine_view P.limit P.view B.text_capacity T.value_of in
-            let released = released_of self.old.hold in
-            (state : State H.Value T.Value) (spare : ℕ)
-            → PartsAreAt view self.old.parser self.old.state (H.value_of handler.old) state
-            → PartsHaveMemory view self.old.parser self.old.state state released spare
-            → PartsAreAtKeepingMemory view self.old.parser self.old.state
-            self.new.parser self.new.state (H.value_of handler.new)
-            (parse (processor_meaning P.limit H.step T.set T.clear T.allows) state released) }
+        ensures parsed { ParsesReleased (engine_view P.limit P.view B.text_capacity T.value_of)
+            (processor_meaning P.limit H.step T.set T.clear T.allows)
+            self.old.parser self.old.state (H.value_of handler.old)
+            self.new.parser self.new.state (H.value_of handler.new) (released_of self.old.hold) }
         ensures leaves_memory { let view = engine_view P.limit P.view B.text_capacity T.value_of in
             PartsLeaveMemory view self.old.parser self.old.state (H.value_of handler.old)
             self.new.parser self.new.state (released_of self.old.hold) }
@@ -164,7 +154,7 @@ impl<P: EventParser + Drop, B: TextBuffer + Drop, T: Timeout + Drop, A: Allocato
         ensures within { MatchResult result (λ read. read ≤ length bytes.now)
             (λ refused. refused.read < length bytes.now) }
         ensures turned { let view = engine_view P.limit P.view B.text_capacity T.value_of in
-            LeadsOn (engine_facts view self.old) (engine_facts view self.new)
+            FromEachState (engine_facts view self.old) (engine_facts view self.new)
             (H.value_of handler.old) (H.value_of handler.new) (λ state. EndsTurn
             (processor_meaning P.limit H.step T.set T.clear T.allows) state bytes.now result) }
         ensures lacks_memory { let view = engine_view P.limit P.view B.text_capacity T.value_of in
@@ -204,7 +194,7 @@ impl<P: EventParser + Drop, B: TextBuffer + Drop, T: Timeout + Drop, A: Allocato
         ensures within { MatchResult result (λ read. read ≤ length bytes.now)
             (λ refused. refused.read < length bytes.now) }
         ensures parsed { let view = engine_view P.limit P.view B.text_capacity T.value_of in
-            LeadsOn (engine_facts view self.old) (engine_facts view self.new)
+            FromEachState (engine_facts view self.old) (engine_facts view self.new)
             (H.value_of handler.old) (H.value_of handler.new) (λ state. EndsParsingTurn
             (processor_meaning P.limit H.step T.set T.clear T.allows) state bytes.now result) }
         ensures lacks_memory { let view = engine_view P.limit P.view B.text_capacity T.value_of in
@@ -251,10 +241,10 @@ impl<P: EventParser + Drop, B: TextBuffer + Drop, T: Timeout + Drop, A: Allocato
         requires not_empty { 0 < length bytes.now }
         requires fits { length (held_of self.old.hold) + length bytes.now ≤ max_held }
         ensures { let view = engine_view P.limit P.view B.text_capacity T.value_of in
-            LeadsOn (engine_facts view self.old) (engine_facts view self.new)
+            FromEachState (engine_facts view self.old) (engine_facts view self.new)
             (H.value_of handler.old) (H.value_of handler.new)
-            (λ state IsNowAt. (engine_facts view self.old).has_memory state.parsed
-            (length state.held + length bytes.now) → IsNowAt (hold_turn
+            (λ state IsReached. (engine_facts view self.old).has_memory state.parsed
+            (length state.held + length bytes.now) → IsReached (hold_turn
             (processor_meaning P.limit H.step T.set T.clear T.allows) state bytes.now)) }
     {
         let begin_count = self.hold.add(bytes);

@@ -2,7 +2,7 @@
 //! fields of one struct, so that the performer can borrow each.
 ghost use Rattle.std.specs.Prelude.{false, length, List, Option, Some, true, ℕ, ◌+◌, ◌≡◌, ◌≤◌};
 ghost use Rattle.vte.specs.Memory.{KeepsMemory};
-ghost use Rattle.vte.specs.private.Engine.{HasParsedPrefix, PartsLeadOn, PartsLeaveMemory};
+ghost use Rattle.vte.specs.private.Engine.{FromEachStateOfParts, HasParsedPrefix, PartsLeaveMemory};
 ghost use Rattle.vte.specs.private.Parsing.{AdvancesAll, AdvancesUntilStop};
 ghost use Rattle.vte.specs.private.PerformerValue.{performer_value, performer_with_event};
 ghost use Rattle.vte.specs.Processor.{parse, processor_meaning};
@@ -136,11 +136,12 @@ pub(crate) fn parse_all<
     P: EventParser,
     G: ParseAs<H, T, P>,
 >(parser: &mut P, lent: &mut ProcessorState<T, B>, handler: &mut H, bytes: &[u8])
-    ensures parsed { PartsLeadOn (engine_view P.limit P.view B.text_capacity T.value_of)
+    ensures parsed { FromEachStateOfParts
+        (engine_view P.limit P.view B.text_capacity T.value_of)
         parser.old lent.old (H.value_of handler.old)
         parser.new lent.new (H.value_of handler.new) (length bytes.now)
-        (λ state IsNowAt.
-        IsNowAt (parse (processor_meaning P.limit H.step T.set T.clear T.allows) state bytes.now)) }
+        (λ state IsReached. IsReached (parse
+        (processor_meaning P.limit H.step T.set T.clear T.allows) state bytes.now)) }
     ensures leaves_memory { PartsLeaveMemory (engine_view P.limit P.view B.text_capacity T.value_of)
         parser.old lent.old (H.value_of handler.old) parser.new lent.new bytes.now }
 {
@@ -163,7 +164,8 @@ pub(crate) fn parse_until_begin<
     G: ParseAs<H, T, P>,
 >(parser: &mut P, lent: &mut ProcessorState<T, B>, handler: &mut H, bytes: &[u8]) -> (usize, bool)
     ensures within { result.0 ≤ length bytes.now }
-    ensures parses_prefix { PartsLeadOn (engine_view P.limit P.view B.text_capacity T.value_of)
+    ensures parses_prefix { FromEachStateOfParts
+        (engine_view P.limit P.view B.text_capacity T.value_of)
         parser.old lent.old (H.value_of handler.old)
         parser.new lent.new (H.value_of handler.new) (length bytes.now)
         (λ state. HasParsedPrefix

@@ -4,9 +4,7 @@ ghost use Rattle.vte.specs.private.Hold.{FindsRelease, HasNoPrivateSequence, Has
 ghost use Rattle.vte.specs.Synchronized.{after_last_end, begin_update, end_update, is_prefix_of};
 
 use memchr::memrchr;
-
-/// The first byte of both sequences.
-const ESCAPE: u8 = 0x1b;
+use vte_types::C0;
 
 /// What a hold releases when bytes are added to it.
 #[derive(Clone, Copy)]
@@ -32,7 +30,7 @@ pub(crate) fn find_release(bytes: &[u8], start: usize) -> Release
     // A sequence has eight bytes, and only the first is ESC: none begins among the last seven
     // bytes, or the seven before an ESC.
     let mut unread = skip_blocks(bytes, bytes.len().saturating_sub(7));
-    while let Some(position) = memrchr(ESCAPE, &bytes[..unread]) {
+    while let Some(position) = memrchr(C0::ESC, &bytes[..unread]) {
         unread = skip_blocks(bytes, position.saturating_sub(7));
         let sequence = &bytes[position..];
         if begins_update(sequence) {
@@ -78,7 +76,7 @@ fn has_no_private_sequence(block: &[u8; 34]) -> bool
 {
     let mut none_found = true;
     for index in 0..32 {
-        none_found &= (block[index] != ESCAPE) | (block[index + 2] != b'?');
+        none_found &= (block[index] != C0::ESC) | (block[index + 2] != b'?');
     }
     none_found
 }

@@ -1,5 +1,5 @@
 // Written by tools/erase from crates/event_log/src/pipeline.rt: edit that one.
-//! Logs from a reader to a writer.
+//! The loops that read a stream in chunks and write what is collected of each.
 
 use crate::proved::event_log::collector::{Collector, LogParser};
 use crate::proved::event_log::device::{Sink, Source};

@@ -1,8 +1,8 @@
 -- From the end back, from ESC to ESC: a begin counts, an end is the last one and ends the search, and any other
 -- sequence changes nothing (`updates/Seen`).
 use Rattle.vte.proofs.ansi.updates.release.find_release.Goals as goal
-use Rattle.vte.proofs.Common.{arith, length, length-append, sym, ◌∙◌, ◌≤◌}
-use Rattle.vte.proofs.lemmas.updates.Seen.{last_escape, seen-all, seen-begin_before, seen-end, seen-nothing, seen-other_before, seen-round, seen-skipped, tail-sequence, unread-decreases}
+use Rattle.vte.proofs.Common.{arith, length-append, sym, ◌∙◌}
+use Rattle.vte.proofs.lemmas.updates.Seen.{is_round, last_escape, seen-all, seen-begin_before, seen-end, seen-nothing, seen-other_before, seen-round, seen-skipped, tail-sequence, unread-decreases}
 
 -- Nothing is seen yet.
 pub loop-position-init : goal.loop-position-init
@@ -19,16 +19,13 @@ loop-position-init c =
 pub loop-position-preserved-then-begins_update : goal.loop-position-preserved-then-begins_update
 loop-position-preserved-then-begins_update c =
     let invariant = c.loop-position.invariant in
-    let within : c.loop-position.unread ≤ length c.args.bytes.now = omega (arith, invariant.at_most) in
-    let escape = c.in-Some.ensures in
-    let before_is = c.saturating_sub-in-Some.ensures in
     let skipped = c.skip_blocks-unread-in-Some.ensures in
-    let goes_back = unread-decreases c.args.bytes.now c.in-Some.position within escape.0 before_is skipped.within in
+    let round = is_round c.args.bytes.now c.loop-position.unread (omega (arith, invariant.at_most)) c.in-Some.ensures
+    c.saturating_sub-in-Some.ensures skipped.within skipped.none_between in
     record {
-      at_most = omega (arith, invariant.at_most, goes_back);
+      at_most = omega (arith, invariant.at_most, unread-decreases round);
       seen = λ held more held_tail.
-          seen-round _ c.in-Some.position within escape.0 before_is skipped.within held_tail escape.1
-          skipped.none_between (invariant.seen held more held_tail) (λ last from low near.
+          seen-round round held_tail (invariant.seen held more held_tail) (λ last from low near.
           seen-begin_before last from low near (omega (arith, held_tail.start_is, length-append held more))
           (rw (tail-sequence held_tail) at (sym c.begins_update.ensures.value ∙ c.if-begins_update.true)));
     }
@@ -37,16 +34,13 @@ loop-position-preserved-then-begins_update c =
 pub loop-position-preserved : goal.loop-position-preserved
 loop-position-preserved c =
     let invariant = c.loop-position.invariant in
-    let within : c.loop-position.unread ≤ length c.args.bytes.now = omega (arith, invariant.at_most) in
-    let escape = c.in-Some.ensures in
-    let before_is = c.saturating_sub-in-Some.ensures in
     let skipped = c.skip_blocks-unread-in-Some.ensures in
-    let goes_back = unread-decreases c.args.bytes.now c.in-Some.position within escape.0 before_is skipped.within in
+    let round = is_round c.args.bytes.now c.loop-position.unread (omega (arith, invariant.at_most)) c.in-Some.ensures
+    c.saturating_sub-in-Some.ensures skipped.within skipped.none_between in
     record {
-      at_most = omega (arith, invariant.at_most, goes_back);
+      at_most = omega (arith, invariant.at_most, unread-decreases round);
       seen = λ held more held_tail.
-          seen-round _ c.in-Some.position within escape.0 before_is skipped.within held_tail escape.1
-          skipped.none_between (invariant.seen held more held_tail) (λ last from low near.
+          seen-round round held_tail (invariant.seen held more held_tail) (λ last from low near.
           seen-other_before last from low near
           (rw (tail-sequence held_tail) at (sym c.begins_update.ensures.value ∙ c.if-begins_update.false))
           (rw (tail-sequence held_tail) at (sym c.ends_update.ensures.value ∙ c.if-ends_update.false)));

@@ -58,13 +58,7 @@ pub(crate) fn perform_control_sequence<H: InputAs<G> + ?Sized, G>(
             handler.set_keyboard_mode(modes, read_keyboard_behavior(numbers.next_or(1)));
         }
         ([b'<'], 'u') => handler.pop_keyboard_modes(numbers.next_or(1)),
-        ([b' '], 'k') => {
-            let path = read_character_path(numbers.next_or(0));
-            let update = read_scp_update_mode(numbers.next_or(0));
-            if let (Some(path), Some(update)) = (path, update) {
-                handler.set_scp(path, update);
-            }
-        }
+        ([b' '], 'k') => set_character_path(handler, numbers.next_or(0), numbers.next_or(0)),
         ([b' '], 'q') => set_cursor_style(handler, numbers.next_or(0)),
         ([b'$'], 'p') => handler.report_mode(Mode::new(numbers.next_or(0))),
         ([b'?', b'$'], 'p') => handler.report_private_mode(PrivateMode::new(numbers.next_or(0))),
@@ -180,6 +174,15 @@ fn set_modify_other_keys<H: Handler + ?Sized>(handler: &mut H, number: u16) {
         1 => handler.set_modify_other_keys(ModifyOtherKeys::EnableExceptWellDefined),
         2 => handler.set_modify_other_keys(ModifyOtherKeys::EnableAll),
         _ => {}
+    }
+}
+
+/// Sets the character path, and how the display follows it, if SCP selects both.
+fn set_character_path<H: Handler + ?Sized>(handler: &mut H, path: u16, update: u16) {
+    let path = read_character_path(path);
+    let update = read_scp_update_mode(update);
+    if let (Some(path), Some(update)) = (path, update) {
+        handler.set_scp(path, update);
     }
 }
 

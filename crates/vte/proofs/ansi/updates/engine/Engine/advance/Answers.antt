@@ -1,7 +1,7 @@
--- A turn more leads on (`reaches-more`), until all bytes are read or a turn is refused memory.
+-- One more turn is taken (`taken_turns-more`), until all bytes are read or a turn is refused memory.
 use Rattle.vte.proofs.ansi.updates.engine.Engine.advance.Goals as goal
 use Rattle.vte.proofs.Common.{arith, drop, length, take, ◌+◌, ◌-◌, ◌≡◌}
-use Rattle.vte.proofs.lemmas.turns.EngineTurns.{engine_reads-all, engine_reads-until, keeping_memory-same, reached-refused, reaches-more, reaches-nothing, rest-size}
+use Rattle.vte.proofs.lemmas.turns.EngineTurns.{engine_reads-all, engine_reads-until, reaches-same, rest-size, taken_turns-more, taken_turns-none, taken_turns-refused}
 
 -- Before the first turn, nothing is read.
 pub loop-turn-init : goal.loop-turn-init
@@ -9,7 +9,7 @@ loop-turn-init g c =
     record {
       within = omega arith;
       some = λ some_bytes. some_bytes;
-      reaches = λ state is_at. reaches-nothing _ state c.args.bytes.now (keeping_memory-same is_at);
+      reaches = λ state is_at. taken_turns-none _ state c.args.bytes.now (reaches-same is_at);
     }
 
 -- After one more turn, bytes are left.
@@ -20,10 +20,7 @@ loop-turn-preserved g c =
     record {
       within = omega (arith, before.within, c.in-Ok.ensures.within, size);
       some = λ turns_left. omega (arith, before.within, c.in-Ok.ensures.within, size, c.if-read-bytes.false);
-      reaches = λ state is_at.
-          let reached = before.reaches state is_at in
-          reaches-more _ state c.args.bytes.now reached (before.some c.loop-turn-test.true)
-          (c.in-Ok.ensures.turned reached.here reached.is_at.engine_at).turned;
+      reaches = taken_turns-more before.reaches (before.some c.loop-turn-test.true) c.in-Ok.ensures.turned;
     }
 
 -- A turn has bytes to read.
@@ -38,11 +35,8 @@ take_turn-requires g c =
 pub returns-then-read-bytes : goal.returns-then-read-bytes
 returns-then-read-bytes g c =
     let before = c.loop-turn.invariant in
-    engine_reads-all c.args.bytes.now (λ state is_at. (
-    let reached =
-    before.reaches state is_at in
-    reaches-more _ state c.args.bytes.now reached (before.some c.loop-turn-test.true)
-    (c.in-Ok.ensures.turned reached.here reached.is_at.engine_at).turned))
+    engine_reads-all c.args.bytes.now
+    (taken_turns-more before.reaches (before.some c.loop-turn-test.true) c.in-Ok.ensures.turned)
     (λ state is_at. c.if-read-bytes.true)
 
 -- The turn was refused memory.
@@ -53,11 +47,7 @@ returns-in-Err g c =
     let size = rest-size bytes read c.loop-turn.invariant.within in
     let left : length (take (length bytes - read) (drop read bytes)) - c.in-Err.refused.read
     ≡ length bytes - (read + c.in-Err.refused.read) = omega (arith, size) in
-    engine_reads-until c.args.bytes.now
-    (λ state is_at.
-    (let reached = c.loop-turn.invariant.reaches state is_at in
-    reached-refused _ state bytes reached c.loop-turn.invariant.within
-    (c.in-Err.ensures.turned reached.here reached.is_at.engine_at).refused))
+    engine_reads-until bytes (taken_turns-refused c.loop-turn.invariant.reaches c.in-Err.ensures.turned)
     (omega (arith, c.loop-turn.invariant.within, c.in-Err.ensures.within, size))
     (rw left at c.in-Err.ensures.lacks_memory)
 

@@ -1,7 +1,7 @@
 -- The turns so far have led to a state in which the processor is. Each reads a byte or more.
 use Rattle.vte.proofs.ansi.updates.engine.Engine.advance.Given as goal
-use Rattle.vte.proofs.Common.{engine_facts, engine_view, IsAt, IsAtKeepingMemory, length, processor_meaning, State, ◌<◌, ◌≤◌}
-use Rattle.vte.proofs.lemmas.turns.EngineTurns.{HasReached}
+use Rattle.vte.proofs.Common.{engine_facts, engine_view, FromEachState, length, processor_meaning, ◌<◌, ◌≤◌}
+use Rattle.vte.proofs.lemmas.turns.EngineTurns.{HasTakenTurns}
 
 abbrev pub invariant-loop-turn : goal.invariant-loop-turn
 invariant-loop-turn g l =
@@ -12,9 +12,7 @@ invariant-loop-turn g l =
     record {
       within : l.read ≤ length l.bytes;
       some : l._turn < length l.bytes → l.read < length l.bytes;
-      reaches : (state : State g.H.Handler.Value g.T.Timeout.Value)
-          → IsAt (engine_facts view l.initial.self) (g.H.Handler.value_of l.initial.handler) state
-          → HasReached meaning state l.bytes l._turn l.read
-          (IsAtKeepingMemory (engine_facts view l.initial.self) (engine_facts view l.self)
-          (g.H.Handler.value_of l.handler));
+      reaches : FromEachState (engine_facts view l.initial.self) (engine_facts view l.self)
+          (g.H.Handler.value_of l.initial.handler) (g.H.Handler.value_of l.handler)
+          (λ state. HasTakenTurns meaning state l.bytes l._turn l.read);
     }

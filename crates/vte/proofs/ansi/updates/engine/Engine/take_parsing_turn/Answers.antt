@@ -3,7 +3,7 @@
 use Rattle.vte.proofs.ansi.updates.engine.Engine.take_parsing_turn.Goals.{then-begins-via-else-begins+then-read-bytes, then-begins-via-then-begins}
 use Rattle.vte.proofs.ansi.updates.engine.Engine.take_parsing_turn.Goals as goal
 use Rattle.vte.proofs.Common.{arith, refl, sym, ◌∙◌}
-use Rattle.vte.proofs.lemmas.turns.EngineTurns.{keeping_memory-reserved, keeping_memory-same, slice-parsed}
+use Rattle.vte.proofs.lemmas.turns.EngineTurns.{reaches-reserved, reaches-same, slice-parsed}
 use Rattle.vte.proofs.lemmas.turns.Slices.{count-whole, parsing-all, parsing-ends, parsing-more, parsing-nothing, slice-size}
 
 -- Before the first slice, nothing is read.
@@ -12,7 +12,7 @@ loop-slice-init g c =
     record {
       within = omega arith;
       some = λ some_bytes. some_bytes;
-      reaches = λ state is_at. (omega arith, parsing-nothing _ state c.args.bytes.now (keeping_memory-same is_at));
+      reaches = λ state is_at. (omega arith, parsing-nothing _ state c.args.bytes.now (reaches-same is_at));
     }
 
 -- Memory was refused for a slice: the processor is before it.
@@ -23,7 +23,7 @@ returns-then-not-reserve-clause-parsed g c = λ state is_at.
       parsed = tt;
       refused = record {
         none_begin = so_far.none_begin;
-        is_at = keeping_memory-reserved c.reserve.ensures.reserved so_far.is_at;
+        is_at = reaches-reserved c.reserve.ensures.reserved so_far.is_at;
       };
     }
 

@@ -1,6 +1,6 @@
 -- The slices so far begin no update, and are parsed. Each has at least one byte, so the loop reads all.
 use Rattle.vte.proofs.ansi.updates.engine.Engine.take_parsing_turn.Given as goal
-use Rattle.vte.proofs.Common.{engine_facts, engine_view, HasParsedWithoutBegin, IsAt, IsAtKeepingMemory, length, processor_meaning, State, ◌<◌, ◌≤◌}
+use Rattle.vte.proofs.Common.{engine_facts, engine_view, FromEachState, HasParsedWithoutBegin, length, processor_meaning, ◌<◌, ◌≤◌}
 
 abbrev pub invariant-loop-slice : goal.invariant-loop-slice
 invariant-loop-slice g l =
@@ -11,10 +11,8 @@ invariant-loop-slice g l =
     record {
       within : l.read ≤ length l.bytes;
       some : l._slice < length l.bytes → l.read < length l.bytes;
-      reaches : (state : State g.H.Handler.Value g.T.Timeout.Value)
-          → IsAt (engine_facts view l.initial.self) (g.H.Handler.value_of l.initial.handler) state
-          → (l._slice ≤ l.read)
-          × HasParsedWithoutBegin meaning state l.bytes l.read
-          (IsAtKeepingMemory (engine_facts view l.initial.self) (engine_facts view l.self)
-          (g.H.Handler.value_of l.handler));
+      reaches : FromEachState (engine_facts view l.initial.self) (engine_facts view l.self)
+          (g.H.Handler.value_of l.initial.handler) (g.H.Handler.value_of l.handler)
+          (λ state IsReached. (l._slice ≤ l.read)
+          × HasParsedWithoutBegin meaning state l.bytes l.read IsReached);
     }

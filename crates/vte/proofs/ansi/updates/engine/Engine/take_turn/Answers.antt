@@ -2,8 +2,8 @@
 -- stopped if it is pending or bytes are held, and the turn parses.
 use Rattle.vte.proofs.ansi.updates.engine.Engine.take_turn.Goals.{else-pending-2+else-len-gt0, else-pending-via-else-pending, else-pending-via-then-pending+else-has_room, then-pending-2, then-pending-2-via-else-pending-2+then-len-gt0, then-pending-2-via-then-pending-2}
 use Rattle.vte.proofs.ansi.updates.engine.Engine.take_turn.Goals as goal
-use Rattle.vte.proofs.Common.{and-false, arith, engine_facts, engine_view, false, held_of, inr, IsAtKeepingMemory, length, max_held, nat_le, nat_tests, processor_meaning, refl, sym, true, ◌+◌, ◌<◌, ◌∙◌, ◌≡◌}
-use Rattle.vte.proofs.lemmas.turns.EngineTurns.{ends_turn, engine-at_stop, keeping_memory-reserved, keeping_memory-same, keeping_memory-then, turned_hold}
+use Rattle.vte.proofs.Common.{and-false, arith, engine_facts, engine_view, EngineReaches, false, held_of, inr, length, max_held, nat_le, nat_tests, processor_meaning, refl, sym, true, ◌+◌, ◌<◌, ◌∙◌, ◌≡◌}
+use Rattle.vte.proofs.lemmas.turns.EngineTurns.{ends_turn, engine-at_stop, reaches-reserved, reaches-same, reaches-then, turned_hold}
 use Rattle.vte.proofs.lemmas.turns.RefusedTurns.{refused-nothing}
 use Rattle.vte.proofs.lemmas.turns.TurnKinds.{is_held, is_stopped, stop_if_due}
 
@@ -24,7 +24,7 @@ returns-clause-turned g c = λ state is_at.
     g.T.Timeout.allows in
     let view = engine_view g.P.EventParser.limit g.P.EventParser.view g.B.TextBuffer.text_capacity g.T.Timeout.value_of
     in
-    let here : IsAtKeepingMemory (engine_facts view c.args.self.now)
+    let here : EngineReaches (engine_facts view c.args.self.now)
     (engine_facts view c.if-pending-2.self) (g.H.Handler.value_of c.if-pending-2.handler)
     (stop_if_due meaning pending state) = elim c.if-pending-2.branch [
       -- The update is stopped first.
@@ -42,7 +42,7 @@ returns-clause-turned g c = λ state is_at.
           let none_held : length state.held ≡ 0 =
           rw (← is_at.processor_is.holds) (omega (arith, branch.len.ensures.count, branch.if-len-gt0.false)) in
           let not_stopped : is_stopped pending state ≡ false = rw (branch.if-pending-2.false, none_held) refl in
-          rw (branch.self-is, branch.handler-is, not_stopped) (keeping_memory-same is_at)
+          rw (branch.self-is, branch.handler-is, not_stopped) (reaches-same is_at)
     ] in
     ends_turn pending
     (rw is_at.processor_is.timeout_is at c.pending_timeout-pending.ensures) not_held here _
@@ -52,14 +52,14 @@ returns-clause-turned g c = λ state is_at.
 -- A hold turn: an update is pending, the bytes fit the hold, and there is memory for them.
 pub returns-then-has_room-clause-turned : goal.returns-then-has_room-clause-turned
 returns-then-has_room-clause-turned g c = λ state is_at.
-    let here = keeping_memory-reserved c.reserve.ensures.reserved (keeping_memory-same is_at) in
+    let here = reaches-reserved c.reserve.ensures.reserved (reaches-same is_at) in
     let fits : nat_le (length state.held + length c.args.bytes.now) max_held ≡ true =
     rw (← is_at.processor_is.holds) (sym c.has_room.ensures ∙ c.if-has_room.true) in
     let held : is_held c.pending_timeout-pending.result state c.args.bytes.now ≡ true =
     rw (c.if-pending.true, fits) refl in
     record {
       turned = turned_hold _ (rw is_at.processor_is.timeout_is at c.pending_timeout-pending.ensures) held refl
-          (keeping_memory-then here
+          (reaches-then here
           (c.hold_bytes.ensures state here.engine_at
           (c.if-not-reserve.ensures.reserved.memory refl _ _ _ here.engine_at.processor_is)));
       refused = tt;
@@ -70,7 +70,7 @@ pub returns-then-not-reserve-clause-turned : goal.returns-then-not-reserve-claus
 returns-then-not-reserve-clause-turned g c =
     λ state is_at. record {
       turned = tt;
-      refused = refused-nothing _ (keeping_memory-reserved c.reserve.ensures.reserved (keeping_memory-same is_at));
+      refused = refused-nothing _ (reaches-reserved c.reserve.ensures.reserved (reaches-same is_at));
     }
 
 -- Memory was refused for all bytes, which fit the hold.

@@ -1,5 +1,6 @@
 //! A parser for C without a limit on operating system commands. Written by hand over the proved
-//! parser, which stops for memory; the records and the data area are written by proved code.
+//! parser, which stops for memory; the records and the data area are written by proved code. Its
+//! `feed`, `read_until_full` and `read_more` are those of `vte_c`'s feed.rt: change both together.
 //!
 //! The callers' rules of vte_long.h make it sound: they are those of ffi.rs, and a parser is one
 //! that `vte_long_parser_new` returned and that isn't freed.

@@ -111,8 +111,8 @@ def commit():
 
 
 def test_verdicts_that_are_older_than_their_file_are_counted(copy, monkeypatch):
-    def check():
-        return Tool("mutate", REPOSITORY=Repository(Path.cwd())).run("--check")
+    def run(word):
+        return Tool("mutate", REPOSITORY=Repository(Path.cwd())).run(word)
 
     run_git("init", "-q")
     verdict = MUTANT.replace("abc1234", commit())
@@ -120,14 +120,18 @@ def test_verdicts_that_are_older_than_their_file_are_counted(copy, monkeypatch):
         write(f"tools/mutants/c/{name}.edit", verdict)
     write("crates/c/src/a.rt", "pub struct B<T>(T);")
     commit()
-    assert check() == (0, "2 mutants, 0 faults, 0 verdicts older than their file\n")
+    assert run("--check") == (0, "2 mutants, 0 faults, 0 verdicts older than their file\n")
+    assert run("--old") == (0, "\n")
     write("crates/c/src/lib.rt", "fn d() { f(one); }")
     write(PATH, MUTANT.replace("abc1234", commit()))
     commit()
-    assert check() == (0, "2 mutants, 0 faults, 1 verdicts older than their file\n")
+    assert run("--check") == (0, "2 mutants, 0 faults, 1 verdicts older than their file\n")
+    write("tools/mutants/c/o.edit", MUTANT.partition("# refused")[0])
+    assert run("--old") == (0, "c/n\nc/o\n")
     run_git("clone", "-q", "--depth", "1", f"file://{Path.cwd()}", "shallow")
     monkeypatch.chdir("shallow")
-    assert check() == (0, "2 mutants, 0 faults\n")
+    assert run("--check") == (0, "2 mutants, 0 faults\n")
+    assert run("--old") == (2, "")
 
 
 def test_an_edit_of_must_fail_has_no_verdict_and_is_no_mutant(copy):
@@ -136,10 +140,10 @@ def test_an_edit_of_must_fail_has_no_verdict_and_is_no_mutant(copy):
         f"{PATH}: it is also in must-fail/"]
 
 
-def mutate(output, *words):
+def mutate(output, *words, **replaced):
     ran = SimpleNamespace(run=lambda *_, **__: SimpleNamespace(stdout=output), DEVNULL=None,
                           check_output=lambda *_, **__: "abc1234\n", PIPE=None)
-    return Tool("mutate", subprocess=ran).run(*map(str, words))[0]
+    return Tool("mutate", subprocess=ran, **replaced).run(*map(str, words))[0]
 
 
 def try_one_of_two(copy, said):
@@ -189,9 +193,22 @@ def test_all_mutants_are_tried(copy):
     assert other.read_text() == MUTANT.replace("goal", "x-y") and Path(PATH).read_text() == MUTANT
 
 
+@pytest.mark.parametrize("verdict, tried", [("abc1200", ["m.edit"]), ("abc1234", [])])
+def test_only_mutants_with_an_old_verdict_are_tried(copy, verdict, tried):
+    """If there is none, rt is not run."""
+    write(PATH, MUTANT.replace("abc1234", verdict))
+    write("tools/mutants/c/n.edit", MUTANT)
+    history = SimpleNamespace(has_history=lambda: True, list_history=lambda: (
+        ["abc1234", "abc1200"], {"crates/c/src/lib.rt": 0}))
+    said = "rt: must-fail c/m.edit: refused, as it must be: `x-y`: why\n" if tried else None
+    assert mutate(said, "--old", copy, REPOSITORY=history) == 0
+    assert [file.name for file in copy.rglob("*.edit")] == tried
+
+
 @pytest.mark.parametrize("words, output", [
     (["folder", "c/gone"], "there is no mutant c/gone"),
-    (["--check", "c/m"], "--check takes no folder or names"),
+    (["--check", "c/m"], "--check takes no folder or names, and no --old"),
+    (["--check", "--old"], "--check takes no folder or names, and no --old"),
     ([], "a folder outside the repository is needed, for a copy"),
     (["in"], "a folder outside the repository is needed, for a copy"),
     (["../used"], "a folder outside the repository is needed, for a copy"),

@@ -8,10 +8,11 @@ use std::io::{self, Read, Write};
 /// A source of bytes.
 ///
 /// A source that has failed stays failed.
-// proof: the bytes still to come, if they are known, and whether it has failed define its meaning.
 pub trait Source {
+    /// The bytes still to come, if they are known.
     ghost remaining: { Self → Option (List ℕ) };
 
+    /// Whether a read has failed.
     ghost has_failed: { Self → Bool };
 
     /// Reads the next bytes into the front of `buffer`, and returns how many. Reads 0 bytes only at
@@ -35,10 +36,11 @@ pub trait Source {
 /// A destination for bytes.
 ///
 /// A sink that has failed stays failed.
-// proof: the bytes taken, if they are known, and whether it has failed define its meaning.
 pub trait Sink {
+    /// The bytes taken, if they are known.
     ghost contents: { Self → Option (List ℕ) };
 
+    /// Whether a write or a flush has failed.
     ghost has_failed: { Self → Bool };
 
     /// Takes all of the bytes.

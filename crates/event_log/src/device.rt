@@ -1,6 +1,6 @@
 //! Readers and writers.
 ghost use Rattle.std.specs.Io.KnownBytes.{Appends, Consumes, IsAtEnd, Keeps};
-ghost use Rattle.std.specs.Prelude.{Bool, false, IfOk, is_err, is_some, IsTrue, length, List, OnErr, OnOk, Option, take, ℕ, ◌<◌, ◌≡◌, ◌≤◌};
+ghost use Rattle.std.specs.Prelude.{Bool, false, IfOk, is_err, is_some, IsTrue, length, List, Ok, OnErr, OnOk, Option, take, ℕ, ◌<◌, ◌≡◌, ◌≤◌};
 ghost use Rattle.event_log.specs.Device.{device_failed, device_inner, KeepsWhereKnown, known_if_working};
 
 use std::io::{self, Read, Write};
@@ -8,10 +8,11 @@ use std::io::{self, Read, Write};
 /// A source of bytes.
 ///
 /// A source that has failed stays failed.
-// proof: the bytes still to come, if they are known, and whether it has failed define its meaning.
 pub trait Source {
+    /// The bytes still to come, if they are known.
     ghost remaining: { Self → Option (List ℕ) };
 
+    /// Whether a read has failed.
     ghost has_failed: { Self → Bool };
 
     /// Reads the next bytes into the front of `buffer`, and returns how many. Reads 0 bytes only at
@@ -35,10 +36,11 @@ pub trait Source {
 /// A destination for bytes.
 ///
 /// A sink that has failed stays failed.
-// proof: the bytes taken, if they are known, and whether it has failed define its meaning.
 pub trait Sink {
+    /// The bytes taken, if they are known.
     ghost contents: { Self → Option (List ℕ) };
 
+    /// Whether a write or a flush has failed.
     ghost has_failed: { Self → Bool };
 
     /// Takes all of the bytes.
@@ -89,6 +91,22 @@ impl<D> Device<D> {
     {
         self.error.as_ref()
     }
+
+    /// Keeps the error of a call of the reader or writer inside, and returns what else it gave.
+    fn keep_error<T>(&mut self, given: io::Result<T>) -> Result<T, ()>
+        requires not_failed { device_failed self.old ≡ false }
+        ensures same_inner { device_inner self.new ≡ device_inner self.old }
+        ensures fails { is_err result ≡ device_failed self.new }
+        ensures given { IfOk result (λ value. given ≡ Ok value) }
+    {
+        match given {
+            Ok(value) => Ok(value),
+            Err(error) => {
+                self.error = Some(error);
+                Err(())
+            }
+        }
+    }
 }
 
 impl<D: Read> Source for Device<D> {
@@ -101,13 +119,8 @@ impl<D: Read> Source for Device<D> {
         if self.error.is_some() {
             return Err(());
         }
-        match self.inner.read(buffer) {
-            Ok(count) => Ok(count),
-            Err(error) => {
-                self.error = Some(error);
-                Err(())
-            }
-        }
+        let given = self.inner.read(buffer);
+        self.keep_error(given)
     }
 }
 
@@ -121,25 +134,15 @@ impl<D: Write> Sink for Device<D> {
         if self.error.is_some() {
             return Err(());
         }
-        match self.inner.write_all(bytes) {
-            Ok(()) => Ok(()),
-            Err(error) => {
-                self.error = Some(error);
-                Err(())
-            }
-        }
+        let given = self.inner.write_all(bytes);
+        self.keep_error(given)
     }
 
     fn flush(&mut self) -> Result<(), ()> {
         if self.error.is_some() {
             return Err(());
         }
-        match self.inner.flush() {
-            Ok(()) => Ok(()),
-            Err(error) => {
-                self.error = Some(error);
-                Err(())
-            }
-        }
+        let given = self.inner.flush();
+        self.keep_error(given)
     }
 }

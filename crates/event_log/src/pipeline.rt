@@ -79,6 +79,7 @@ fn run_with<C: Collector, R: Source, W: Sink>(
             return Err(Fault::Write);
         }
     }
+    // Every loop is proved to end: this is after 2^64 - 1 reads.
     Err(Fault::Read)
 }
 

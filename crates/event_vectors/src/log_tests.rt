@@ -5,7 +5,9 @@ mod flushes;
 
 use self::devices::{AtMost, Chunks, Written};
 use crate::tests::repeated_bytes;
-use crate::vectors::{LinesVector, failing_reads, joined_lines, long_lines, plain, tables};
+use crate::vectors::{
+    DEFAULT_SIZE, LinesVector, failing_reads, joined_lines, long_lines, plain, tables,
+};
 use event_log::{Device, Fault, Plain, Recorder, run, run_text};
 use std::alloc::{AllocError, Global};
 use std::process::Abort;
@@ -62,8 +64,8 @@ fn assert_written(
 
 fn assert_vectors(rt: &(impl Abort + AllocGlobal), vectors: &[LinesVector]) -> Result<(), Fail> {
     for vector in vectors {
-        // The parser of a run has a buffer of 1,024 bytes.
-        if vector.size == 1024 {
+        // The parser of a run has this size.
+        if vector.size == DEFAULT_SIZE {
             let bytes = vector.bytes(rt.alloc())?;
             let text = vector.text(rt.alloc())?;
             let (bytes, text) = (bytes.as_slice(), text.as_bytes());

@@ -1,6 +1,6 @@
 //! Runs over memory that was allocated before need no more.
 
-use crate::vectors::{LinesVector, tables};
+use crate::vectors::{DEFAULT_SIZE, LinesVector, tables};
 use bumpalo::Bump;
 use event_log::{Device, run};
 use std::process::Abort;
@@ -9,8 +9,8 @@ use std::test::Fail;
 /// Checks that, with every allocation refused, a run writes the lines of a vector into memory that
 /// was allocated before.
 fn assert_written(rt: &(impl Abort + AllocGlobal), vector: &LinesVector) -> Result<(), Fail> {
-    // The parser of a run has a buffer of 1,024 bytes.
-    if vector.size != 1024 {
+    // The parser of a run has this size.
+    if vector.size != DEFAULT_SIZE {
         return Ok(());
     }
     let bytes = vector.bytes(rt.alloc())?;

@@ -87,7 +87,8 @@ fn assert_vector_when_saved(
     rt: &(impl Abort + AllocGlobal),
     vector: &LinesVector,
 ) -> Result<(), Fail> {
-    if vector.size != 1024 {
+    // Only a parser of this size can be saved.
+    if vector.size != vectors::DEFAULT_SIZE {
         return Ok(());
     }
     let want = vector.text(rt.alloc())?;

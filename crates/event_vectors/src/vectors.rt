@@ -26,6 +26,9 @@ pub(crate) fn tables() -> [&'static [LinesVector]; 5] {
     ]
 }
 
+/// The size of the buffer of a parser that can be saved, and of the parser of a run.
+pub(crate) const DEFAULT_SIZE: usize = 1024;
+
 /// A stream in chunks, for a parser whose buffer has `size` bytes.
 pub(crate) struct LinesVector {
     pub(crate) name: &'static str,

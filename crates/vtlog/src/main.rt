@@ -34,7 +34,7 @@ The manual page vtlog(1) describes the lines and the exit statuses.
 const HINT: &str = "it reads standard input, as in vtlog text <FILE; see vtlog --help";
 
 /// What is written.
-#[derive(Clone, Copy, Debug, PartialEq, Eq)]
+#[derive(Clone, Copy)]
 enum Mode {
     /// One line per event.
     Lines,
@@ -168,34 +168,5 @@ fn describe_outcome(outcome: &Result<(), Fault>) -> (u8, &'static str)
         Ok(()) => (0, ""),
         Err(Fault::Read) => (1, "vtlog: read failed"),
         Err(Fault::Write) => (1, "vtlog: write failed"),
-    }
-}
-
-#[cfg(test)]
-mod tests {
-    use super::*;
-
-    #[test]
-    fn arguments_choose_the_mode(rt: HostRuntime) {
-        for (args, wanted) in [
-            (&[][..], Some(Mode::Lines)),
-            (&["text"][..], Some(Mode::Text)),
-            (&["Text"][..], None),
-            (&[""][..], None),
-            (&["text", "text"][..], None),
-        ] {
-            assert_eq!(rt; choose_mode(args), wanted);
-        }
-    }
-
-    #[test]
-    fn ends_with_status_and_words(rt: HostRuntime) {
-        for (outcome, wanted) in [
-            (Ok(()), (0, "")),
-            (Err(Fault::Read), (1, "vtlog: read failed")),
-            (Err(Fault::Write), (1, "vtlog: write failed")),
-        ] {
-            assert_eq!(rt; describe_outcome(&outcome), wanted);
-        }
     }
 }

@@ -98,6 +98,7 @@ module _ (text_of : Event → List ℕ) (small : UnitsFit text_of) (units : Repo
     (stream bytes : List ℕ)
     (old : CollectedText) (nothing_lost : old.lost ≡ false)
     (room : HasRoomForUnit old) where
+  -- Of these events the whole text is collected, and none is lost.
   abbrev Takes : List Event → Type 0
   Takes events =
       after (with_event text_of) old events ≡ collected_bytes (old.bytes ++ flat_map text_of events) false

@@ -70,9 +70,11 @@ pieces_fields-as_pushed bytes_of pieces = rw (length-map, flat_map-map hex_field
 
 -- The table has them: a test of all 256 entries computes to true.
 
+-- The two digits that the table has for a byte.
 abbrev entry : ℕ → List ℕ
 entry b = get_or HEX_PAIRS.now (2 * b) 0 ∷ get_or HEX_PAIRS.now (2 * b + 1) 0 ∷ []
 
+-- Whether the table has the digits of each byte below n.
 abbrev entries_match : ℕ → Bool
 entries_match zero = true
 entries_match (suc n) = bytes_eq (entry n) (hex_byte n) && entries_match n

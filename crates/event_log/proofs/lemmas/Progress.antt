@@ -93,6 +93,7 @@ written-kept {next_contents} has_written keeps =
 
 -- ---- a log
 
+-- The text of all events of a stream.
 abbrev output_of : (Event → List ℕ) → List ℕ → List ℕ
 output_of text_of stream = flat_map text_of (events default_limit stream)
 

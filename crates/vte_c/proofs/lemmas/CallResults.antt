@@ -72,6 +72,7 @@ module _ {A : Type 0} {of : List Event → List A} where
 
 module _ (old new : EventWriter) (input : List ℕ) (entries : List Entry) (are_empty : AreEmptyBuffers (buffers_of old))
     (has_entries : HasEntries (buffers_of old) (buffers_of new) input entries) (more : List ℕ) where
+  -- What the buffers hold encodes the events of the entries, whatever bytes follow the input.
   abbrev events-encoded : AreEncoded (flat_map (entry_events (input ++ more)) entries) new.record_count new.data_used
       new.records.now
       (input ++ more) new.area.now

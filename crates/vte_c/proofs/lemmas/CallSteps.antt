@@ -110,6 +110,7 @@ pub record Laws : Type 0 where
 module _ (old new : Buffers) (already_read bytes : List ℕ) (from n : ℕ) (laws : Laws)
     (not_returning : must_return old ≡ false)
     (comes : ComesTo buffers_with_event must_return old default_limit already_read (drop from bytes) new n) where
+  -- What the call reports before position i, its first byte being at `from`.
   abbrev given_at : ℕ → List Event
   given_at i = reported_before default_limit already_read (drop from bytes) i
 
@@ -235,6 +236,7 @@ module _ (old mid new : Buffers) (already_read bytes : List ℕ) (from : ℕ) (r
     (laws : Laws) (not_returning : must_return old ≡ false) (begins : from ≤ length bytes)
     (returned : ReturnsRun buffers_with_event must_return old mid default_limit HasReadBefore (drop from bytes) run)
     (before : HasReadBefore already_read) where
+  -- The stream up to the start of the run.
   abbrev after_call : List ℕ
   after_call = resumed_stream already_read (drop from bytes) run.start
 

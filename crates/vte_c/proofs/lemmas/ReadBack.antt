@@ -140,6 +140,7 @@ events-without_loss input area vte_record = elim (cases_Bool (vte_record.kind ==
       ap (events_of input area) same
 ]
 
+-- The same holds of several records.
 pub records-without_loss : (input area : List ℕ) (records : List VteEvent)
     → flat_map (events_of input area) (map without_loss records) ≡ flat_map (events_of input area) records
 records-without_loss input area [] = refl
@@ -170,6 +171,7 @@ unfolding without_loss
 kind-without_loss vte_record =
     elim (cases_Bool (vte_record.kind == osc_kind)) [ inl command ↦ rw command refl | inr other ↦ rw other refl ]
 
+-- Nor does it change the kinds of records.
 pub kinds-without_loss : (records : List VteEvent) → kinds_of (map without_loss records) ≡ kinds_of records
 kinds-without_loss [] = refl
 kinds-without_loss (vte_record ∷ records) = rw (kind-without_loss vte_record, kinds-without_loss records) refl
@@ -201,6 +203,7 @@ run-later input more run start size is_run =
       is_of_kind = rw same is_run.is_of_kind;
     }
 
+-- Entries that can be read from an input can be read from a longer one.
 pub readable-later : (input more : List ℕ) (entries : List Entry) → AreReadable input entries
     → AreReadable (input ++ more) entries
 readable-later input more [] readable = tt
@@ -208,6 +211,7 @@ readable-later input more (Single event ∷ entries) readable = (readable.0, rea
 readable-later input more (InInput run start size ∷ entries) readable =
     (run-later input more run start size readable.0, readable-later input more entries readable.1)
 
+-- They report the same events there.
 pub entry_events-later : (input more : List ℕ) (entries : List Entry) → AreReadable input entries
     → flat_map (entry_events (input ++ more)) entries ≡ flat_map (entry_events input) entries
 entry_events-later input more [] readable = refl

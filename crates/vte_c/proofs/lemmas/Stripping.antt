@@ -8,6 +8,7 @@ use Rattle.vte_core.specs.RunText.{run_event}
 
 -- ---- texts that have room
 
+-- The buffer after all of a text was written into it.
 abbrev with_all : WrittenText → List ℕ → WrittenText
 with_all buffer text = record buffer { text = buffer.text ++ text; used = buffer.used + length text }
 

@@ -54,6 +54,17 @@ impl<D> Device<D> {
     pub fn error(&self) -> Option<&io::Error> {
         self.error.as_ref()
     }
+
+    /// Keeps the error of a call of the reader or writer inside, and returns what else it gave.
+    fn keep_error<T>(&mut self, given: io::Result<T>) -> Result<T, ()> {
+        match given {
+            Ok(value) => Ok(value),
+            Err(error) => {
+                self.error = Some(error);
+                Err(())
+            }
+        }
+    }
 }
 
 impl<D: Read> Source for Device<D> {
@@ -61,13 +72,8 @@ impl<D: Read> Source for Device<D> {
         if self.error.is_some() {
             return Err(());
         }
-        match self.inner.read(buffer) {
-            Ok(count) => Ok(count),
-            Err(error) => {
-                self.error = Some(error);
-                Err(())
-            }
-        }
+        let given = self.inner.read(buffer);
+        self.keep_error(given)
     }
 }
 
@@ -76,25 +82,15 @@ impl<D: Write> Sink for Device<D> {
         if self.error.is_some() {
             return Err(());
         }
-        match self.inner.write_all(bytes) {
-            Ok(()) => Ok(()),
-            Err(error) => {
-                self.error = Some(error);
-                Err(())
-            }
-        }
+        let given = self.inner.write_all(bytes);
+        self.keep_error(given)
     }
 
     fn flush(&mut self) -> Result<(), ()> {
         if self.error.is_some() {
             return Err(());
         }
-        match self.inner.flush() {
-            Ok(()) => Ok(()),
-            Err(error) => {
-                self.error = Some(error);
-                Err(())
-            }
-        }
+        let given = self.inner.flush();
+        self.keep_error(given)
     }
 }

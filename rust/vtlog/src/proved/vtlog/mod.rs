@@ -29,7 +29,7 @@ The manual page vtlog(1) describes the lines and the exit statuses.
 const HINT: &str = "it reads standard input, as in vtlog text <FILE; see vtlog --help";
 
 /// What is written.
-#[derive(Clone, Copy, Debug, PartialEq, Eq)]
+#[derive(Clone, Copy)]
 enum Mode {
     /// One line per event.
     Lines,

@@ -16,34 +16,38 @@ use Rattle.vte_core.specs.Stream.{added, events}
 
 -- ---- what is true between the parts of a turn
 
--- The parser, the state lent to it and the handler's value are as the state says, whatever is held.
+-- The parser, the processor's state and the handler's value are as the state says, whatever is
+-- held.
 pub record PartsAreAt {P B T V W : Type 0} (view : EngineView P B T W) (parser : P)
-    (lent : ProcessorState T B) (value : V) (state : State V W) : Type 0 where
+    (processor_state : ProcessorState T B) (value : V) (state : State V W) : Type 0 where
   pub has_read : view.parser.has_read parser state.parsed
-  pub last : lent.last_printed ≡ last_printed (events view.limit state.parsed)
-  pub timeout_is : view.timeout_of lent.timeout ≡ state.timeout
+  pub last : processor_state.last_printed ≡ last_printed (events view.limit state.parsed)
+  pub timeout_is : view.timeout_of processor_state.timeout ≡ state.timeout
   pub handler_is : value ≡ state.handler
 
 -- `PartsAreAt`, and there is memory for `count` bytes.
 pub record PartsAreAtWithMemory {P B T V W : Type 0} (view : EngineView P B T W) (parser : P)
-    (lent : ProcessorState T B) (value : V) (state : State V W) (count : ℕ) : Type 0 where
-  pub parts_at : PartsAreAt view parser lent value state
-  pub memory : view.parser.has_memory parser (view.text_capacity_of lent.text) state.parsed count
+    (processor_state : ProcessorState T B) (value : V) (state : State V W) (count : ℕ)
+    : Type 0 where
+  pub parts_at : PartsAreAt view parser processor_state value state
+  pub memory : view.parser.has_memory parser (view.text_capacity_of processor_state.text)
+      state.parsed count
 
 -- If there are bytes to parse, there is memory for them and `spare` more.
 abbrev pub PartsHaveMemory : {P B T V W : Type 0} → EngineView P B T W → P → ProcessorState T B
     → State V W → List ℕ → ℕ → Type 0
-PartsHaveMemory view parser lent state bytes spare =
-    0 < length bytes → view.parser.has_memory parser (view.text_capacity_of lent.text) state.parsed
-    (length bytes + spare)
+PartsHaveMemory view parser processor_state state bytes spare =
+    0 < length bytes → view.parser.has_memory parser (view.text_capacity_of processor_state.text)
+    state.parsed (length bytes + spare)
 
 -- The parts reach a state: they are at it (`PartsAreAt`), and for all bytes for which there was
 -- memory there still is.
 pub record PartsReach {P B T V W : Type 0} (view : EngineView P B T W) (parser : P)
-    (lent : ProcessorState T B) (next : P) (returned : ProcessorState T B)
+    (processor_state : ProcessorState T B) (next : P) (returned : ProcessorState T B)
     (value : V) (state : State V W) : Type 0 where
   pub parts_at : PartsAreAt view next returned value state
-  pub keeps_memory : KeepsMemory (view.parser.has_memory parser (view.text_capacity_of lent.text))
+  pub keeps_memory : KeepsMemory
+      (view.parser.has_memory parser (view.text_capacity_of processor_state.text))
       (view.parser.has_memory next (view.text_capacity_of returned.text))
 
 -- From each state that the parts are at, with memory for `count` bytes and more, a call ends as
@@ -51,17 +55,17 @@ pub record PartsReach {P B T V W : Type 0} (view : EngineView P B T W) (parser :
 abbrev pub FromEachStateOfParts : {P B T V W : Type 0} → EngineView P B T W
     → P → ProcessorState T B → V → P → ProcessorState T B → V
     → ℕ → (State V W → (State V W → Type 0) → Type 0) → Type 0
-FromEachStateOfParts view parser lent old next returned new count ends =
+FromEachStateOfParts view parser processor_state old next returned new count ends =
     (state : State _ _) (spare : ℕ)
-    → PartsAreAtWithMemory view parser lent old state (count + spare)
-    → ends state (PartsReach view parser lent next returned new)
+    → PartsAreAtWithMemory view parser processor_state old state (count + spare)
+    → ends state (PartsReach view parser processor_state next returned new)
 
 -- If there was memory for bytes and `spare` more, there is memory for these after the bytes.
 abbrev pub PartsLeaveMemory : {P B T V W : Type 0} → EngineView P B T W → P → ProcessorState T B → V
     → P → ProcessorState T B → List ℕ → Type 0
-PartsLeaveMemory {W} view parser lent old next returned bytes =
+PartsLeaveMemory {W} view parser processor_state old next returned bytes =
     (state : State _ W) (spare : ℕ)
-    → PartsAreAtWithMemory view parser lent old state (length bytes + spare)
+    → PartsAreAtWithMemory view parser processor_state old state (length bytes + spare)
     → view.parser.has_memory next (view.text_capacity_of returned.text)
     (state.parsed ++ bytes) spare
 
@@ -69,10 +73,10 @@ PartsLeaveMemory {W} view parser lent old next returned bytes =
 -- and `spare` more.
 abbrev pub ParsesReleased : {P B T V W : Type 0} → EngineView P B T W → Meaning V W
     → P → ProcessorState T B → V → P → ProcessorState T B → V → List ℕ → Type 0
-ParsesReleased view meaning parser lent old next returned new released =
-    (state : State _ _) (spare : ℕ) → PartsAreAt view parser lent old state
-    → PartsHaveMemory view parser lent state released spare
-    → PartsReach view parser lent next returned new (parse meaning state released)
+ParsesReleased view meaning parser processor_state old next returned new released =
+    (state : State _ _) (spare : ℕ) → PartsAreAt view parser processor_state old state
+    → PartsHaveMemory view parser processor_state state released spare
+    → PartsReach view parser processor_state next returned new (parse meaning state released)
 
 -- The engine and the handler's value are as the state says.
 abbrev pub EngineIsAt : {P B T A V W : Type 0} → EngineView P B T W → Engine P B T A → V

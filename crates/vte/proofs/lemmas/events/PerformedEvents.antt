@@ -63,19 +63,20 @@ module _ {H T B G V W : Type 0} (handler_of : H → V) (timeout_of : T → W) (t
   text_capacity_back = rw state-is (ap (λ performer. performer.text_capacity) value_is)
 
   -- What was lent comes back as `parse` leaves it, with the memory that was there.
-  pub performer-given_back : {P : Type 0} {view : ParserView P} {parser next : P} {lent : ProcessorState T B}
-      {value : V} {handler : H}
-      → PartsAreAt (engine_view m.limit view text_capacity_of timeout_of) parser lent value start
-      → old.last ≡ lent.last_printed → old.timeout ≡ timeout_of lent.timeout → old.handler ≡ value
-      → old.text_capacity ≡ text_capacity_of lent.text
+  pub performer-given_back : {P : Type 0} {view : ParserView P} {parser next : P}
+      {processor_state : ProcessorState T B} {value : V} {handler : H}
+      → PartsAreAt (engine_view m.limit view text_capacity_of timeout_of) parser processor_state value start
+      → old.last ≡ processor_state.last_printed → old.timeout ≡ timeout_of processor_state.timeout
+      → old.handler ≡ value
+      → old.text_capacity ≡ text_capacity_of processor_state.text
       → view.has_read next (start.parsed ++ bytes)
       → (old.handler_name ≡ new.handler.ghost_name → handler ≡ new.handler.now)
       → ((size : ℕ) → KeepsMemory (view.has_memory parser size) (view.has_memory next size))
-      → PartsReach (engine_view m.limit view text_capacity_of timeout_of) parser lent next state
+      → PartsReach (engine_view m.limit view text_capacity_of timeout_of) parser processor_state next state
       (handler_of handler)
       (parse m start bytes)
-  performer-given_back {lent} parts_at lent_last lent_timeout lent_handler lent_text_capacity has_read back_handler
-      keeps_memory =
+  performer-given_back {processor_state} parts_at lent_last lent_timeout lent_handler lent_text_capacity has_read
+      back_handler keeps_memory =
       -- The handler that comes back is the one that was lent.
       let handler_back = back_handler (sym (ap (λ performer. performer.handler_name) value_is)) in
       -- Before the bytes, the performer had the values of the state `start`.
@@ -94,7 +95,8 @@ module _ {H T B G V W : Type 0} (handler_of : H → V) (timeout_of : T → W) (t
               rw (handler_back, added_calls-events m.limit start.parsed bytes, ← last_is, ← handler_is)
               (ap (λ performer. performer.handler) value_is);
         };
-        keeps_memory = rw (text_capacity_back, lent_text_capacity) (keeps_memory (text_capacity_of lent.text));
+        keeps_memory =
+            rw (text_capacity_back, lent_text_capacity) (keeps_memory (text_capacity_of processor_state.text));
       }
 
 -- ---- an early stop reads the prefix

@@ -135,18 +135,19 @@ pub(crate) fn parse_all<
     T: Timeout + Drop,
     P: EventParser,
     G: ParseAs<H, T, P>,
->(parser: &mut P, lent: &mut ProcessorState<T, B>, handler: &mut H, bytes: &[u8])
+>(parser: &mut P, processor_state: &mut ProcessorState<T, B>, handler: &mut H, bytes: &[u8])
     ensures parsed { FromEachStateOfParts
         (engine_view P.limit P.view B.text_capacity T.value_of)
-        parser.old lent.old (H.value_of handler.old)
-        parser.new lent.new (H.value_of handler.new) (length bytes.now)
+        parser.old processor_state.old (H.value_of handler.old)
+        parser.new processor_state.new (H.value_of handler.new) (length bytes.now)
         (λ state IsReached. IsReached (parse
         (processor_meaning P.limit H.step T.set T.clear T.allows) state bytes.now)) }
     ensures leaves_memory { PartsLeaveMemory (engine_view P.limit P.view B.text_capacity T.value_of)
-        parser.old lent.old (H.value_of handler.old) parser.new lent.new bytes.now }
+        parser.old processor_state.old (H.value_of handler.old)
+        parser.new processor_state.new bytes.now }
 {
     let mut performer = Performer {
-        state: lent,
+        state: processor_state,
         handler,
         terminated: false,
         granularity: PhantomData::<G>,
@@ -162,18 +163,23 @@ pub(crate) fn parse_until_begin<
     T: Timeout + Drop,
     P: EventParser,
     G: ParseAs<H, T, P>,
->(parser: &mut P, lent: &mut ProcessorState<T, B>, handler: &mut H, bytes: &[u8]) -> (usize, bool)
+>(
+    parser: &mut P,
+    processor_state: &mut ProcessorState<T, B>,
+    handler: &mut H,
+    bytes: &[u8],
+) -> (usize, bool)
     ensures within { result.0 ≤ length bytes.now }
     ensures parses_prefix { FromEachStateOfParts
         (engine_view P.limit P.view B.text_capacity T.value_of)
-        parser.old lent.old (H.value_of handler.old)
-        parser.new lent.new (H.value_of handler.new) (length bytes.now)
+        parser.old processor_state.old (H.value_of handler.old)
+        parser.new processor_state.new (H.value_of handler.new) (length bytes.now)
         (λ state. HasParsedPrefix
         (processor_meaning P.limit H.step T.set T.clear T.allows) state bytes.now
         result.0 result.1) }
 {
     let mut performer = Performer {
-        state: lent,
+        state: processor_state,
         handler,
         terminated: false,
         granularity: PhantomData::<G>,

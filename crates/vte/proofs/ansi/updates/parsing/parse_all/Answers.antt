@@ -11,7 +11,7 @@ returns-clause-parsed g c = λ state spare ready.
     performer-given_back g.H.Handler.value_of g.T.Timeout.value_of g.B.TextBuffer.text_capacity meaning state
     c.args.bytes.now
     _
-    c.advance.new.performer parses.fits parses.performs c.lent-1.given.1
+    c.advance.new.performer parses.fits parses.performs c.processor_state-1.given.1
     ready.parts_at refl refl refl refl parses.reads c.handler-1.given.1 c.advance.ensures.keeps_memory
 
 pub returns-clause-leaves_memory : goal.returns-clause-leaves_memory
@@ -22,5 +22,5 @@ returns-clause-leaves_memory g c = λ state spare ready.
     let same =
     text_capacity_back g.H.Handler.value_of g.T.Timeout.value_of g.B.TextBuffer.text_capacity meaning state
     c.args.bytes.now _
-    c.advance.new.performer parses.fits parses.performs c.lent-1.given.1 in
+    c.advance.new.performer parses.fits parses.performs c.processor_state-1.given.1 in
     rw same parses.memory

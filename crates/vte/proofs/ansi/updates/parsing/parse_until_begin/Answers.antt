@@ -14,8 +14,8 @@ returns-clause-parses_prefix g c = λ state spare ready.
     let prefix = prefix_to_begin g.P.EventParser.limit state.parsed bytes in
     let ends = c.advance_until_begin-read.ensures.stops state.parsed spare ready.parts_at.has_read ready.memory in
     let fit =
-    prefix_fits (g.B.TextBuffer.text_capacity c.args.lent.now.text) g.P.EventParser.limit state.parsed prefix
-    (drop (length prefix) bytes)
+    prefix_fits (g.B.TextBuffer.text_capacity c.args.processor_state.now.text) g.P.EventParser.limit state.parsed
+    prefix (drop (length prefix) bytes)
     (rw (prefix-rest g.P.EventParser.limit state.parsed bytes) ends.fits) in
     record {
       count = stops_at_prefix meaning refl ends.stops;
@@ -24,7 +24,7 @@ returns-clause-parses_prefix g c = λ state spare ready.
           performer-given_back g.H.Handler.value_of g.T.Timeout.value_of g.B.TextBuffer.text_capacity meaning state
           prefix _
           c.advance_until_begin-read.new.performer fit (stop_performs meaning refl ends.stops)
-          c.lent-1.given.1 ready.parts_at refl refl refl refl
+          c.processor_state-1.given.1 ready.parts_at refl refl refl refl
           (rw (stop_stream meaning refl ends.stops) at ends.reads) c.handler-1.given.1
           c.advance_until_begin-read.ensures.keeps_memory;
     }

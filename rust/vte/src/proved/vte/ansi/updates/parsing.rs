@@ -91,12 +91,12 @@ pub(crate) fn parse_all<
     G: ParseAs<H, T, P>,
 >(
     parser: &mut P,
-    lent: &mut ProcessorState<T, B>,
+    processor_state: &mut ProcessorState<T, B>,
     handler: &mut H,
     bytes: &[u8],
 ) {
     let mut performer = Performer {
-        state: lent,
+        state: processor_state,
         handler,
         terminated: false,
         granularity: PhantomData::<G>,
@@ -114,12 +114,12 @@ pub(crate) fn parse_until_begin<
     G: ParseAs<H, T, P>,
 >(
     parser: &mut P,
-    lent: &mut ProcessorState<T, B>,
+    processor_state: &mut ProcessorState<T, B>,
     handler: &mut H,
     bytes: &[u8],
 ) -> (usize, bool) {
     let mut performer = Performer {
-        state: lent,
+        state: processor_state,
         handler,
         terminated: false,
         granularity: PhantomData::<G>,

@@ -1,4 +1,8 @@
 //! The bytes of a character after the first.
+//!
+//! `continue_character` reads any of them, byte by byte. For a character that begins in this call,
+//! `complete_three` and `complete_four` read the same without a loop, and test only once how many
+//! bytes it has.
 ghost use Rattle.std.specs.Prelude.{false, length, slice_index, true, [], ◌*◌, ◌+◌, ◌<◌, ◌≡◌, ◌≢◌, ◌≤◌};
 ghost use Rattle.vte_core.specs.private.Prelude.{Advances, BeginsFour, BeginsThree, bytes_of, caller_looks, chunk_call, Completes, Empty, HasNoRunAt, IsLead, lookahead, looks_of, MayReadByte, NoCharacterStops, One, per_byte, ReadsWithin, SpendsWithin, Text};
 
@@ -67,7 +71,7 @@ impl<B: Buffer> Machine<B> {
 
     /// Reads the character of three bytes that begins at `from`.
     #[inline(always)]
-    pub(crate) fn complete_three<P: CountedPerform<G>, G: Granularity, const MAY_STOP: bool>(
+    fn complete_three<P: CountedPerform<G>, G: Granularity, const MAY_STOP: bool>(
         &mut self,
         reader: &mut Reader,
         performer: &mut P,
@@ -95,6 +99,7 @@ impl<B: Buffer> Machine<B> {
             return next;
         }
         if next + 1 >= input.len() {
+            // No byte is left for `continue_near_end`.
             self.state = State::Text(OpenCharacter::Two(first, second));
             return next + 1;
         }
@@ -111,7 +116,7 @@ impl<B: Buffer> Machine<B> {
     /// a run.
     #[inline(always)]
     // cargo: #[allow(unsafe_code)]
-    pub(crate) fn complete_four<P: CountedPerform<G>, G: Granularity, const MAY_STOP: bool>(
+    fn complete_four<P: CountedPerform<G>, G: Granularity, const MAY_STOP: bool>(
         &mut self,
         reader: &mut Reader,
         performer: &mut P,
@@ -146,6 +151,7 @@ impl<B: Buffer> Machine<B> {
             performer.print_char(reader, char::REPLACEMENT_CHARACTER);
             return next;
         }
+        // One comparison, whether one byte is missing or two.
         if next + 2 >= input.len() {
             return self.continue_near_end::<P, G, MAY_STOP>(
                 reader,
@@ -177,7 +183,8 @@ impl<B: Buffer> Machine<B> {
     }
 
     /// Continues a character that may not end in this call.
-    // Inlined in cargo's builds, it would take registers from the loops of text.
+    // Inlined in cargo's builds, it would take registers from the loops of text: 1.09 times the
+    // instructions on ASCII.
     // cargo instead: #[inline(never)]
     #[inline(always)]
     fn continue_near_end<P: CountedPerform<G>, G: Granularity, const MAY_STOP: bool>(

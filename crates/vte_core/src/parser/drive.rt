@@ -47,7 +47,7 @@ impl<B: Buffer> Machine<B> {
             (P.value_of performer.old) (P.value_of performer.new) result self.old self.new
             (looks_of reader.old) (looks_of reader.new) }
     {
-        let mut position = self.finish_character::<P, G, MAY_STOP>(reader, performer, input);
+        let mut position = self.continue_open_character::<P, G, MAY_STOP>(reader, performer, input);
         while position < input.len() {
             if MAY_STOP && performer.terminated() {
                 return Ok(position);
@@ -59,12 +59,11 @@ impl<B: Buffer> Machine<B> {
 
     /// Continues the character that an earlier call began, if one is open, as far as the bytes of
     /// this call go.
-    pub(crate) fn finish_character<P: CountedPerform<G>, G: Granularity, const MAY_STOP: bool>(
-        &mut self,
-        reader: &mut Reader,
-        performer: &mut P,
-        input: Input<'_>,
-    ) -> usize
+    pub(crate) fn continue_open_character<
+        P: CountedPerform<G>,
+        G: Granularity,
+        const MAY_STOP: bool,
+    >(&mut self, reader: &mut Reader, performer: &mut P, input: Input<'_>) -> usize
         ensures is_at_position { (stream : List ℕ) → HasReadWithLimit B.limit self.old stream →
             IsAtPosition (chunk_call MAY_STOP P.step P.is_terminated B.limit input.entry.bytes.now)
             (P.value_of performer.old) (P.value_of performer.new) stream result self.new }

@@ -234,6 +234,7 @@ impl<B: Buffer> Machine<B> {
             IsRefusedAt (chunk_call false P.step P.is_terminated B.limit input.entry.bytes.now)
             (P.value_of performer.new) 0 refused.read self.old self.new reader.old reader.new) }
     {
+        // `read_by_state` would read control sequences and data by functions with loops.
         Ok(match self.state {
             // Never: `drive_single_byte` reads text. A panic would stay in the program.
             State::Text(_) => 0,

@@ -61,7 +61,9 @@ impl<B: Buffer> Machine<B> {
         ensures outside_runs { (stream : List ℕ) → HasReadWithLimit B.limit self.old stream
             → ReportsOutsideRuns B.limit stream input.entry.bytes.now (read_before_range result) }
     {
-        let mut position = self.finish_character::<P, ByCharacter, true>(reader, performer, input);
+        let mut position = self.continue_open_character::<P, ByCharacter, true>(
+            reader, performer, input,
+        );
         while position < input.len() && !performer.terminated() {
             position = match self.state {
                 State::Text(_) => {

@@ -1,5 +1,9 @@
 // Written by tools/erase from crates/vte_core/src/parser/character.rt: edit that one.
 //! The bytes of a character after the first.
+//!
+//! `continue_character` reads any of them, byte by byte. For a character that begins in this call,
+//! `complete_three` and `complete_four` read the same without a loop, and test only once how many
+//! bytes it has.
 
 use crate::proved::vte_core::buffer::Buffer;
 use crate::proved::vte_core::parser::{Machine, State};
@@ -49,11 +53,7 @@ impl<B: Buffer> Machine<B> {
 
     /// Reads the character of three bytes that begins at `from`.
     #[inline(always)]
-    pub(crate) fn complete_three<
-        P: CountedPerform<G> + ?Sized,
-        G: Granularity,
-        const MAY_STOP: bool,
-    >(
+    fn complete_three<P: CountedPerform<G> + ?Sized, G: Granularity, const MAY_STOP: bool>(
         &mut self,
         reader: Reader,
         performer: &mut P,
@@ -68,6 +68,7 @@ impl<B: Buffer> Machine<B> {
             return next;
         }
         if next + 1 >= input.len() {
+            // No byte is left for `continue_near_end`.
             self.state = State::Text(OpenCharacter::Two(first, second));
             return next + 1;
         }
@@ -84,11 +85,7 @@ impl<B: Buffer> Machine<B> {
     /// a run.
     #[inline(always)]
     #[allow(unsafe_code)]
-    pub(crate) fn complete_four<
-        P: CountedPerform<G> + ?Sized,
-        G: Granularity,
-        const MAY_STOP: bool,
-    >(
+    fn complete_four<P: CountedPerform<G> + ?Sized, G: Granularity, const MAY_STOP: bool>(
         &mut self,
         reader: Reader,
         performer: &mut P,
@@ -102,6 +99,7 @@ impl<B: Buffer> Machine<B> {
             performer.print_char(reader, char::REPLACEMENT_CHARACTER);
             return next;
         }
+        // One comparison, whether one byte is missing or two.
         if next + 2 >= input.len() {
             return self.continue_near_end::<P, G, MAY_STOP>(
                 reader,
@@ -133,7 +131,8 @@ impl<B: Buffer> Machine<B> {
     }
 
     /// Continues a character that may not end in this call.
-    // Inlined in cargo's builds, it would take registers from the loops of text.
+    // Inlined in cargo's builds, it would take registers from the loops of text: 1.09 times the
+    // instructions on ASCII.
     #[inline(never)]
     fn continue_near_end<P: CountedPerform<G> + ?Sized, G: Granularity, const MAY_STOP: bool>(
         &mut self,

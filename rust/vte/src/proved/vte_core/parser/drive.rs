@@ -32,7 +32,7 @@ impl<B: Buffer> Machine<B> {
         performer: &mut P,
         input: &[u8],
     ) -> Result<usize, Refused> {
-        let mut position = self.finish_character::<P, G, MAY_STOP>(reader, performer, input);
+        let mut position = self.continue_open_character::<P, G, MAY_STOP>(reader, performer, input);
         while position < input.len() {
             if MAY_STOP && performer.terminated() {
                 return Ok(position);
@@ -44,7 +44,7 @@ impl<B: Buffer> Machine<B> {
 
     /// Continues the character that an earlier call began, if one is open, as far as the bytes of
     /// this call go.
-    pub(crate) fn finish_character<
+    pub(crate) fn continue_open_character<
         P: CountedPerform<G> + ?Sized,
         G: Granularity,
         const MAY_STOP: bool,

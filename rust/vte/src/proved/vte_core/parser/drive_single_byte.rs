@@ -152,6 +152,7 @@ impl<B: Buffer> Machine<B> {
         performer: &mut P,
         input: &[u8],
     ) -> Result<usize, Refused> {
+        // `read_by_state` would read control sequences and data by functions with loops.
         Ok(match self.state {
             // Never: `drive_single_byte` reads text. A panic would stay in the program.
             State::Text(_) => 0,

@@ -33,7 +33,8 @@ impl<B: Buffer> Machine<B> {
         performer: &mut P,
         input: &[u8],
     ) -> Result<RunRange, Refused> {
-        let mut position = self.finish_character::<P, ByCharacter, true>(reader, performer, input);
+        let mut position =
+            self.continue_open_character::<P, ByCharacter, true>(reader, performer, input);
         while position < input.len() && !performer.terminated() {
             position = match self.state {
                 State::Text(_) => {

@@ -5,11 +5,11 @@ use Rattle.vte_core.proofs.lemmas.positions.CallEnds.{call_ends-at_stop, call_en
 use Rattle.vte_core.proofs.lemmas.positions.SettledStates.{may_stop-some}
 use Rattle.vte_core.proofs.parser.machine.Machine.drive_loop.Goals as goal
 
--- The loop begins where the open character was completed.
+-- The loop begins after the bytes that continue an open character.
 pub loop-position-init : goal.loop-position-init
 loop-position-init g c =
-    let finished = c.finish_character-position.ensures in
-    record { is_at_position = finished.is_at_position; settled = finished.settled; spends = search rules }
+    let continued = c.continue_open_character-position.ensures in
+    record { is_at_position = continued.is_at_position; settled = continued.settled; spends = search rules }
 
 -- The bytes that the state's function reads lead from there to where it ends.
 pub loop-position-preserved : goal.loop-position-preserved

@@ -17,7 +17,7 @@ before_run-then is_before given advances = record {
       (advances.outside_runs given _ stream (is_before.is_at_position stream has_read));
 }
 
--- The loop begins where the open character was completed.
+-- The loop begins after the bytes that continue an open character.
 pub loop-position-init : goal.loop-position-init
 loop-position-init g c = search (rules, arith)
 

@@ -1,17 +1,17 @@
--- Without an open character the call is at its start. With one it is where that is completed.
+-- Without an open character the call is at its start. With one it is after the bytes that continue it.
 use Rattle.vte_core.proofs.Common.{arith, false≢true, rules, sym, ◌∙◌}
 use Rattle.vte_core.proofs.lemmas.positions.AddedEvents.{reports-nothing, reports-open}
 use Rattle.vte_core.proofs.lemmas.positions.CallEnds.{starts-at, starts-inside}
 use Rattle.vte_core.proofs.lemmas.positions.Characters.{open-in_text}
 use Rattle.vte_core.proofs.lemmas.positions.SettledStates.{settled-nothing, settled-outside, settled-same_state}
-use Rattle.vte_core.proofs.parser.machine.Machine.finish_character.Goals as goal
+use Rattle.vte_core.proofs.parser.machine.Machine.continue_open_character.Goals as goal
 
 -- A text without an open character.
 pub returns-then-is_empty-clause-is_at_position : goal.returns-then-is_empty-clause-is_at_position
 returns-then-is_empty-clause-is_at_position g c =
     search (rules, arith, starts-at, settled-same_state, settled-nothing)
 
--- An open character: what completes it begins inside it.
+-- An open character: what continues it begins inside it.
 pub returns-else-is_empty-clause-is_at_position : goal.returns-else-is_empty-clause-is_at_position
 returns-else-is_empty-clause-is_at_position g c =
     λ stream has_read.

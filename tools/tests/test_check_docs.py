@@ -103,6 +103,22 @@ def test_comments_of_sources_are_checked():
     assert find_failures(source, name="a.rt") == ["no source file contains four"] * 4
 
 
+@pytest.mark.parametrize("path, is_checked", [
+    ("crates/a/specs/B.antt", True), ("crates/a/specs/private/b/C.antt", True),
+    ("crates/a/proofs/lemmas/b/C.antt", True), ("crates/a/proofs/b/Answers.antt", False),
+    ("crates/a/specs/BExamples.antt", False), ("b/crates/a/specs/B.antt", False)])
+def test_a_comment_stands_above_each_definition(path, is_checked):
+    subprocess.run(["git", "init", "-q"], check=True)
+    write(path, "-- A.\nabbrev a : A\nabbrev pub b : B\n\nrecord C : Type 0 where\n  -- D.\n"
+                "  pub data D : Type 0 where\n\n  abbrev pub record E : Type 0 where\n-- F.\n\n"
+                "pub data F : Type 0 where\n\npub g : G\ng =\n  record { h = i }\nj =\n"
+                "  record k { h = i }\ndata-l : L\n")
+    lines = [3, 5, 9, 12] if is_checked else []
+    assert make_tool().run() == (bool(lines), "".join(
+        f"{path}:{line}: this definition has no comment above it\n" for line in lines)
+        + f"0 pages, {len(lines)} failures\n")
+
+
 # the name of a file, its text, and the lemmas that it names and no proof declares
 @pytest.mark.parametrize("name, text, wanted", [
     ("a.antt", "-- `one-two`, `one-X`, two-one, `two-one`\n`two-two`", "two-one"),

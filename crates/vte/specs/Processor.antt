@@ -13,7 +13,8 @@ use Rattle.vte_handler.specs.Timeout.{AllowsOnly, IsSteady, timeout_meaning, Tim
 
 -- ---- what a processor's parser, handler and timeout mean
 
--- What contracts know of a processor's limit, handler and timeout.
+-- The meaning of a processor: its limit, and what calls make of the values of its handler and its
+-- timeout. It stays the same, whatever the processor has read.
 pub record Meaning (V W : Type 0) : Type 1 where
   -- How many data bytes of an operating system command the parser keeps, if there is a limit.
   pub limit : Option ℕ

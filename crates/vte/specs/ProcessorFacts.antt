@@ -1,5 +1,5 @@
--- What contracts know of a processor: one record for all kinds, which is made of the engine that
--- each of them has.
+-- The facts of a processor at one moment, by which contracts speak of it: one record for all kinds,
+-- made of the engine that each of them has.
 use Rattle.std.specs.Prelude.{Bool, drop, length, List, None, ℕ, ⊤, ◌<◌, ◌≡◌}
 use Rattle.vte.specs.Calls.{last_printed}
 use Rattle.vte.specs.declared.ansi.bounded_processor.BoundedProcessor.{BoundedProcessor}
@@ -13,8 +13,8 @@ use Rattle.vte.specs.Memory.{HasTextMemory}
 use Rattle.vte.specs.Views.{engine_view, EngineView, limited_engine_view, long_parser_view}
 use Rattle.vte_core.specs.Stream.{events}
 
--- What is known of a processor, of whichever kind. `T` is the type of the processor's timeout, and
--- `W` that of the timeout's value.
+-- The facts of a processor of any kind. `T` is the type of its timeout, and `W` that of the
+-- timeout's value.
 pub record ProcessorFacts (T W : Type 0) : Type 1 where
   -- It has parsed bytes, and holds those that follow. The timeout has this value.
   pub has_parsed_and_holds : (parsed held : List ℕ) → (timeout : W) → Type 0
@@ -41,7 +41,8 @@ abbrev pub held_of : {A : Type 0} → SyncState A → List ℕ
 held_of hold = drop hold.released hold.bytes.items
 
 -- The engine has parsed bytes, and holds those that follow. It knows the last printed character,
--- and has the memory that its kind has at any time.
+-- and has the memory that its kind has at any time. To callers only two fields matter: what
+-- `sync_timeout` and `sync_bytes_count` tell is of this timeout and these held bytes.
 pub record HasParsedAndHolds {P B T A W : Type 0} (view : EngineView P B T W)
     (engine : Engine P B T A) (HasMemory : (parsed held : List ℕ) → Type 0)
     (parsed held : List ℕ) (timeout : W) : Type 0 where

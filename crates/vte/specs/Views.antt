@@ -1,5 +1,5 @@
--- What the parts of an engine mean, of a processor with a limit and of one without. Of the types,
--- `P` is the parser, `B` its buffer for texts, `T` the timeout, and `W` the timeout's value.
+-- The views of an engine's parts, from which its facts are made: with a limit and without. Of the
+-- types, `P` is the parser, `B` its buffer for texts, `T` the timeout, and `W` the timeout's value.
 use Rattle.std.specs.Prelude.{Bool, List, Option, Some, ℕ}
 use Rattle.vte.specs.Memory.{HasTextMemory, ParserHasMemory}
 use Rattle.vte_core.specs.declared.parser.long_parser.LongParser.{LongParser}

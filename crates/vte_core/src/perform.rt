@@ -16,6 +16,7 @@ pub trait Perform {
     /// What a performer stands for.
     ghost Value: { Type 0 };
 
+    /// The value of a performer as it is now.
     ghost value_of: { Self → Value };
 
     /// What one event makes of a value.
@@ -142,5 +143,6 @@ pub trait PerformText: Perform {
 /// A performer that isn't terminated by any character of a run, so it needn't be asked inside one.
 // cargo lacks: only proofs use it
 pub trait PerformThroughText: PerformText {
+    /// The proof that no character of a run terminates it.
     ghost no_stop: { NoCharacterStops Self.layout Self.step Self.is_terminated };
 }

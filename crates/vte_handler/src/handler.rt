@@ -37,6 +37,7 @@ pub trait Handler {
     /// The values that handlers stand for.
     ghost Value: { Type 0 };
 
+    /// The value that a handler stands for.
     ghost value_of: { Self → Value };
 
     /// The value after one call.

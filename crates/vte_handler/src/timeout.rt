@@ -11,6 +11,7 @@ pub trait Timeout {
     /// The values that timeouts stand for.
     ghost Value: { Type 0 };
 
+    /// The value that a timeout stands for.
     ghost value_of: { Self → Value };
 
     /// The value after it is set for this many nanoseconds.

@@ -1,4 +1,5 @@
-//! Colours and numbers of commands, as they are read by functions that aren't public.
+//! Colours and numbers of commands, as they are read by functions that aren't public. Their
+//! contracts say what they return, and here the built functions return it.
 use crate::ansi::calls::color_text::xparse_color;
 use crate::ansi::calls::numbers::parse_number;
 use vte_types::Rgb;

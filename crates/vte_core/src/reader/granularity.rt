@@ -89,7 +89,8 @@ impl<P: Perform> ReceiveAs<ByCharacter> for P {
         Perform::put(self, byte);
     }
 
-    // Never called: texts are reported only to performers that receive runs (`IN_RUNS`).
+    // Never called: texts are reported only to performers that receive runs (`IN_RUNS`). A premise
+    // that says so is refused, since no call could meet it.
     fn print_text(&mut self, text: &str) {
         for c in text.chars() {
             Perform::print(self, c);

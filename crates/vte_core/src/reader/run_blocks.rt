@@ -3,6 +3,7 @@
 //! Whether a byte fits depends only on the three bytes before it. So no test waits for another, and
 //! compilers turn the tests of a block into vector instructions if they have no `&&` and `||`. But
 //! the block in which a run ends is read without use, so only long runs come here.
+// proof: specs/private/Costs says what the bounds on looks are made of.
 ghost use Rattle.std.specs.Prelude.{length, slice_index, true, ℕ, ◌*◌, ◌+◌, ◌-◌, ◌<◌, ◌≡◌, ◌≤◌};
 ghost use Rattle.vte_core.specs.private.Automaton.{Follows, FollowsAt, open_count, StaysBetweenCharacters};
 ghost use Rattle.vte_core.specs.private.Prelude.{Each, IsRun, looks_of, Scans};
@@ -68,6 +69,8 @@ impl Reader {
             (slice_index input.entry.bytes.now (from - 2))
             (slice_index input.entry.bytes.now (from - 1)) ≡ 0 }
         ensures stays_between { Each StaysBetweenCharacters input.entry.bytes.now from result }
+        // Three bytes before `from`, and the block that isn't skipped. At least two blocks of 16
+        // bytes, which `skip_run_blocks` has skipped before, pay for these.
         ensures looks_at_most { looks_of self.new + from ≤ looks_of self.old + result + 35 }
         ensures looks_at_least { looks_of self.old + result ≤ looks_of self.new + from }
     {

@@ -3,6 +3,7 @@
 //! A word is eight bytes. The first bytes of a run are read one by one before any word is tried, so
 //! that no byte is read often. Bytes are read only by `byte_at`, `get_byte`, `get_block` and
 //! `get_window`, which count them.
+// proof: specs/private/Costs says what the bounds on looks are made of.
 ghost use Rattle.std.specs.Prelude.{false, IfSome, IsTrue, length, MatchOption, None, slice_index, true, ◌*◌, ◌+◌, ◌<◌, ◌↔◌, ◌≡◌, ◌≤◌};
 ghost use Rattle.vte_core.specs.private.Prelude.{ArePositions, ArePrintedAscii, from_to, HasNoRunAt, is_in, IsPrintedAscii, IsRun, looks_of, LooksWithin, printed_ascii, Scans};
 

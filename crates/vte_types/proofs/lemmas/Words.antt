@@ -82,10 +82,12 @@ entry-other : {A : Type 0} (entry : A) (others : Option A) (t : Bool) → t ≡ 
 entry-other entry others true is_false others_none = cc
 entry-other entry others false is_false others_none = others_none
 
+-- Whether all bytes are ASCII.
 abbrev are_ascii : List ℕ → Bool
 are_ascii [] = true
 are_ascii (b ∷ bytes) = nat_lt b 128 && are_ascii bytes
 
+-- Whether the words of all rows are ASCII.
 abbrev have_ascii_words : {A : Type 0} → List (List ℕ × A) → Bool
 have_ascii_words [] = true
 have_ascii_words (row ∷ rows) = are_ascii row.0 && have_ascii_words rows

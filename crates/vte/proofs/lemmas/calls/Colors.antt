@@ -9,21 +9,25 @@ use Rattle.vte.specs.Colors.{color_of_parts}
 -- A colour of which a component is missing or is none is no colour: by the number of components that are left.
 
 module _ {A : Type 0} (number : A → ℕ) where
+  -- Without red there is no colour.
   pub no_red : (left : List A) → None ≡ first_component (map number left)
       → None ≡ (kind_reading 2 (map number left)).color
   no_red [] missing = cc
   no_red (red ∷ left) missing = grind (arith, nat_tests)
 
+  -- Without red, reading uses the number in its place, if there is one.
   pub after_red : (left : List A) → None ≡ first_component (map number left)
       → drop 1 left ≡ drop (kind_reading 2 (map number left)).used left
   after_red [] missing = cc
   after_red (red ∷ left) missing = grind (arith, nat_tests)
 
+  -- Without green, it uses red, and the number in green's place, if there is one.
   pub after_green : (left : List A) (red : ℕ) → Some red ≡ first_component (map number left)
       → None ≡ first_component (map number (drop 1 left))
       → drop 1 (drop 1 left) ≡ drop (kind_reading 2 (map number left)).used left
   after_green left red has_red missing = grind (arith, nat_tests)
 
+  -- Without blue, it uses red, green, and the number in blue's place, if there is one.
   pub after_blue : (left : List A) (red green : ℕ) → Some red ≡ first_component (map number left)
       → Some green ≡ first_component (map number (drop 1 left))
       → None ≡ first_component (map number (drop 1 (drop 1 left)))

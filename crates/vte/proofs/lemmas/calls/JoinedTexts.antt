@@ -26,6 +26,7 @@ pub record Joins (malformed : MalformedPiece) (size : ℕ) (text : List ℕ) (is
   pub joins : text ++ joined_more is_first (filter_map (text_in malformed) left) ≡ joined_texts malformed all
   pub fits : length text + joined_size left ≤ size
 
+-- At the start nothing is joined, and all pieces are left.
 pub joins-begin : {malformed : MalformedPiece} {size : ℕ} {text : List ℕ} {all : List (List ℕ)} → text ≡ []
     → FitsTextCapacity size all → Joins malformed size text true all all
 joins-begin {malformed} {all} empty fits =
@@ -54,9 +55,11 @@ module _ (malformed : MalformedPiece) (pieces : List (Bor (List ℕ))) (i : ℕ)
     {size : ℕ} {text : List ℕ} {is_first : Bool}
     {all : List (List ℕ)}
     (before : Joins malformed size text is_first (map (λ piece. piece.now) (drop i pieces)) all) where
+  -- Piece i, which is joined next.
   abbrev piece : List ℕ
   piece = (get_or pieces i d).now
 
+  -- The pieces after it.
   abbrev left : List (List ℕ)
   left = map (λ (piece : Bor (List ℕ)). piece.now) (drop (i + 1) pieces)
 
@@ -95,6 +98,7 @@ module _ (malformed : MalformedPiece) (pieces : List (Bor (List ℕ))) (i : ℕ)
 
 -- ---- pieces that may be no text
 
+-- The test `is_utf8` is true of a text if and only if it is `IsUtf8`.
 pub no_utf8 : (text : List ℕ) → ¬ (IsUtf8 text) → is_utf8 text ≡ false
 no_utf8 text not_utf8 = false_from_ne_true _ (λ utf8. not_utf8 (IsUtf8-from_is_utf8 text utf8))
 
@@ -110,6 +114,7 @@ one_text malformed piece (Some text) nothing found_is empty = rw (← found_is) 
 
 -- ---- the link to a text
 
+-- A URI that isn't empty makes a link.
 pub some_link : (parameters uri : List ℕ) → (uri ≡ [] → ⊥)
     → link_to parameters uri ≡ Some (record { id = id_of parameters; uri = uri })
 some_link parameters [] some_uri = absurd (some_uri refl)

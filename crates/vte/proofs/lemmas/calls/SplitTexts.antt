@@ -8,6 +8,7 @@ pub split-whole : (splits : ℕ → Bool) (text : List ℕ) → position_or_len 
 split-whole splits text no_separator =
     slice_split_none splits text (λ k d inside. fails_before_first splits text k d (omega (arith, no_separator)))
 
+-- The first part ends before the first separator, and what follows this is split into the others.
 pub split-first : (splits : ℕ → Bool) (text : List ℕ) {i : ℕ} → position_or_len splits text ≡ i → i < length text
     → slice_split splits text ≡ take i text ∷ slice_split splits (drop (i + 1) text)
 split-first splits text position_is inside =

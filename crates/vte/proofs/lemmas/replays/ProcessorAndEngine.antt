@@ -47,9 +47,11 @@ has_text_memory = omega arith
 
 -- An engine with a limit, and what is known at any time of its memory.
 module _ {N : ℕ} {B T A W : Type 0} (size_of : B → ℕ) (timeout_of : T → W) (engine : Engine (Parser N) B T A) where
+  -- As of any engine: if bytes are held, there is memory to parse them.
   abbrev limited_facts : ProcessorFacts T W
   limited_facts = engine_facts (limited_engine_view size_of timeout_of) engine
 
+  -- As of a processor: this memory is there at any time.
   abbrev limited_facts_with : (Memory : Type 0) → ProcessorFacts T W
   limited_facts_with Memory = engine_facts_with (limited_engine_view size_of timeout_of) engine (λ parsed held. Memory)
 

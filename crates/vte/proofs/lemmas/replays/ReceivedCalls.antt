@@ -21,6 +21,7 @@ in_order-sooner parsed prefix (position ∷ positions) to (from, order) =
 
 -- A prefix is parsed, and then the rest.
 module _ (limit : Option ℕ) (parsed prefix : List ℕ) where
+  -- What was parsed before, and the prefix.
   abbrev both : List ℕ
   both = parsed ++ prefix
 
@@ -37,6 +38,7 @@ module _ (limit : Option ℕ) (parsed prefix : List ℕ) where
       (ap (λ all. calls_after (events limit parsed) (events limit all)) (append_assoc parsed prefix further)
       ∙ added_calls-append limit parsed prefix further)
 
+  -- If nothing follows the prefix, the calls are those that it adds.
   pub calls_between-whole : calls_between limit both (length parsed) (length both) ≡ added_calls limit parsed prefix
   calls_between-whole = rw (take-append_seam parsed prefix, take_all (length both) both (omega arith)) refl
 
@@ -65,6 +67,7 @@ module _ {V W : Type 0} (meaning : Meaning V W) (end : State V W) where
     pub handler_is : end.handler
         ≡ after meaning.step value (calls_with_stops meaning.limit end.parsed (length parsed) positions)
 
+  -- What the handler still receives from this state on.
   abbrev DeliversAt : State V W → Type 0
   DeliversAt state = HasStillToDeliver state.parsed state.stops state.handler
 
@@ -154,6 +157,7 @@ module _ {V W : Type 0} (meaning : Meaning V W) (end : State V W) where
   delivers-steps state next (StopSync ∷ steps) takes =
       λ rest. delivers-stop state (delivers-steps (stop meaning state) next steps takes rest)
 
+  -- A list of calls tells the handler the calls of all bytes that it parses, and its stops.
   pub delivers-replay : (state : State V W) (steps : List Step) → TakesSteps meaning state steps end → DeliversAt state
   delivers-replay state steps takes = delivers-steps state end steps takes delivers-nothing
 

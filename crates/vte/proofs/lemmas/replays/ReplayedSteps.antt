@@ -143,16 +143,18 @@ module _ {V W : Type 0} (meaning : Meaning V W) where
         (replay-append state before.next replayed_step.next (take i steps)
         (get_or steps i missing ∷ []) before.takes replayed_step.takes)) replayed_step.is_at
 
-    -- The next step is taken, or refused.
+    -- The next step, a call of `advance`, is taken.
     pub advance_taken : {bytes : Bor (List ℕ)} → get_or steps i missing ≡ Advance bytes
         → HasAdvanced meaning before.next bytes.now new
         → HasReplayed meaning state (take (i + 1) steps) new
     advance_taken {bytes} step_is advanced = step_taken (rw step_is (advance_runs advanced))
 
+    -- If the next step is a stop, it is taken.
     pub stop_taken : get_or steps i missing ≡ StopSync → new (stop meaning before.next)
         → HasReplayed meaning state (take (i + 1) steps) new
     stop_taken step_is is_at = step_taken (rw step_is (has_replayed (stop meaning before.next) refl is_at))
 
+    -- If the next step is refused memory, the steps before it were taken.
     pub advance_refused : {bytes : Bor (List ℕ)} {read : ℕ} → get_or steps i missing ≡ Advance bytes
         → read < length bytes.now
         → HasAdvancedPart meaning before.next bytes.now read new

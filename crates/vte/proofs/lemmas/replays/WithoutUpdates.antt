@@ -39,6 +39,7 @@ module _ {V W : Type 0} (meaning : Meaning V W) (never : IsNeverPending meaning.
 
 module _ {T V W : Type 0} {processor : ProcessorFacts T W} (old : V) {stream : List ℕ}
     (has_parsed : HasParsedAll processor stream) where
+  -- The stream is parsed, nothing is held, and stops are counted from here on.
   abbrev start_state : State V W
   start_state = record { parsed = stream; stops = []; held = []; timeout = has_parsed.timeout; handler = old }
 

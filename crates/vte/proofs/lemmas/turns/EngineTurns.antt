@@ -163,6 +163,7 @@ module _ {V W : Type 0} (meaning : Meaning V W) {state : State V W} {bytes : Lis
 
 -- The bytes that a call has still to read, as the slice that its next turn gets.
 module _ (bytes : List ℕ) (read : ℕ) where
+  -- These bytes.
   abbrev unread : List ℕ
   unread = take (length bytes - read) (drop read bytes)
 

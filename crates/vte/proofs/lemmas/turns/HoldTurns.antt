@@ -8,6 +8,7 @@ use Rattle.vte.proofs.lemmas.updates.Sequences.{cases_Option, stays_held, suffix
 use Rattle.vte.specs.declared.ansi.updates.hold.SyncState.{SyncState}
 
 module _ {V W : Type 0} (meaning : Meaning V W) where
+  -- The bytes before those kept are parsed, and these stay held.
   abbrev cut : State V W → List ℕ → State V W
   cut state kept = with_held (parse meaning state (take (length state.held - length kept) state.held)) kept
 
@@ -46,6 +47,7 @@ module _ {P B T A V W : Type 0} {view : EngineView P B T W} (meaning : Meaning V
     (view.timeout_of old.state.timeout))
     (memory : view.parser.has_memory old.parser (view.text_capacity_of old.state.text) state.parsed
     (length state.held + length more)) where
+  -- The engine with this hold and this timeout.
   abbrev extended_engine : Engine P B T A
   extended_engine = record old { hold = hold; state = record old.state { timeout = timeout } }
 

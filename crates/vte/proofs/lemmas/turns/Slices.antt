@@ -5,17 +5,20 @@ use Rattle.vte.proofs.Common.{added, ap, append-nil, append_assoc, arith, begin_
 use Rattle.vte.proofs.lemmas.events.EventCalls.{added_calls-append, added_calls-nothing, after_calls-append, timeout_set_times-add}
 use Rattle.vte.proofs.lemmas.updates.Prefixes.{begin_count-added, begin_count-none, begin_count-nothing, prefix-after, prefix-all, prefix-more, prefix-some}
 
+-- A slice of `count` bytes has this size.
 pub slice-size : (bytes : List ℕ) (read : ℕ) {count : ℕ} → read ≤ length bytes → count ≤ length bytes - read
     → length (take (read + count - read) (drop read bytes)) ≡ count
 slice-size bytes read {count} inside at_most =
     length-take-le (read + count - read) (drop read bytes) (rw length-drop (omega arith)) ∙ omega arith
 
 module _ {V W : Type 0} (meaning : Meaning V W) where
+  -- To parse no bytes changes nothing.
   pub parse-nothing : (state : State V W) → parse meaning state [] ≡ state
   parse-nothing state =
       rw (begin_count-nothing meaning.limit state.parsed, added_calls-nothing meaning.limit state.parsed, append-nil)
       refl
 
+  -- To parse bytes in two pieces is to parse them at once.
   pub parse-append : (state : State V W) (front back : List ℕ)
       → parse meaning (parse meaning state front) back ≡ parse meaning state (front ++ back)
   parse-append state front back =
@@ -40,10 +43,12 @@ module _ {V W : Type 0} {meaning : Meaning V W} {state : State V W} {bytes : Lis
   prefix-whole : prefix_to_begin meaning.limit state.parsed bytes ≡ bytes
   prefix-whole = prefix-all meaning.limit state.parsed bytes prefix-begins_none
 
+  -- So all of them were read.
   pub count-whole : n ≡ length bytes
   count-whole = parsed.count ∙ ap length prefix-whole
 
 module _ {V W : Type 0} (meaning : Meaning V W) (state : State V W) (bytes : List ℕ) where
+  -- Before the first slice nothing is parsed.
   pub parsing-nothing : {IsReached : State V W → Type 0} → IsReached state
       → HasParsedWithoutBegin meaning state bytes 0 IsReached
   parsing-nothing is_at = record {
@@ -51,6 +56,7 @@ module _ {V W : Type 0} (meaning : Meaning V W) (state : State V W) (bytes : Lis
     is_at = rw (parse-nothing meaning state) is_at;
   }
 
+  -- If all bytes are parsed and no update began, the turn ends with them.
   pub parsing-all : {read : ℕ} {IsReached : State V W → Type 0}
       → HasParsedWithoutBegin meaning state bytes read IsReached
       → length bytes ≤ read
@@ -130,6 +136,7 @@ module _ {V W : Type 0} (meaning : Meaning V W) (state : State V W) (bytes : Lis
         is_at = rw (prefix_is, ← parse-append meaning state (take read bytes) prefix) parsed_slice.is_at;
       }
 
+  -- If memory is refused before all bytes are parsed, the turn has parsed those that were read.
   pub parsing-refused : {read : ℕ} {IsReached : State V W → Type 0}
       → HasParsedWithoutBegin meaning state bytes read IsReached
       → read < length bytes

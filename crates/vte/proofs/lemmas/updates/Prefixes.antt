@@ -13,6 +13,7 @@ begin_count-append (event ∷ events) others = omega (arith, begin_count-append 
 pub begin_count-nothing : (limit : Option ℕ) (stream : List ℕ) → begin_count (added limit stream []) ≡ 0
 begin_count-nothing limit stream = ap begin_count (added-nothing limit stream)
 
+-- Bytes in two pieces begin as many updates as both pieces together.
 pub begin_count-added : (limit : Option ℕ) (stream front bytes : List ℕ)
     → begin_count (added limit stream (front ++ bytes))
     ≡ begin_count (added limit stream front) + begin_count (added limit (stream ++ front) bytes)
@@ -27,6 +28,7 @@ begin_count-reported limit stream bytes i = search (rules, arith, reported-broke
 
 -- ---- the prefix is the shortest that adds a begin (`IsPrefix`)
 
+-- The first k bytes end with the first one that begins an update, or are all bytes.
 pub record IsPrefix (limit : Option ℕ) (stream bytes : List ℕ) (k : ℕ) : Type 0 where
   pub within : k ≤ length bytes
   pub prefix_is : prefix_to_begin limit stream bytes ≡ take k bytes
@@ -82,6 +84,7 @@ prefix-is limit stream (b ∷ rest) = elim (cases_Bool (nat_lt 0 (begin_count (a
 open_character-begin : {limit : Option ℕ} {stream : List ℕ} → EndsInBegin limit stream → open_character stream ≡ []
 open_character-begin {limit} ends = search (rules, arith, opens_silently)
 
+-- So none is open after the prefix, if bytes are left.
 pub open_character-prefix : {limit : Option ℕ} {stream bytes : List ℕ} {k : ℕ} → IsPrefix limit stream bytes k
     → k < length bytes
     → open_character (stream ++ take k bytes) ≡ []

@@ -141,6 +141,7 @@ module _ {text : List ℕ} {new position first_begin begin_count : ℕ} (within 
         begin_count_is = rw (cut, after_word-whole begin_update _ here, near) (omega (arith, seen.begin_count_is));
       }
 
+  -- An end-update ends the search, with what was seen after it.
   pub seen-end : is_prefix_of end_update (drop position text) ≡ true
       → FindsRelease text new (record { begin_count = begin_count; released = first_begin })
   seen-end is_end =
@@ -199,16 +200,19 @@ module _ {all : List ℕ} {new position unread first_begin begin_count : ℕ}
       seen-down low (omega arith)
       (λ k low high. neither-before all k position high (omega arith) inside last.here) seen
 
+  -- If the ESC begins a begin-update, this is counted, and all from up to seven bytes before it is seen.
   pub seen-begin_before : length all ≤ position + 7 + new → is_prefix_of begin_update (drop position all) ≡ true
       → HasSeen all new from position (begin_count + 1)
   seen-begin_before at_most is_begin = seen-before_escape (seen-begin last.inside last.seen at_most is_begin)
 
+  -- If the ESC begins neither sequence, the same is seen.
   pub seen-other_before : is_prefix_of begin_update (drop position all) ≡ false
       → is_prefix_of end_update (drop position all) ≡ false → HasSeen all new from first_begin begin_count
   seen-other_before no_begin no_end =
       seen-before_escape (seen-other last.inside last.seen (record { no_begin = no_begin; no_end = no_end }))
 
 module _ {held more text : List ℕ} {start : ℕ} (held_tail : IsHeldTail held more text start) where
+  -- All held bytes, the older and the new ones. Byte k of their tail is byte `start + k` of them.
   abbrev all : List ℕ
   all = held ++ more
 
@@ -217,6 +221,7 @@ module _ {held more text : List ℕ} {start : ℕ} (held_tail : IsHeldTail held 
       let from = held_tail.start_is in
       omega (arith, ap length held_tail.bytes_is, length-drop start all, length-append held more)
 
+  -- The search looks for a sequence in the tail as if in all bytes.
   pub tail-sequence : (position : ℕ) → take (length text - position) (drop position text) ≡ drop (start + position) all
   tail-sequence position =
       take_rest text position ∙ ap (drop position) held_tail.bytes_is ∙ drop-drop position start all
@@ -331,6 +336,7 @@ module _ {text : List ℕ} {unread position before next : ℕ} (round : IsRound 
   escape-earlier : position < unread
   escape-earlier = omega (arith, length-take-le unread text round.within, round.none_after.high)
 
+  -- After a round fewer bytes are unread, so the search ends.
   pub unread-decreases : next < unread
   unread-decreases = omega (arith, escape-earlier, round.before_is, round.skips)
 

@@ -14,12 +14,14 @@ none_from_is_some (Some x) is_not_some = cc
 
 -- ---- a sequence at the front
 
+-- After a sequence at the front comes the text without its bytes.
 pub after_word-whole : (sequence text : List ℕ) → is_prefix_of sequence text ≡ true
     → after_word sequence text ≡ Some (drop (length sequence) text)
 after_word-whole [] text begins = refl
 after_word-whole (a ∷ sequence) [] begins = cc
 after_word-whole (a ∷ sequence) (b ∷ text) begins = grind (arith, after_word-whole sequence text)
 
+-- A sequence isn't at the front if what follows its first byte doesn't follow that of the text.
 pub is_prefix_of-further : (first b : ℕ) (sequence text : List ℕ) → is_prefix_of sequence text ≡ false
     → is_prefix_of (first ∷ sequence) (b ∷ text) ≡ false
 is_prefix_of-further first b sequence text differs = grind (arith, differs)
@@ -31,6 +33,7 @@ is_prefix_of-is [] text begins = refl
 is_prefix_of-is (a ∷ sequence) [] begins = cc
 is_prefix_of-is (a ∷ sequence) (b ∷ text) begins = grind (arith, nat_tests, is_prefix_of-is sequence text)
 
+-- A text has at least the bytes of a sequence at its front.
 pub is_prefix_of-length : (sequence text : List ℕ) → is_prefix_of sequence text ≡ true → length sequence ≤ length text
 is_prefix_of-length [] text begins = omega arith
 is_prefix_of-length (a ∷ sequence) [] begins = cc
@@ -43,6 +46,7 @@ is_prefix_of-more [] text more long = refl
 is_prefix_of-more (a ∷ sequence) [] more long = absurd (omega arith)
 is_prefix_of-more (a ∷ sequence) (b ∷ text) more long = grind (arith, is_prefix_of-more sequence text more)
 
+-- A sequence at the front stays there, whatever follows the text.
 pub is_prefix_of-append : (sequence text more : List ℕ) → is_prefix_of sequence text ≡ true
     → is_prefix_of sequence (text ++ more) ≡ true
 is_prefix_of-append sequence text more begins =
@@ -56,6 +60,7 @@ from_begin-end_skipped n b text begins = search (rules, arith)
 
 -- ---- what follows the last end-update, and what stays held, is the end of the text
 
+-- The part is the text without its first bytes.
 pub record IsSuffix (part text : List ℕ) : Type 0 where
   pub prefix : ℕ
   pub within : prefix ≤ length text
@@ -155,6 +160,7 @@ is_prefix_of-no_end : (b : ℕ) (old more : List ℕ) → 7 ≤ length old → a
     → is_prefix_of end_update (b ∷ (old ++ more)) ≡ false
 is_prefix_of-no_end b old more long no_end = grind (arith, is_prefix_of-more end_update (b ∷ old) more (omega arith))
 
+-- The last end-update, if any, begins among the last seven of the older bytes or the new ones.
 pub after_last_end-tail : (old more : List ℕ) → after_last_end old ≡ None
     → after_last_end (old ++ more) ≡ after_last_end (drop (length old - 7) (old ++ more))
 after_last_end-tail [] more no_end = refl

@@ -41,6 +41,7 @@ next_state-failed b = refl
 
 -- ---- a state is between characters, has failed, or wants a byte in one range
 
+-- Which of these a state is.
 pub data Phase (state : AutomatonState) : Type 0 where
   phase-between : state ≡ BetweenCharacters → Phase state
   phase-failed : state ≡ Failed → Phase state
@@ -78,6 +79,7 @@ ends_character-row b {ranges} low same u fit =
 
 -- ---- a first byte is printed, fails, or opens a character
 
+-- Which of these a first byte does.
 pub data Begins (b : ℕ) : Type 0 where
   prints : IsUtf8Run true (b ∷ []) → next_between_characters b ≡ BetweenCharacters → Begins b
   fails : next_between_characters b ≡ Failed → Begins b
@@ -161,9 +163,11 @@ so_far-printed {text} {i} printed = record {
 
 module _ (text : List ℕ) (i : ℕ) (before_end : i < length text) (state : AutomatonState)
     (old : ReadSoFar text i state) where
+  -- The byte at position i.
   abbrev b : ℕ
   b = slice_index text i
 
+  -- The bytes before it that belong to no whole character.
   abbrev taken : List ℕ
   taken = take (i - old.end) (drop old.end text)
 
@@ -279,6 +283,7 @@ so_far-all text (suc i) within going =
 
 -- The automaton lets these pass; a run without bytes below 20 has none.
 
+-- All bytes are from 20 on.
 abbrev AreAbove : List ℕ → Type 0
 AreAbove bytes = (k : ℕ) → k < length bytes → 0x20 ≤ get_or bytes k 0
 

@@ -248,6 +248,7 @@ allowed-ascii bytes from i to low more within old closed plain = elim (cases_lt 
 
 module _ (bytes : List ℕ) (from i : ℕ) (far : from + 3 ≤ i) (within : i ≤ length bytes)
     (leads : IsAllowedAt bytes from i) where
+  -- The bytes from the start of the run on.
   abbrev text : List ℕ
   text = drop from bytes
 

@@ -16,6 +16,7 @@ less word = (word + 0xdfdfdfdfdfdfdfe0) % 2 ^ 64
 abbrev mask : ℕ
 mask = 0x8080808080808080
 
+-- Bit 7 of each byte that is below 20 or from 80 on; above one below 20, perhaps of others too.
 abbrev marks_of : ℕ → ℕ
 marks_of word = bit_and (bit_or (less word) word) mask
 

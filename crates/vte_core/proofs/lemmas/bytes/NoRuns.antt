@@ -48,6 +48,7 @@ fits-one range bytes i m fit =
 
 module _ (layout : Bool) (bytes : List ℕ) (from a : ℕ) (before_end : from < length bytes)
     (byte_is : a ≡ slice_index bytes from) where
+  -- The m bytes after the one at `from`.
   abbrev later : ℕ → List ℕ
   later m = take m (drop (from + 1) bytes)
 

@@ -156,6 +156,7 @@ pub spells-four : {a b c d : ℕ} → 0xf0 ≤ a → a < 0xf5 → is_in (second_
 spells-four {a} {b} {c} {d} low high second third fourth =
     search (rules, arith, second_byte, continuation-bounds, tests-four, and_from)
 
+-- So a number that is computed of bytes is one of a character.
 pub spells-scalar : (bytes : List ℕ) (number : ℕ) → Spells bytes number → IsScalar number
 spells-scalar bytes number spells = subst IsScalar (sym spells.same) (well_formed_is_scalar bytes spells.is_whole)
 
@@ -170,7 +171,7 @@ whole_by bytes b extended spells makes = search (rules, arith, scalar_of-in_rang
 
 -- ---- the second byte of a character
 
--- `broken`: it is out of its range; `whole`: it is the last; `open`: more bytes follow.
+-- `broken`: it is out of its range; `whole`: it is the last; `open`: more bytes follow. So too of the third and fourth.
 
 pub second-broken : (a b : ℕ) → is_truncated (a ∷ []) ≡ true → is_in (second_range a) b ≡ false
     → Extends (a ∷ []) b Malformed

@@ -4,6 +4,7 @@ use Rattle.vte_core.proofs.Common.{allowed_length, and_left, and_parts, and_righ
 
 -- ---- after a byte at most one row is left
 
+-- There is no row, or one.
 abbrev AtMostOne : List (List Range) → Type 0
 AtMostOne [] = Unit {0}
 AtMostOne (row ∷ []) = Unit {0}
@@ -50,6 +51,7 @@ AtMostOne-after_rows n b ((range ∷ ranges) ∷ rows) up =
     later : b ≤ range.last → ascends (range.last + 1) rows ≡ true → AtMostOne (ranges ∷ rows_after_byte b rows)
     later low up = rw (none_after (range.last + 1) b rows up (omega arith)) tt
 
+-- A first byte leaves at most one row of the table.
 pub AtMostOne-first : (b : ℕ) → AtMostOne (rows_after_byte b utf8_rows)
 unfolding utf8_rows
 AtMostOne-first b = AtMostOne-after_rows 0 b utf8_rows refl
@@ -57,6 +59,7 @@ AtMostOne-first b = AtMostOne-after_rows 0 b utf8_rows refl
 AtMostOne-next : (b : ℕ) (rows : List (List Range)) → AtMostOne rows → AtMostOne (rows_after_byte b rows)
 AtMostOne-next b rows one = search (rules, arith)
 
+-- Further bytes never leave more.
 pub AtMostOne-rows_after_bytes : (bytes : List ℕ) (rows : List (List Range)) → AtMostOne rows
     → AtMostOne (rows_after_bytes bytes rows)
 AtMostOne-rows_after_bytes [] rows one = one
@@ -82,6 +85,7 @@ some_complete rows = list_any is_complete rows
 abbrev pub some_truncated : List (List Range) → Bool
 some_truncated rows = list_any (λ row. not (is_complete row)) rows
 
+-- If at most one row is left, bytes aren't both complete and truncated.
 pub complete_not_truncated : (rows : List (List Range)) → AtMostOne rows → some_complete rows ≡ true
     → some_truncated rows ≡ false
 complete_not_truncated rows one whole = search (rules, arith)
@@ -90,6 +94,7 @@ pub truncated_not_complete : (rows : List (List Range)) → AtMostOne rows → s
     → some_complete rows ≡ false
 truncated_not_complete rows one more = search (rules, arith)
 
+-- Bytes that are neither leave no row.
 pub neither_complete_nor_truncated : (rows : List (List Range)) → some_complete rows ≡ false
     → some_truncated rows ≡ false → rows ≡ []
 neither_complete_nor_truncated [] whole more = refl
@@ -110,6 +115,7 @@ pub data Allowed (rows : List (List Range)) (b : ℕ) (bytes : List ℕ) : Type 
   wanted : rows_after_byte b rows ≢ []
       → allowed_length rows (b ∷ bytes) ≡ suc (allowed_length (rows_after_byte b rows) bytes) → Allowed rows b bytes
 
+-- Of each byte, one of the two holds.
 pub allowed : (rows : List (List Range)) (b : ℕ) (bytes : List ℕ) → Allowed rows b bytes
 allowed rows b bytes = search (rules, arith)
 
@@ -155,6 +161,7 @@ allowed_length-end rows (c ∷ bytes) more =
 
 -- ---- the range of a second byte, and the first bytes after which no row is left, by the nine rows
 
+-- Only E0, ED, F0 and F4 are followed by a smaller range than 80..BF.
 pub second_plain : (first : ℕ) → first ≢ 0xe0 → first ≢ 0xed → first ≢ 0xf0 → first ≢ 0xf4
     → second_range first ≡ from_to 0x80 0xbf
 unfolding second_range
@@ -164,16 +171,19 @@ second_plain first e0 ed f0 f4 = grind (arith, nat_tests)
 abbrev pub continuation : Range
 continuation = from_to 0x80 0xbf
 
+-- 80..C1 begin no sequence.
 pub rows-lone : (first : ℕ) → 0x80 ≤ first → first < 0xc2 → rows_after_byte first utf8_rows ≡ []
 unfolding utf8_rows
 rows-lone first low high = grind (arith, nat_tests)
 
+-- Nor do F5..FF.
 pub rows-none : (first : ℕ) → 0xf5 ≤ first → rows_after_byte first utf8_rows ≡ []
 unfolding utf8_rows
 rows-none first low = grind (arith, nat_tests)
 
 -- ---- the kinds of first bytes
 
+-- What a byte begins: a sequence of one, two, three or four bytes, or none.
 pub data FirstByte (a : ℕ) : Type 0 where
   ascii : a < 0x80 → FirstByte a
   lone : rows_after_byte a utf8_rows ≡ [] → FirstByte a
@@ -181,6 +191,7 @@ pub data FirstByte (a : ℕ) : Type 0 where
   of_three : 0xe0 ≤ a → a < 0xf0 → FirstByte a
   of_four : 0xf0 ≤ a → a < 0xf5 → FirstByte a
 
+-- Each byte is one of these.
 pub first_byte : (first : ℕ) → FirstByte first
 first_byte first =
     elim (cases_lt first 0x80) [
@@ -236,15 +247,18 @@ pub record Tests (bytes : List ℕ) (whole more : Bool) : Type 0 where
   pub is_whole : is_well_formed bytes ≡ whole
   pub is_open : is_truncated bytes ≡ more
 
+-- After a first byte that leaves one row, the tests are whether the other bytes fit its ranges.
 pub tests-row : (first : ℕ) (ranges : List Range) → rows_after_byte first utf8_rows ≡ ranges ∷ [] → (rest : List ℕ)
     → Tests (first ∷ rest) (fits ranges rest) (fits_prefix ranges rest)
 unfolding is_well_formed is_truncated
 tests-row first ranges same rest = search (rules, arith, some_complete-row, some_truncated-row)
 
+-- After one that leaves no row, neither test holds.
 pub tests-none : (first : ℕ) → rows_after_byte first utf8_rows ≡ [] → (rest : List ℕ) → Tests (first ∷ rest) false false
 unfolding is_well_formed is_truncated
 tests-none first no_row rest = search (rules, arith, rows_after_bytes-none)
 
+-- After a first byte of one, two, three or four, the others have these ranges.
 pub tests-ascii : (first : ℕ) → first < 0x80 → (rest : List ℕ) → Tests (first ∷ rest) (fits [] rest) false
 unfolding utf8_rows
 tests-ascii first high rest = tests-row first [] (grind (arith, nat_tests)) rest
@@ -270,6 +284,7 @@ tests-four first low high rest =
 
 -- ---- the bytes of a truncated sequence, up to three
 
+-- A truncated sequence begins with C2..F4.
 pub truncated-first : (first : ℕ) (rest : List ℕ) → is_truncated (first ∷ rest) ≡ true → (0xc2 ≤ first) × (first < 0xf5)
 truncated-first first rest truncated = elim (first_byte first) [
   | ascii high ↦ absurd (false≢true (sym (tests-ascii first high rest).is_open ∙ truncated))
@@ -279,6 +294,7 @@ truncated-first first rest truncated = elim (first_byte first) [
   | of_four low high ↦ (omega arith, high)
 ]
 
+-- The first two bytes of a sequence of three or four.
 pub record TruncatedTwo (a b : ℕ) : Type 0 where
   pub low : 0xe0 ≤ a
   pub high : a < 0xf5
@@ -288,6 +304,7 @@ pub truncated-two : (a b : ℕ) → is_truncated (a ∷ b ∷ []) ≡ true → T
 unfolding is_truncated utf8_rows second_range
 truncated-two a b truncated = search (rules, arith)
 
+-- The first three bytes of a sequence of four.
 pub record TruncatedThree (a b c : ℕ) : Type 0 where
   pub low : 0xf0 ≤ a
   pub high : a < 0xf5

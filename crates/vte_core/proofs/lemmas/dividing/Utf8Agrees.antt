@@ -82,6 +82,7 @@ pub segments_of_text : (text : List ℕ) → IsUtf8 text → segments text ≡ m
 segments_of_text text is_utf8 =
     rw (encodes-chars text is_utf8) at (segments-encodes (chars text) (scalars-chars text is_utf8))
 
+-- The segment is a well-formed sequence (Unicode, table 3-7).
 abbrev IsWellFormed : List ℕ → Type 0
 IsWellFormed segment = is_well_formed segment ≡ true
 

@@ -9,6 +9,7 @@ use Rattle.vte_core.specs.private.FlatGroups.{AreFlatGroups, AreLengths, cut_by_
 
 -- ---- groups cut by lengths
 
+-- A number, and whether it joins the group before it.
 abbrev pub numbered : Bool → ℕ → Number
 numbered joined value = record { joined = joined; value = value }
 
@@ -26,6 +27,7 @@ sum_rest n lengths numbers sum_is =
     let apart : sum (n ∷ lengths) ≡ n + sum lengths = sum_by-cons (λ (m : ℕ). m) n lengths in
     (omega arith, omega (arith, length-drop n numbers))
 
+-- The lengths after the first are those of the numbers after its own.
 pub AreLengths-rest : {n : ℕ} {lengths numbers : List ℕ} → AreLengths (n ∷ lengths) numbers
     → AreLengths lengths (drop n numbers)
 AreLengths-rest {n} {lengths} {numbers} are_lengths = record {
@@ -33,6 +35,7 @@ AreLengths-rest {n} {lengths} {numbers} are_lengths = record {
   filled = All-tail (λ m. 0 < m) n lengths are_lengths.filled;
 }
 
+-- Each length gives one group.
 pub length-cut_by_lengths : (lengths numbers : List ℕ) → length (cut_by_lengths lengths numbers) ≡ length lengths
 length-cut_by_lengths [] numbers = refl
 length-cut_by_lengths (n ∷ lengths) numbers = ap suc (length-cut_by_lengths lengths (drop n numbers))
@@ -160,6 +163,7 @@ pushed-alone {joined} {lengths} {rest} {numbers} {value} are_lengths parts same 
     )
     (sym (with_number-begins (cut_by_lengths lengths numbers) value) ∙ same)))
 
+-- A number is pushed with a length of its own, or by one more in the last length.
 pub pushed : (joined : Bool) (lengths rest numbers : List ℕ) (last : Option ℕ) (value : ℕ)
     → AreLengths lengths numbers → IsLastPopped joined lengths rest last
     → IsPushed joined lengths rest numbers last value
@@ -192,6 +196,7 @@ pub sum_take_below : (lengths : List ℕ) (i : ℕ) → i < length lengths
 sum_take_below lengths i before_end =
     omega (arith, sum_take_more lengths i before_end, sum_by-take-le (λ n. n) lengths (i + 1))
 
+-- If neither the first i lengths nor the next are 0, the first i + 1 aren't.
 pub filled_take_more : (lengths : List ℕ) (i : ℕ) → i < length lengths → All (λ n. 0 < n) (take i lengths)
     → 0 < get_or lengths i 0
     → All (λ n. 0 < n) (take (i + 1) lengths)
@@ -203,6 +208,7 @@ filled_take_more lengths i before_end all first =
 -- A further digit changes the last number, and a separator begins another. So cutting at separators is reading byte by
 -- byte, with the digits since the last separator carried along.
 
+-- The byte is neither `;` nor `:`.
 abbrev pub IsNoSeparator : ℕ → Type 0
 IsNoSeparator b = is_separator b ≡ false
 
@@ -242,6 +248,7 @@ pub number_of-push : (digits : List ℕ) (digit : ℕ) → 0x30 ≤ digit → di
 number_of-push digits digit low high =
     omega (arith, digits_value_push 10 digits digit, digit_value_is digit low high)
 
+-- The number is at most 65,535.
 abbrev pub ValueFitsU16 : Number → Type 0
 ValueFitsU16 number = number.value ≤ greatest_number
 

@@ -96,6 +96,7 @@ some_pieces limit items = search (rules, arith, length-take, length-slice_split)
 
 -- ---- one more item of a command is at most one more data byte
 
+-- How many bytes the first n pieces have.
 abbrev first_pieces_size : ℕ → List (List ℕ) → ℕ
 first_pieces_size n pieces = length (concat (take n pieces))
 

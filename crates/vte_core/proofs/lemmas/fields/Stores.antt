@@ -9,6 +9,7 @@ use Rattle.std.specs.Prelude.{nat_lt, ◌||◌}
 use Rattle.vte_core.proofs.Common.{All, All-head, All-tail, ap, append-nil, append_assoc, arith, Bool, cases_Bool, concat, cut_data, cut_pieces, drop, drop-append-le, ends_after, false, filter, fitting, has_room, HoldsItems, inl, inr, is_data_item, kept_after, kept_items, length, length-append, length-drop, length-take, List, loses_data, ltb-true, max_pieces, nat_tests, ne_eqb, None, Option, pieces_from, pieces_of, PiecesEnd, refl, rules, semicolon, slice_range, Some, StoredCommand, suc, sym, take, take-append-le, take-nil, take_all, true, zero, ℕ, [], ◌++◌, ◌+◌, ◌-◌, ◌<◌, ◌∙◌, ◌∷◌, ◌≡◌, ◌≢◌, ◌≤◌}
 use Rattle.vte_core.proofs.lemmas.fields.Pieces.{cut_at_ends}
 
+-- An item is a data byte if it isn't a semicolon.
 abbrev IsDataItem : ℕ → Type 0
 IsDataItem b = b ≢ semicolon
 

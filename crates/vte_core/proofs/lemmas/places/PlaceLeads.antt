@@ -21,6 +21,7 @@ drops InDeviceData = false
 drops (InSystemCommand items) = false
 drops _ = true
 
+-- There, a byte that is dropped reports nothing and changes nothing.
 pub byte-dropped : {limit : Option ℕ} {place : Place} {b : ℕ} {class : Class} → drops place ≡ true → class_of b ≡ class
     → is_dropped class ≡ true → Leads limit place b [] place
 unfolding body_outcome escape_from control_sequence_from device_control_from ignored_string_outcome executed_events
@@ -35,6 +36,7 @@ executes (InEscape intermediates) = true
 executes (InControlSequence head) = true
 executes _ = false
 
+-- There, C0 is executed.
 pub byte-executed : {limit : Option ℕ} {place : Place} {b : ℕ} → executes place ≡ true → class_of b ≡ PlainControl
     → Leads limit place b (Execute b ∷ []) place
 unfolding body_outcome escape_from control_sequence_from executed_events
@@ -42,6 +44,7 @@ byte-executed place_executes is_control = search (rules, arith)
 
 -- ---- after ESC
 
+-- The first intermediate begins an escape sequence.
 pub escape-intermediate : {limit : Option ℕ} {b : ℕ} → class_of b ≡ Intermediate
     → Leads limit AtEscape b [] (InEscape (b ∷ []))
 unfolding body_outcome executed_events escape_outcome escape_from
@@ -57,10 +60,12 @@ begun_by SystemCommand = InSystemCommand []
 begun_by IgnoredString = InIgnoredString
 begun_by EscapeSequence = AtEscape
 
+-- Whether keys of this kind begin a body, as all but those of escape sequences do.
 abbrev begins_body : SequenceKind → Bool
 begins_body EscapeSequence = false
 begins_body _ = true
 
+-- A key leads to where its body begins.
 pub escape-key : {limit : Option ℕ} {b : ℕ} (kind : SequenceKind) → class_of b ≡ Final → sequence_kind b ≡ kind
     → begins_body kind ≡ true
     → Leads limit AtEscape b [] (begun_by kind)
@@ -70,11 +75,13 @@ escape-key kind is_final is_kind begins = search (rules, arith)
 
 -- ---- after ESC and intermediates
 
+-- A further intermediate is added to those before it.
 pub intermediate-more : {limit : Option ℕ} {intermediates : List ℕ} {b : ℕ} → class_of b ≡ Intermediate
     → Leads limit (InEscape intermediates) b [] (InEscape (intermediates ++ b ∷ []))
 unfolding escape_from executed_events
 intermediate-more is_intermediate = record { leads = λ rest. simp (is_intermediate, append_assoc) }
 
+-- A byte that ends the sequence dispatches it, with at most two intermediates.
 pub intermediate-end : {limit : Option ℕ} {intermediates : List ℕ} {b : ℕ} {class : Class} → class_of b ≡ class
     → dispatches_escape class ≡ true
     → Leads limit (InEscape intermediates) b
@@ -91,6 +98,7 @@ escape-end is_class dispatches is_kind = search (rules, arith)
 
 -- ---- in the head of a control sequence
 
+-- A byte of the head is added to it.
 pub control-head : {limit : Option ℕ} {head : List ℕ} {b : ℕ} → is_head_byte (class_of b) ≡ true
     → Leads limit (InControlSequence head) b [] (InControlSequence (head ++ b ∷ []))
 unfolding control_sequence_from executed_events
@@ -114,11 +122,13 @@ control-silent is_final ill_shaped = record { leads = λ rest. simp (is_final, a
 
 -- ---- in the head of a device control string
 
+-- C0, DEL and 80..FF are dropped.
 pub device-dropped : {limit : Option ℕ} {head : List ℕ} {b : ℕ} {class : Class} → class_of b ≡ class
     → is_dropped_in_head class ≡ true → Leads limit (InDeviceControl head) b [] (InDeviceControl head)
 unfolding device_control_from
 device-dropped is_class dropped = search (rules, arith)
 
+-- A byte of the head is added to it.
 pub device-head : {limit : Option ℕ} {head : List ℕ} {b : ℕ} → is_head_byte (class_of b) ≡ true
     → Leads limit (InDeviceControl head) b [] (InDeviceControl (head ++ b ∷ []))
 unfolding device_control_from
@@ -179,6 +189,7 @@ pub command-control : {limit : Option ℕ} {items : List ℕ} {b : ℕ} → clas
 unfolding system_command_from class_of
 command-control {b} is_control no_bell = search (rules, arith)
 
+-- BEL dispatches the command.
 pub command-bell : {limit : Option ℕ} {items : List ℕ} {b : ℕ} → class_of b ≡ PlainControl → eqb b bell ≡ true
     → Leads limit (InSystemCommand items) b (OscDispatch (pieces_of limit items) true ∷ []) (InText [])
 unfolding system_command_from
@@ -186,6 +197,7 @@ command-bell is_control is_bell = record { leads = λ rest. simp (is_control, is
 
 -- ---- in a string that means nothing
 
+-- Bytes other than CAN and SUB report nothing and change nothing.
 pub ignored-more : {limit : Option ℕ} {b : ℕ} → is_cancel (class_of b) ≡ false
     → Leads limit InIgnoredString b [] InIgnoredString
 unfolding ignored_string_outcome
@@ -198,11 +210,13 @@ pub text-open : {limit : Option ℕ} {opened : List ℕ} {b : ℕ}
     → Leads limit (InText opened) b [] (InText (opened ++ b ∷ []))
 text-open {opened} {b} = record { leads = λ rest. ap text_outcome (sym (append_assoc opened (b ∷ []) rest)) }
 
+-- The last byte of a character reports it.
 pub text-well_formed : {limit : Option ℕ} {opened : List ℕ} {b : ℕ} → is_well_formed (opened ++ b ∷ []) ≡ true
     → Leads limit (InText opened) b (character_event (scalar_of (opened ++ b ∷ [])) ∷ []) (InText [])
 text-well_formed {opened} {b} well_formed =
     record { leads = λ rest. rw append_assoc at (text_outcome-well_formed (opened ++ b ∷ []) rest well_formed) }
 
+-- A byte that neither is a character nor begins one is malformed by itself.
 pub text-lone : {limit : Option ℕ} {b : ℕ} → is_well_formed (b ∷ []) ≡ false → is_truncated (b ∷ []) ≡ false
     → Leads limit (InText []) b (malformed_event (b ∷ []) ∷ []) (InText [])
 text-lone {b} not_well_formed not_truncated =
@@ -250,6 +264,7 @@ pub is_character_event-malformed : (b : ℕ) → IsCharacterEvent (malformed_eve
 unfolding malformed_event
 is_character_event-malformed b = search (rules, arith)
 
+-- A character event has no fields that could be too large.
 pub character_event_bounded : (limit : Option ℕ) (event : Event) → IsCharacterEvent event → IsBounded limit event
 character_event_bounded limit event short = search (rules, arith)
 

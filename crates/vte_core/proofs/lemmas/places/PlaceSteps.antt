@@ -10,10 +10,12 @@ use Rattle.vte_core.proofs.lemmas.places.Steps.{AreOutsideRuns, IsOutsideRunsAtP
 use Rattle.vte_core.proofs.lemmas.places.TextSteps.{byte-cancels, closing_alone_brief, closing_brief, step-text}
 use Rattle.vte_core.specs.Class.{Escape}
 
+-- The place isn't in a text.
 abbrev IsOutsideText : Place → Type 0
 IsOutsideText (InText opened) = ⊥
 IsOutsideText _ = Unit {0}
 
+-- The place holds no byte of a character or of a command.
 abbrev HoldsNothing : Place → Type 0
 HoldsNothing (InText (a ∷ opened)) = ⊥
 HoldsNothing (InSystemCommand (item ∷ items)) = ⊥

@@ -11,6 +11,7 @@ LeavesOpen next reported = (open_at next ≡ []) ⊎ ((reported ≡ []) ⊎ (rep
 abbrev pub IsSilentOrSettles : Place → List Event → Type 0
 IsSilentOrSettles next reported = (reported ≡ []) ⊎ ((open_at next ≡ []) × IsAtMostOneCharacter reported)
 
+-- The place is in a text.
 abbrev pub IsText : Place → Type 0
 IsText (InText opened) = Unit {0}
 IsText _ = ⊥
@@ -31,6 +32,7 @@ IsOutsideRunsAtPlace (InText opened) byte = ⊥
 IsOutsideRunsAtPlace InDeviceData byte = is_device_data (class_of byte) ≡ false
 IsOutsideRunsAtPlace _ byte = Unit {0}
 
+-- None of the events is one of a run.
 abbrev pub AreOutsideRuns : List Event → Type 0
 AreOutsideRuns [] = Unit {0}
 AreOutsideRuns (event ∷ []) = IsOutsideRuns event

@@ -18,9 +18,11 @@ use Rattle.vte_core.specs.private.ToRun.{IsOutsideRunsInState}
 -- The performer that keeps all events is where any performer is (`recorded-at`), and its value is what was reported
 -- (`reported-at`).
 
+-- The step of this performer.
 abbrev pub keep : List Event → Event → List Event
 keep events event = events ++ event ∷ []
 
+-- A call with it that can't stop.
 abbrev pub keeping : Option ℕ → List ℕ → ChunkCall (List Event)
 keeping limit bytes = chunk_call false keep (λ _. false) limit bytes
 
@@ -156,6 +158,7 @@ module _ {limit : Option ℕ} {stream bytes : List ℕ} {i : ℕ} where
 
 -- First nothing is reported, then what an open character is, then stretches of which none reports a run.
 
+-- None but the first event may be one of a run.
 abbrev AllAfterFirst : List Event → Type 0
 AllAfterFirst events = All IsOutsideRuns (drop 1 events)
 

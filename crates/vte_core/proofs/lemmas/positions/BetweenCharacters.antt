@@ -87,6 +87,7 @@ pub record ReadsOn {V B : Type 0} (call : ChunkCall V) (first value : V) (from p
 
 -- A control or a malformed byte, by whether it is ASCII. Neither event is one of a run.
 
+-- What such a byte reports, if no character is open.
 record Single (limit : Option ℕ) (b : ℕ) : Type 0 where
   reported : List Event
   leads : BytesLead limit (InText []) (b ∷ []) reported (InText [])

@@ -30,6 +30,7 @@ is_at-in_text in_state same continues = is_at-by in_state (same, continues)
 abbrev pub in_text : {B : Type 0} → Machine B → OpenCharacter → Machine B
 in_text parser opened = record { state = Text opened; collected = parser.collected; command = parser.command }
 
+-- The place is in a text, inside a character of these bytes if there are any.
 record AtText (opened : OpenCharacter) (place : Place) : Type 0 where
   same : place ≡ InText (bytes_of opened)
   continues : may_continue (bytes_of opened) ≡ true
@@ -171,9 +172,11 @@ pub record GoesOn {V B : Type 0} (call : ChunkCall V) (value : V) (i j : ℕ) (o
       → bytes_of still_open ≡ bytes_of opened ++ take n (drop i call.bytes)
 
 module _ {V B : Type 0} {call : ChunkCall V} {value : V} {i : ℕ} {opened : OpenCharacter} where
+  -- Before any byte is read, the character is as it was.
   pub goes_on-nowhere : (next : Machine B) → bytes_of opened ≢ [] → GoesOn call value i i opened opened next
   goes_on-nowhere next some_open = search (rules, arith)
 
+  -- A byte after which the character is still open is read with those before it.
   pub goes_on-more : {j b : ℕ} {still_open longer : OpenCharacter} {parser next : Machine B}
       → GoesOn call value i j opened still_open parser
       → (is_truncated (bytes_of still_open) ≡ true → Extends (bytes_of still_open) b (Truncated longer))

@@ -85,18 +85,22 @@ reads_head-parameter {from} {i} {b} {reached} {old} {new} may before_end byte_is
 -- Control sequences and device control strings differ only in state and place (`state_of`, `in_head`), so one lemma
 -- advances past the bytes of both heads (`advances-head`).
 
+-- Which of the two has the head.
 pub data Shape : Type 0 where
   ControlHead : Shape
   DeviceHead : Shape
 
+-- The state of a parser inside such a head.
 abbrev state_of : Shape → HeadProgress → State
 state_of ControlHead reached = ControlSequence reached
 state_of DeviceHead reached = DeviceControl reached
 
+-- The place after these bytes of such a head.
 abbrev in_head : Shape → List ℕ → Place
 in_head ControlHead head = InControlSequence head
 in_head DeviceHead head = InDeviceControl head
 
+-- The place is inside a head of this shape, and this is what was collected of it.
 record InHeadAt (shape : Shape) (collected : CollectedHead) (reached : HeadProgress) (place : Place) : Type 0 where
   head : List ℕ
   same : place ≡ in_head shape head

@@ -30,9 +30,11 @@ breaks-prefix : (opened unread : List ℕ) (n : ℕ) → 0 < n → breaks opened
 breaks-prefix opened unread n nonempty broken = search (rules, arith)
 
 module _ (limit : Option ℕ) (stream bytes : List ℕ) (i j : ℕ) (in_order : i < j) where
+  -- The stream to position i.
   abbrev here : List ℕ
   here = stream ++ take i bytes
 
+  -- The bytes from i to j.
   abbrev stretch : List ℕ
   stretch = take (j - i) (drop i bytes)
 

@@ -122,9 +122,11 @@ is_empty_or_not (b ∷ bytes) = inr (λ same. cc)
 
 -- From position i, one byte leads to the next position.
 module _ (limit : Option ℕ) (stream bytes : List ℕ) (i : ℕ) (before_end : i < length bytes) where
+  -- The stream to position i.
   abbrev here : List ℕ
   here = stream ++ take i bytes
 
+  -- The byte there.
   abbrev b : ℕ
   b = get_or bytes i 0
 

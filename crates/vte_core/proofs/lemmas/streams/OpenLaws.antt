@@ -19,6 +19,7 @@ use Rattle.vte_core.specs.SequenceKind.{ControlSequence, DeviceControl, IgnoredS
 
 -- ---- some bytes are the last of others (`Ends`)
 
+-- `last` ends `whole`, after these bytes.
 record Ends (whole last : List ℕ) : Type 0 where
   pub prefix : List ℕ
   pub joins : prefix ++ last ≡ whole

@@ -24,6 +24,7 @@ group_text group = join_with_byte colon (map decimal group)
 abbrev pub after_colon : ℕ → List ℕ
 after_colon number = colon ∷ decimal number
 
+-- The same for a group.
 abbrev pub after_semicolon : List ℕ → List ℕ
 after_semicolon group = semicolon ∷ group_text group
 
@@ -84,9 +85,11 @@ no_separators-decimal n small = search (rules, arith, is_digit_no_separator, dig
 
 -- Such a text is read from the front: each separator ends the number before it (`spelled_after`).
 
+-- What stands before a number.
 abbrev separator : Number → ℕ
 separator number = if number.joined then colon else semicolon
 
+-- A number with its separator.
 abbrev spelled : Number → List ℕ
 spelled number = separator number ∷ decimal number.value
 
@@ -279,6 +282,7 @@ bytes_lead-shown limit bytes are_parameters =
     (bytes_lead-head limit [] bytes are_parameters) last in
     bytes_lead-append begun rest
 
+-- Groups that are sent as the parameters of a control sequence are dispatched as they were.
 pub shown_dispatched : (limit : Option ℕ) (groups : List (List ℕ)) → AreParameters groups → DispatchesShown limit groups
 unfolding sequence_event
 shown_dispatched limit groups are_parameters =

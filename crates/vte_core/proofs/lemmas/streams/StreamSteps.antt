@@ -18,6 +18,7 @@ to_close-fits limit (InText (a ∷ opened)) = tt
 to_close-fits limit (InSystemCommand items) = pieces_fit limit items
 to_close-fits limit _ = tt
 
+-- How many data bytes are open at a place.
 abbrev size_at : Option ℕ → Place → ℕ
 size_at limit place = open_data_count (to_close_at limit place)
 

@@ -4,6 +4,8 @@ from fnmatch import fnmatchcase
 from pathlib import Path
 
 import pytest
+from lib.files import TOP
+from lib.fuzzing import coverage, targets
 from lib.testing.support import TOOLS, Tool, write, write_program
 
 # what a target does at a difference, or always
@@ -16,12 +18,13 @@ def test_a_difference_is_found(does, is_found):
     assert fuzz.parts["finds_differences"]("target", program) == is_found
 
 
-def test_a_file_that_is_gone_is_not_built(folder):
+def test_a_file_that_is_gone_is_not_built(folder, monkeypatch):
     for path in "vte/fuzz/a", "vte/tests/a", "in/a", "to/gone":
         write(path, "")
-    fuzz = Tool("fuzz", FUZZ=folder / "vte/fuzz", STAND_IN=folder / "in", DIFFERENT=folder / "to",
-                run_cargo=lambda *_: None)
-    fuzz.parts["build_different"]("readings")
+    for name, value in {"FUZZ": folder / "vte/fuzz", "STAND_IN": folder / "in",
+                        "DIFFERENT": folder / "to", "run_cargo": lambda *_: None}.items():
+        monkeypatch.setattr(targets, name, value)
+    targets.build_different("readings")
     assert {path.name for path in Path("to").iterdir()} == {"a", "fuzz", "tests"}
 
 
@@ -52,9 +55,8 @@ def test_what_is_fuzzed(words, targets, seconds, failing, status):
 def test_lines_that_are_not_run_are_there():
     listed = (TOOLS / "lib/fuzzing/unreached.txt").read_text()
     assert re.fullmatch(r"(#.*\n)+(\n\S.*:\n( {4}\S.*\n)+)+", listed)
-    fuzz = Tool("fuzz").parts
-    for path in fuzz["UNREACHED"]:
+    for path in coverage.UNREACHED:
         file, function, line = re.fullmatch(r"(\S+) (\w+): (.*)", path).groups()
-        text = (TOOLS.parent / "rust/vte" / fuzz["PROVED"] / f"{file}.rs").read_text()
+        text = (TOP / "rust/vte" / coverage.PROVED / f"{file}.rs").read_text()
         bodies = "".join(re.findall(rf"\bfn {function}\b.*?(?=\bfn \w|\Z)", text, re.S))
         assert any(fnmatchcase(found.strip(), line) for found in bodies.splitlines()), path

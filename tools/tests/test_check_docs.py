@@ -112,8 +112,8 @@ def test_a_comment_stands_above_each_definition(path, is_checked):
     write(path, "-- A.\nabbrev a : A\nabbrev pub b : B\n\nrecord C : Type 0 where\n  -- D.\n"
                 "  pub data D : Type 0 where\n\n  abbrev pub record E : Type 0 where\n-- F.\n\n"
                 "pub data F : Type 0 where\n\npub g : G\ng =\n  record { h = i }\nj =\n"
-                "  record k { h = i }\ndata-l : L\n")
-    lines = [3, 5, 9, 12] if is_checked else []
+                "  record k { h = i }\ndata-l : L\n-- ---- m\nabbrev n : N\n")
+    lines = [3, 5, 9, 12, 21] if is_checked else []
     assert make_tool().run() == (bool(lines), "".join(
         f"{path}:{line}: this definition has no comment above it\n" for line in lines)
         + f"0 pages, {len(lines)} failures\n")

@@ -28,6 +28,23 @@ def test_a_file_that_is_gone_is_not_built(folder, monkeypatch):
     assert {path.name for path in Path("to").iterdir()} == {"a", "fuzz", "tests"}
 
 
+@pytest.mark.parametrize("target", targets.TARGETS)
+def test_an_input_is_some_bytes_and_a_stream(target, folder, monkeypatch):
+    streams = [b"stream", b"", b"another"]
+    monkeypatch.setattr(targets, "FOLDER", folder)
+    monkeypatch.setattr(targets, "list_streams", lambda: streams)
+    inputs = [path.read_bytes() for path in targets.write_corpus(target).iterdir()]
+    front = {"readings": 2, "beside_vte": 2, "c_library": 3}[target]
+    assert sorted(data[front:] for data in inputs) == sorted(streams)
+
+
+def test_lines_that_are_not_run_are_found(folder, monkeypatch):
+    monkeypatch.setattr(coverage, "FUZZ", folder / "vte/fuzz")
+    write("vte/src/proved/a.rs", "fn f() {\n    g();\n    h();\n}\nfn i() {\n    j();\n}\n")
+    found = coverage.list_lines_not_run({"a.rs": {1, 2, 3, 4, 6}}, {"a.rs": {2}})
+    assert [*found] == [("a.rs:3: h();", "a f: h();"), ("a.rs:6: j();", "a i: j();")]
+
+
 # words, the targets and the seconds for each, which functions fail, and the status
 @pytest.mark.parametrize("words, targets, seconds, failing, status", [
     ("", "readings beside_vte c_library", 5, "coverage", 0),

@@ -140,9 +140,14 @@ def test_an_edit_of_must_fail_has_no_verdict_and_is_no_mutant(copy):
         f"{PATH}: it is also in must-fail/"]
 
 
-def mutate(output, *words, **replaced):
-    ran = SimpleNamespace(run=lambda *_, **__: SimpleNamespace(stdout=output), DEVNULL=None,
-                          check_output=lambda *_, **__: "abc1234\n", PIPE=None)
+def mutate(output, *words, see=lambda _: None, **replaced):
+    """Returns the status of a run in which rt says `output`. `see` gets rt's environment."""
+    def run(*_, env, **__):
+        see(env)
+        return SimpleNamespace(stdout=output)
+
+    ran = SimpleNamespace(run=run, DEVNULL=None, PIPE=None,
+                          check_output=lambda *_, **__: "abc1234\n")
     return Tool("mutate", subprocess=ran, **replaced).run(*map(str, words))[0]
 
 
@@ -191,6 +196,16 @@ def test_all_mutants_are_tried(copy):
     assert mutate("rt: must-fail c/n.edit: refused, as it must be: `x-y`: why\n", copy) == 1
     assert sorted(file.name for file in copy.rglob("*.edit")) == ["m.edit", "n.edit"]
     assert other.read_text() == MUTANT.replace("goal", "x-y") and Path(PATH).read_text() == MUTANT
+
+
+@pytest.mark.parametrize("given, jobs", [(None, "3"), ("1", "1")])
+def test_one_is_tried_per_core_unless_told_otherwise(copy, monkeypatch, given, jobs):
+    monkeypatch.delenv("RT_JOBS", raising=False)
+    if given:
+        monkeypatch.setenv("RT_JOBS", given)
+    seen = []
+    mutate("", copy, count_cores=lambda: 3, see=seen.append)
+    assert [environment["RT_JOBS"] for environment in seen] == [jobs]
 
 
 @pytest.mark.parametrize("verdict, tried", [("abc1200", ["m.edit"]), ("abc1234", [])])

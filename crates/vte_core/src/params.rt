@@ -3,9 +3,9 @@ ghost use Rattle.std.specs.Fmt.{decimal, WritesOnOk};
 ghost use Rattle.std.specs.Iterator.{at_most, item_count, UpTo, YieldsFirstRef};
 ghost use Rattle.std.specs.Iterator.SizeHint.{IsWithinCount};
 ghost use Rattle.std.specs.List.{join_with_byte};
-ghost use Rattle.std.specs.Prelude.{IfSome, IsTrue, length, List, map, Some, ℕ, [], ◌++◌, ◌<◌, ◌==◌, ◌↔◌, ◌∷◌, ◌≡◌, ◌≤◌};
+ghost use Rattle.std.specs.Prelude.{IfSome, IsTrue, length, List, map, Some, true, ℕ, [], ◌++◌, ◌<◌, ◌==◌, ◌↔◌, ◌∷◌, ◌≡◌, ◌≤◌};
 ghost use Rattle.vte_core.specs.Parameters.{AreGroups, colon, count_of, max_numbers, shown, with_number};
-ghost use Rattle.vte_core.specs.private.FlatGroups.{AreFlatGroups, AreRawParts, IsLastPopped};
+ghost use Rattle.vte_core.specs.private.FlatGroups.{AreFlatGroups, AreRawParts, lengths_of};
 
 use arrayvec::ArrayVec;
 use std::fmt;
@@ -21,17 +21,18 @@ pub(crate) const MAX_NUMBERS: usize = 32;
 pub struct Params {
     /// All numbers in a row.
     numbers: ArrayVec<u16, MAX_NUMBERS>,
-    /// How many of them are in each group.
+    /// How many of them are in each group. Empty until a number joins a group, since in most
+    /// sequences none does.
     lengths: ArrayVec<u8, MAX_NUMBERS>,
 }
 
 impl Model for Params {
     ghost use Rattle.std.specs.Prelude.{List, ℕ};
-    ghost use Rattle.vte_core.specs.private.FlatGroups.{AreFlatGroups, cut_by_lengths};
+    ghost use Rattle.vte_core.specs.private.FlatGroups.{AreFlatGroups, stored_groups};
 
     ghost Value = { List (List ℕ) };
 
-    ghost view = { λ params. cut_by_lengths params.lengths.items params.numbers.items };
+    ghost view = { λ params. stored_groups params.lengths.items params.numbers.items };
 
     ghost invariant = { λ params. AreFlatGroups params.lengths.items params.numbers.items };
 }
@@ -46,13 +47,13 @@ pub struct ParamsIter<'a> {
 
 impl<'a> Model for ParamsIter<'a> {
     ghost use Rattle.std.specs.Prelude.{List, ℕ};
-    ghost use Rattle.vte_core.specs.private.FlatGroups.{AreLengths, cut_by_lengths};
+    ghost use Rattle.vte_core.specs.private.FlatGroups.{AreStoredLengths, stored_groups};
 
     ghost Value = { List (List ℕ) };
 
-    ghost view = { λ it. cut_by_lengths it.lengths.now it.numbers.now };
+    ghost view = { λ it. stored_groups it.lengths.now it.numbers.now };
 
-    ghost invariant = { λ it. AreLengths it.lengths.now it.numbers.now };
+    ghost invariant = { λ it. AreStoredLengths it.lengths.now it.numbers.now };
 }
 
 impl Params {
@@ -91,12 +92,30 @@ impl Params {
         requires { count_of self.old < max_numbers }
         ensures { self.new ≡ with_number self.old (record { joined = joined; value = value }) }
     {
-        let length = pop_if_joined(&mut self.lengths, joined);
-        self.numbers.push(value);
-        self.lengths.push(length.unwrap_or(0) + 1);
+        if joined {
+            self.push_joined(value);
+        } else if self.lengths.is_empty() {
+            self.numbers.push(value);
+        } else {
+            self.numbers.push(value);
+            self.lengths.push(1);
+        }
     }
 
-    /// Returns how many numbers are in each group, and all numbers in a row.
+    /// Adds a number to the last group, or to a new one if there is none. Few numbers join a group.
+    #[inline(never)]
+    fn push_joined(&mut self, value: u16)
+        requires { count_of self.old < max_numbers }
+        ensures { self.new ≡ with_number self.old (record { joined = true; value = value }) }
+    {
+        fill_lengths(&mut self.lengths, self.numbers.len());
+        let length = self.lengths.pop().unwrap_or(0);
+        self.numbers.push(value);
+        self.lengths.push(length + 1);
+    }
+
+    /// Returns how many numbers are in each group, or nothing if one is in each, and all numbers in
+    /// a row.
     // cargo: #[cfg(feature = "__own")]
     pub(crate) fn raw_parts(&self) -> (&[u8], &[u16])
         ensures { AreRawParts result.0.now result.1.now self.now }
@@ -149,20 +168,27 @@ impl Params {
     }
 }
 
-/// Removes and returns the length of the last group, if the next number joins it.
-// cargo: #[inline]
-fn pop_if_joined(lengths: &mut ArrayVec<u8, MAX_NUMBERS>, joined: bool) -> Option<u8>
-    ensures { IsLastPopped joined lengths.old.items lengths.new.items result }
+/// Stores the lengths of this many numbers, if none are stored: each is a group of its own.
+fn fill_lengths(lengths: &mut ArrayVec<u8, MAX_NUMBERS>, count: usize)
+    requires { count ≤ max_numbers }
+    ensures { lengths.new.items ≡ lengths_of lengths.old.items count }
 {
-    if joined { lengths.pop() } else { None }
+    if lengths.is_empty() {
+        for _ in 0..count {
+            lengths.push(1);
+        }
+    }
 }
 
 /// Returns whether these are the lengths of groups with these numbers.
-#[tactic(auto, using(std::proofs::lemmas::Grind::elements, crate::proofs::lemmas::fields::Numbers::sum_take_more, crate::proofs::lemmas::fields::Numbers::sum_take_below, crate::proofs::lemmas::fields::Numbers::filled_take_more))]
+#[tactic(auto, using(std::proofs::lemmas::Grind::elements, crate::proofs::lemmas::fields::Numbers::sum_take_more, crate::proofs::lemmas::fields::Numbers::sum_take_below, crate::proofs::lemmas::fields::Numbers::filled_take_more, crate::proofs::lemmas::fields::Numbers::are_stored_lengths_alone, crate::proofs::lemmas::fields::Numbers::lengths_of_stored))]
 // cargo: #[cfg(feature = "__own")]
 fn are_flat_groups(lengths: &[u8], numbers: &[u16]) -> bool
     ensures { IsTrue result ↔ AreFlatGroups lengths.now numbers.now }
 {
+    if lengths.is_empty() {
+        return true;
+    }
     let mut left = numbers.len();
     for length in lengths {
         let length = usize::from(*length);
@@ -172,6 +198,20 @@ fn are_flat_groups(lengths: &[u8], numbers: &[u16]) -> bool
         left -= length;
     }
     left == 0
+}
+
+impl ParamsIter<'_> {
+    /// Returns how many groups are left.
+    #[tactic(auto, using(crate::proofs::lemmas::fields::Numbers::length_stored_groups, crate::proofs::lemmas::fields::Numbers::length_stored_groups_alone))]
+    fn count_groups(&self) -> usize
+        ensures { result ≡ length self.now }
+    {
+        if self.lengths.is_empty() {
+            self.numbers.len()
+        } else {
+            self.lengths.len()
+        }
+    }
 }
 
 impl Default for Params {
@@ -202,8 +242,14 @@ impl<'a> Iterator for ParamsIter<'a> {
 
     ghost remaining = { item_count (λ groups. groups) };
 
-    // cargo: #[inline]
+    #[inline(always)]
     fn next(&mut self) -> Option<&'a [u16]> {
+        // Each number is a group of its own.
+        if self.lengths.is_empty() {
+            let (group, numbers) = self.numbers.split_at_checked(1)?;
+            self.numbers = numbers;
+            return Some(group);
+        }
         let (length, lengths) = self.lengths.split_first()?;
         let (group, numbers) = self.numbers.split_at(usize::from(*length));
         self.lengths = lengths;
@@ -216,7 +262,7 @@ impl<'a> Iterator for ParamsIter<'a> {
         ensures lower { IsWithinCount result.0 (at_most (length self.now)) }
         ensures upper { IfSome result.1 (UpTo (at_most (length self.now))) }
     {
-        let groups = self.lengths.len();
+        let groups = self.count_groups();
         (groups, Some(groups))
     }
 }

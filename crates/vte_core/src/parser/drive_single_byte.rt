@@ -158,7 +158,7 @@ impl<B: Buffer> Machine<B> {
     }
 
     /// Reads a byte of the head of a control sequence: of its parameters, like most, or another.
-    #[inline(always)]
+    #[inline(never)]
     fn read_parameter_byte<P: CountedPerform<G>, G: Granularity>(
         &mut self,
         reader: &mut Reader,

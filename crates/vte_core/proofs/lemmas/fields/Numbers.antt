@@ -1,11 +1,14 @@
--- How lengths cut numbers into groups, also with one more number (`pushed`), and how one more byte changes the numbers
+-- How lengths cut numbers into groups, also with one more number (`IsPushed`), and how one more byte changes the numbers
 -- of a parameter text. By induction over the lengths, and over the text, with the digits since the last separator.
 use Rattle.std.proofs.lemmas.Int.Digits.{digits_value_push}
-use Rattle.std.proofs.lemmas.List.{length-take-le}
+use Rattle.std.proofs.lemmas.List.Elements.{All-replicate}
+use Rattle.std.proofs.lemmas.List.Folds.{sum_by-replicate}
+use Rattle.std.proofs.lemmas.List.{length-replicate, length-take-le, replicate_more}
 use Rattle.std.proofs.lemmas.List.Splits.{slice_split_at, slice_split_none}
 use Rattle.std.specs.Option.{unwrap_or}
+use Rattle.std.specs.Prelude.{option_to_list, replicate}
 use Rattle.vte_core.proofs.Common.{All, All-cons, All-drop, All-head, All-nil, All-pop, All-push, All-tail, All-take, AllFitU16, ap, append-nil, append_assoc, AreGroups, arith, Bool, cases_Bool, count_of, digit_value, drop, drop-append-le, drop_all, false, filter, FitsU16, fold, fold_push, get_or, greatest_number, grouped, groups_of, inl, inr, is_colon, is_separator, IsNonEmpty, length, length-append, length-drop, length-take, List, map, max_numbers, min, nat_tests, None, Number, number_of, numbers, numbers_from, numbers_of, Option, refl, rules, slice_split, Some, subst, suc, sum, sum_by-cons, sum_by-take-le, sum_by_push, sym, take, take-append-drop, take-append-le, take_all, take_more, true, with_number, ℕ, [], ◌*◌, ◌++◌, ◌+◌, ◌-◌, ◌<◌, ◌∙◌, ◌∷◌, ◌≡◌, ◌≤◌}
-use Rattle.vte_core.specs.private.FlatGroups.{AreFlatGroups, AreLengths, cut_by_lengths, IsLastPopped}
+use Rattle.vte_core.specs.private.FlatGroups.{AreFlatGroups, AreLengths, AreStoredLengths, cut_by_lengths, lengths_of, stored_groups}
 
 -- ---- groups cut by lengths
 
@@ -74,10 +77,10 @@ small-cut_by_lengths (n ∷ lengths) numbers small =
     (small-cut_by_lengths lengths (drop n numbers) (All-drop FitsU16 n numbers small))
 
 -- What `Params` may store are groups of a sequence.
-pub AreGroups-cut_by_lengths : (lengths numbers : List ℕ) → AreFlatGroups lengths numbers
+pub AreGroups-stored_groups : (lengths numbers : List ℕ) → AreFlatGroups lengths numbers
     → length numbers ≤ max_numbers
-    → AreGroups (cut_by_lengths lengths numbers)
-AreGroups-cut_by_lengths lengths numbers are_flat at_most =
+    → AreGroups (stored_groups lengths numbers)
+AreGroups-stored_groups lengths numbers are_flat at_most =
     search (rules, arith, count_of-cut_by_lengths, small-cut_by_lengths, filled-cut_by_lengths)
 
 -- ---- a number more
@@ -163,24 +166,98 @@ pushed-alone {joined} {lengths} {rest} {numbers} {value} are_lengths parts same 
     )
     (sym (with_number-begins (cut_by_lengths lengths numbers) value) ∙ same)))
 
--- A number is pushed with a length of its own, or by one more in the last length.
-pub pushed : (joined : Bool) (lengths rest numbers : List ℕ) (last : Option ℕ) (value : ℕ)
-    → AreLengths lengths numbers → IsLastPopped joined lengths rest last
-    → IsPushed joined lengths rest numbers last value
-pushed true lengths rest numbers (Some n) value are_lengths taken =
+-- A number that begins a group has a length of its own.
+pub pushed-begins : (lengths numbers : List ℕ) (value : ℕ) → AreLengths lengths numbers
+    → IsPushed false lengths lengths numbers None value
+pushed-begins lengths numbers value are_lengths = pushed-alone are_lengths (sym (append-nil lengths)) refl
+
+-- A number that joins a group is one more in the last length.
+pub pushed-joins : (lengths rest numbers : List ℕ) (last : Option ℕ) (value : ℕ) → AreLengths lengths numbers
+    → lengths ≡ rest ++ option_to_list last → (last ≡ None → length lengths ≡ 0)
+    → IsPushed true lengths rest numbers last value
+pushed-joins lengths rest numbers (Some n) value are_lengths parts found =
     let sum_is : sum rest + n ≡ length numbers =
-    sym (sum_push rest n) ∙ ap sum (sym taken.parts) ∙ are_lengths.sum_is in
+    sym (sum_push rest n) ∙ ap sum (sym parts) ∙ are_lengths.sum_is in
     let old = simp append-nil at (cut_by_lengths-last rest numbers [] n n sum_is (omega arith)) in
     cut_by_lengths-more sum_is
-    (All-pop (λ m. 0 < m) lengths rest (Some n) taken.parts are_lengths.filled).0
+    (All-pop (λ m. 0 < m) lengths rest (Some n) parts are_lengths.filled).0
     (sym (with_number-joins (cut_by_lengths rest (take (sum rest) numbers)) (drop (sum rest) numbers) value)
     ∙ ap (λ groups. with_number groups (numbered true value))
-    (sym old ∙ ap (λ those. cut_by_lengths those numbers) (sym taken.parts)))
-pushed true [] rest numbers None value are_lengths taken = pushed-alone are_lengths taken.parts refl
-pushed true (n ∷ lengths) rest numbers None value are_lengths taken = absurd (omega (arith, taken.found refl refl))
-pushed false lengths rest numbers (Some n) value are_lengths taken = let none_found = taken.alone refl in cc
-pushed false lengths rest numbers None value are_lengths taken =
-    pushed-alone are_lengths taken.parts refl
+    (sym old ∙ ap (λ those. cut_by_lengths those numbers) (sym parts)))
+pushed-joins [] rest numbers None value are_lengths parts found = pushed-alone are_lengths parts refl
+pushed-joins (n ∷ lengths) rest numbers None value are_lengths parts found = absurd (omega (arith, found refl))
+
+-- ---- lengths that aren't stored
+
+-- If none are stored, the lengths are all 1.
+pub are_stored_lengths_alone : (lengths numbers : List ℕ) → length lengths ≡ 0 → AreStoredLengths lengths numbers
+are_stored_lengths_alone [] numbers none = record {
+  sum_is = omega (arith, sum_by-replicate (λ (m : ℕ). m) (length numbers) 1);
+  filled = All-replicate (λ m. 0 < m) (length numbers) 1 (omega arith);
+}
+are_stored_lengths_alone (n ∷ lengths) numbers none = absurd (omega (arith, none))
+
+-- Then there are as many groups as numbers.
+pub length_stored_groups_alone : (lengths numbers : List ℕ) → length lengths ≡ 0
+    → length (stored_groups lengths numbers) ≡ length numbers
+length_stored_groups_alone [] numbers none =
+    length-cut_by_lengths (replicate (length numbers) 1) numbers ∙ length-replicate (length numbers) 1
+length_stored_groups_alone (n ∷ lengths) numbers none = absurd (omega (arith, none))
+
+-- Otherwise the lengths are those that are stored.
+pub lengths_of_stored : (lengths : List ℕ) (count : ℕ) → 0 < length lengths → lengths_of lengths count ≡ lengths
+lengths_of_stored [] count some = absurd (omega (arith, some))
+lengths_of_stored (n ∷ lengths) count some = refl
+
+pub length_stored_groups : (lengths numbers : List ℕ) → 0 < length lengths
+    → length (stored_groups lengths numbers) ≡ length lengths
+length_stored_groups lengths numbers some =
+    length-cut_by_lengths (lengths_of lengths (length numbers)) numbers
+    ∙ ap length (lengths_of_stored lengths (length numbers) some)
+
+-- Lengths are stored once there is one.
+pub lengths_of-push : (lengths : List ℕ) (n count : ℕ) → lengths_of (lengths ++ n ∷ []) count ≡ lengths ++ n ∷ []
+lengths_of-push [] n count = refl
+lengths_of-push (m ∷ lengths) n count = refl
+
+-- Behind the last of stored lengths there are no numbers, so none is a group of its own.
+lengths_of-rest : {n : ℕ} {lengths numbers : List ℕ} → AreLengths (n ∷ lengths) numbers
+    → lengths_of lengths (length (drop n numbers)) ≡ lengths
+lengths_of-rest {n} {lengths = []} {numbers} are_lengths =
+    ap (λ (count : ℕ). replicate count 1) (sym (sum_rest n [] numbers are_lengths.sum_is).1)
+lengths_of-rest {lengths = m ∷ lengths} are_lengths = refl
+
+-- The first stored length cuts off the first group.
+pub stored_groups-first : {n : ℕ} {lengths numbers : List ℕ} → AreLengths (n ∷ lengths) numbers
+    → stored_groups (n ∷ lengths) numbers ≡ take n numbers ∷ stored_groups lengths (drop n numbers)
+stored_groups-first {n} {lengths} {numbers} are_lengths =
+    ap (λ those. take n numbers ∷ cut_by_lengths those (drop n numbers)) (sym (lengths_of-rest are_lengths))
+
+-- The stored lengths after the first are those of the numbers after its own.
+pub AreStoredLengths-rest : {n : ℕ} {lengths numbers : List ℕ} → AreLengths (n ∷ lengths) numbers
+    → AreStoredLengths lengths (drop n numbers)
+AreStoredLengths-rest {n} {lengths} {numbers} are_lengths =
+    rw (lengths_of-rest are_lengths) (AreLengths-rest are_lengths)
+
+-- A number more is a group of its own, if no lengths are stored.
+pub stored_groups-push : (lengths numbers : List ℕ) (value : ℕ) → length lengths ≡ 0
+    → stored_groups lengths (numbers ++ value ∷ [])
+    ≡ with_number (stored_groups lengths numbers) (numbered false value)
+stored_groups-push [] numbers value none =
+    let ones = replicate (length numbers) 1 in
+    let all : replicate (length (numbers ++ value ∷ [])) 1 ≡ ones ++ 1 ∷ [] =
+    ap (λ (count : ℕ). replicate count 1) (length-append numbers (value ∷ []))
+    ∙ sym (replicate_more (length numbers) 1) in
+    ap (λ (those : List ℕ). cut_by_lengths those (numbers ++ value ∷ [])) all
+    ∙ cut_by_lengths-push ones numbers 1 (value ∷ []) (are_stored_lengths_alone [] numbers refl).sum_is refl
+    ∙ sym (with_number-begins (cut_by_lengths ones numbers) value)
+stored_groups-push (n ∷ lengths) numbers value none = absurd (omega (arith, none))
+
+-- If no lengths are stored, the first number is the first group.
+pub stored_groups-alone : (numbers : List ℕ) → 1 ≤ length numbers
+    → stored_groups [] numbers ≡ take 1 numbers ∷ stored_groups [] (drop 1 numbers)
+stored_groups-alone [] some = absurd (omega (arith, some))
+stored_groups-alone (value ∷ numbers) some = refl
 
 -- ---- lengths that are added up one after another
 

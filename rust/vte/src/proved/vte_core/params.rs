@@ -14,7 +14,8 @@ pub(crate) const MAX_NUMBERS: usize = 32;
 pub struct Params {
     /// All numbers in a row.
     numbers: ArrayVec<u16, MAX_NUMBERS>,
-    /// How many of them are in each group.
+    /// How many of them are in each group. Empty until a number joins a group, since in most
+    /// sequences none does.
     lengths: ArrayVec<u8, MAX_NUMBERS>,
 }
 
@@ -49,12 +50,27 @@ impl Params {
     /// Adds a number: to the last group if `joined`, or else as a group of its own.
     #[inline(always)]
     pub(crate) fn push(&mut self, joined: bool, value: u16) {
-        let length = pop_if_joined(&mut self.lengths, joined);
-        self.numbers.push(value);
-        self.lengths.push(length.unwrap_or(0) + 1);
+        if joined {
+            self.push_joined(value);
+        } else if self.lengths.is_empty() {
+            self.numbers.push(value);
+        } else {
+            self.numbers.push(value);
+            self.lengths.push(1);
+        }
     }
 
-    /// Returns how many numbers are in each group, and all numbers in a row.
+    /// Adds a number to the last group, or to a new one if there is none. Few numbers join a group.
+    #[inline(never)]
+    fn push_joined(&mut self, value: u16) {
+        fill_lengths(&mut self.lengths, self.numbers.len());
+        let length = self.lengths.pop().unwrap_or(0);
+        self.numbers.push(value);
+        self.lengths.push(length + 1);
+    }
+
+    /// Returns how many numbers are in each group, or nothing if one is in each, and all numbers in
+    /// a row.
     #[cfg(feature = "__own")]
     pub(crate) fn raw_parts(&self) -> (&[u8], &[u16]) {
         (self.lengths.as_slice(), self.numbers.as_slice())
@@ -94,19 +110,21 @@ impl Params {
     }
 }
 
-/// Removes and returns the length of the last group, if the next number joins it.
-#[inline]
-fn pop_if_joined(lengths: &mut ArrayVec<u8, MAX_NUMBERS>, joined: bool) -> Option<u8> {
-    if joined {
-        lengths.pop()
-    } else {
-        None
+/// Stores the lengths of this many numbers, if none are stored: each is a group of its own.
+fn fill_lengths(lengths: &mut ArrayVec<u8, MAX_NUMBERS>, count: usize) {
+    if lengths.is_empty() {
+        for _ in 0..count {
+            lengths.push(1);
+        }
     }
 }
 
 /// Returns whether these are the lengths of groups with these numbers.
 #[cfg(feature = "__own")]
 fn are_flat_groups(lengths: &[u8], numbers: &[u16]) -> bool {
+    if lengths.is_empty() {
+        return true;
+    }
     let mut left = numbers.len();
     for length in lengths {
         let length = usize::from(*length);
@@ -116,6 +134,17 @@ fn are_flat_groups(lengths: &[u8], numbers: &[u16]) -> bool {
         left -= length;
     }
     left == 0
+}
+
+impl ParamsIter<'_> {
+    /// Returns how many groups are left.
+    fn count_groups(&self) -> usize {
+        if self.lengths.is_empty() {
+            self.numbers.len()
+        } else {
+            self.lengths.len()
+        }
+    }
 }
 
 impl Default for Params {
@@ -138,8 +167,14 @@ impl<'a> IntoIterator for &'a Params {
 impl<'a> Iterator for ParamsIter<'a> {
     type Item = &'a [u16];
 
-    #[inline]
+    #[inline(always)]
     fn next(&mut self) -> Option<&'a [u16]> {
+        // Each number is a group of its own.
+        if self.lengths.is_empty() {
+            let (group, numbers) = self.numbers.split_at_checked(1)?;
+            self.numbers = numbers;
+            return Some(group);
+        }
         let (length, lengths) = self.lengths.split_first()?;
         let (group, numbers) = self.numbers.split_at(usize::from(*length));
         self.lengths = lengths;
@@ -148,7 +183,7 @@ impl<'a> Iterator for ParamsIter<'a> {
     }
 
     fn size_hint(&self) -> (usize, Option<usize>) {
-        let groups = self.lengths.len();
+        let groups = self.count_groups();
         (groups, Some(groups))
     }
 }

@@ -1,6 +1,6 @@
 -- There are as many groups as lengths.
 use Rattle.vte_core.proofs.Common.{arith, sym, ◌∙◌}
-use Rattle.vte_core.proofs.lemmas.fields.Numbers.{AreGroups-cut_by_lengths, count_of-cut_by_lengths}
+use Rattle.vte_core.proofs.lemmas.fields.Numbers.{AreGroups-stored_groups, count_of-cut_by_lengths}
 use Rattle.vte_core.proofs.params.Params.len.Goals as goal
 
 pub returns-clause-value : goal.returns-clause-value
@@ -8,4 +8,4 @@ returns-clause-value c =
     rw (← c.self.view_is) (c.len.ensures.value ∙ sym (count_of-cut_by_lengths c.self.invariant.lengths_fit))
 
 pub returns-clause-groups : goal.returns-clause-groups
-returns-clause-groups c = rw (← c.self.view_is) (AreGroups-cut_by_lengths _ _ c.self.invariant (omega arith))
+returns-clause-groups c = rw (← c.self.view_is) (AreGroups-stored_groups _ _ c.self.invariant (omega arith))

@@ -181,7 +181,7 @@ fn fill_lengths(lengths: &mut ArrayVec<u8, MAX_NUMBERS>, count: usize)
 }
 
 /// Returns whether these are the lengths of groups with these numbers.
-#[tactic(auto, using(std::proofs::lemmas::Grind::elements, crate::proofs::lemmas::fields::Numbers::sum_take_more, crate::proofs::lemmas::fields::Numbers::sum_take_below, crate::proofs::lemmas::fields::Numbers::filled_take_more, crate::proofs::lemmas::fields::Numbers::are_stored_lengths_alone, crate::proofs::lemmas::fields::Numbers::lengths_of_stored))]
+#[tactic(auto, using(std::proofs::lemmas::Grind::elements, crate::proofs::lemmas::fields::FlatGroups::sum_take_more, crate::proofs::lemmas::fields::FlatGroups::sum_take_below, crate::proofs::lemmas::fields::FlatGroups::filled_take_more, crate::proofs::lemmas::fields::FlatGroups::are_stored_lengths_alone, crate::proofs::lemmas::fields::FlatGroups::lengths_of_stored))]
 // cargo: #[cfg(feature = "__own")]
 fn are_flat_groups(lengths: &[u8], numbers: &[u16]) -> bool
     ensures { IsTrue result ↔ AreFlatGroups lengths.now numbers.now }
@@ -202,7 +202,7 @@ fn are_flat_groups(lengths: &[u8], numbers: &[u16]) -> bool
 
 impl ParamsIter<'_> {
     /// Returns how many groups are left.
-    #[tactic(auto, using(crate::proofs::lemmas::fields::Numbers::length_stored_groups, crate::proofs::lemmas::fields::Numbers::length_stored_groups_alone))]
+    #[tactic(auto, using(crate::proofs::lemmas::fields::FlatGroups::length_stored_groups, crate::proofs::lemmas::fields::FlatGroups::length_stored_groups_alone))]
     fn count_groups(&self) -> usize
         ensures { result ≡ length self.now }
     {

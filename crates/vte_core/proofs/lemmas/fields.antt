@@ -1,6 +1,7 @@
 -- What the fields of a parser hold, and what one byte makes of it.
 
--- Numbers, in groups, and heads.
+-- Groups as they are stored, numbers, and heads.
+pub mod FlatGroups
 pub mod Numbers
 pub mod Heads
 -- Items that are kept, their pieces, and the store.

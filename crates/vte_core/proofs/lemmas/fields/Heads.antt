@@ -3,7 +3,8 @@
 use Rattle.std.proofs.lemmas.List.{length-take}
 use Rattle.vte_core.proofs.Common.{ap, append-nil, append_assoc, arith, Bool, Class, class_of, CollectedHead, count_of, CountsNumbers, Entry, Event, false, greatest_number, grouped, groups_of, has_too_many_numbers, HasReadHead, head_of, HeadProgress, HoldsHead, HoldsIntermediates, HoldsNumbers, IllShaped, inl, inr, Intermediate, Intermediates, is_colon, is_head_byte, is_intermediate, is_marker, is_parameter_byte, is_separator, is_well_shaped, length, length-append, List, Marker, max_numbers, min, nat_tests, numbers, Parameters, refl, rules, SameIntermediates, SameNumbers, sequence_event, StaysIllShaped, sym, take, take-append-le, take_all, true, with_number, ℕ, [], ◌*◌, ◌++◌, ◌+◌, ◌-◌, ◌<◌, ◌||◌, ◌∙◌, ◌∷◌, ◌≡◌, ◌≤◌, ◌⊎◌}
 use Rattle.vte_core.proofs.lemmas.bytes.Classes.{AreInClass-append}
-use Rattle.vte_core.proofs.lemmas.fields.Numbers.{count_of-grouped, grouped-push, is_digit_no_separator, number_of-push, numbered, numbers_are}
+use Rattle.vte_core.proofs.lemmas.fields.FlatGroups.{numbered}
+use Rattle.vte_core.proofs.lemmas.fields.Numbers.{count_of-grouped, grouped-push, is_digit_no_separator, number_of-push, numbers_are}
 use Rattle.vte_core.proofs.lemmas.shapes.HeadParts.{begins-intermediates, collected-parts, collected-well_shaped, head_of-parts, list_all-not}
 use Rattle.vte_core.specs.private.CollectedHead.{HoldsWholeHead}
 

@@ -6,7 +6,8 @@ use Rattle.std.proofs.lemmas.Str.Parse.{digit_from_value}
 use Rattle.std.specs.Str.Parse.{AllDigits, digits_value}
 use Rattle.vte_core.proofs.Common.{All, All-append, All-cons, All-head, All-map, All-nil, All-tail, AllFitU16, ap, append-nil, append_assoc, AreInClass, AreParameters, arith, Bool, BytesLead, class_of, colon, count_of, CsiDispatch, decimal, DispatchesShown, drop, false, flat_map, flat_map-append, fold, fold-append, get_or, greatest_number, groups_of, has_too_many_numbers, head_of, if◌then◌else◌, InControlSequence, InText, is_colon, is_parameter_byte, is_separator, is_well_shaped, IsNonEmpty, join_with_byte, length, List, map, max_numbers, nat_tests, Number, number_of, numbers, numbers_from, Option, refl, rules, semicolon, sequence_event, sequence_kind, shown, sym, take, take_all, true, with_number, ℕ, [], ◌++◌, ◌-◌, ◌∙◌, ◌∷◌, ◌≡◌, ◌≤◌}
 use Rattle.vte_core.proofs.lemmas.bytes.Classes.{head_ends_nothing, parameter_is_head}
-use Rattle.vte_core.proofs.lemmas.fields.Numbers.{count_of-grouped, is_digit_no_separator, IsNoSeparator, numbered, numbers_are, ValueFitsU16, with_number-begins, with_number-joins}
+use Rattle.vte_core.proofs.lemmas.fields.FlatGroups.{numbered, with_number-begins, with_number-joins}
+use Rattle.vte_core.proofs.lemmas.fields.Numbers.{count_of-grouped, is_digit_no_separator, IsNoSeparator, numbers_are, ValueFitsU16}
 use Rattle.vte_core.proofs.lemmas.places.BytesInStream.{bytes_lead-append, bytes_lead-byte, bytes_lead-escape, bytes_lead-nothing, no_escape}
 use Rattle.vte_core.proofs.lemmas.places.PlaceLeads.{control-dispatched, control-head, escape-key}
 use Rattle.vte_core.proofs.lemmas.shapes.HeadParts.{collected-parts, collected-well_shaped}

@@ -1,6 +1,6 @@
 -- At most 32 numbers are cut by lengths that fit, so the groups are those of parameters.
 use Rattle.vte_core.proofs.Common.{length, ◌≤◌}
-use Rattle.vte_core.proofs.lemmas.fields.Numbers.{AreGroups-stored_groups}
+use Rattle.vte_core.proofs.lemmas.fields.FlatGroups.{AreGroups-stored_groups}
 use Rattle.vte_core.proofs.params.Params.iter.Goals as goal
 
 pub returns-clause-groups : goal.returns-clause-groups

@@ -1,6 +1,6 @@
 -- There are as many groups as lengths.
 use Rattle.vte_core.proofs.Common.{arith, sym, ◌∙◌}
-use Rattle.vte_core.proofs.lemmas.fields.Numbers.{AreGroups-stored_groups, count_of-cut_by_lengths}
+use Rattle.vte_core.proofs.lemmas.fields.FlatGroups.{AreGroups-stored_groups, count_of-cut_by_lengths}
 use Rattle.vte_core.proofs.params.Params.len.Goals as goal
 
 pub returns-clause-value : goal.returns-clause-value

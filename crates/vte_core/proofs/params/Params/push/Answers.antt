@@ -1,6 +1,6 @@
--- A number that begins a group has a length of its own (`pushed-begins` of `fields/Numbers`), which is stored if any is.
+-- A number that begins a group has a length of its own (`pushed-begins` of `fields/FlatGroups`), stored if any is.
 use Rattle.vte_core.proofs.Common.{All-push, ap, arith, count_of, greatest_number, length, lit<, rules, ◌<◌, ◌≡◌, ◌≤◌}
-use Rattle.vte_core.proofs.lemmas.fields.Numbers.{count_of-cut_by_lengths, lengths_of-push, lengths_of_stored, pushed-begins, stored_groups-push}
+use Rattle.vte_core.proofs.lemmas.fields.FlatGroups.{count_of-cut_by_lengths, lengths_of-push, lengths_of_stored, pushed-begins, stored_groups-push}
 use Rattle.vte_core.proofs.params.Params.push.Goals as goal
 
 -- There is room for the number.

@@ -1,6 +1,6 @@
--- The last length grows by one (`pushed-joins` of `fields/Numbers`): there is room, and the lengths still fit.
+-- The last length grows by one (`pushed-joins` of `fields/FlatGroups`): there is room, and the lengths still fit.
 use Rattle.vte_core.proofs.Common.{All-push, ap, arith, count_of, greatest_number, length, lit<, None, rules, ◌≡◌, ◌≤◌}
-use Rattle.vte_core.proofs.lemmas.fields.Numbers.{count_of-cut_by_lengths, lengths_of-push, pushed-joins}
+use Rattle.vte_core.proofs.lemmas.fields.FlatGroups.{count_of-cut_by_lengths, lengths_of-push, pushed-joins}
 use Rattle.vte_core.proofs.params.Params.push_joined.Goals as goal
 
 -- There is room for the number.

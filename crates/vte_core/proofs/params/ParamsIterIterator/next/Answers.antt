@@ -1,6 +1,6 @@
 -- The first length is cut off with its numbers, and the other lengths fit the rest.
 use Rattle.vte_core.proofs.Common.{List, subst, ℕ}
-use Rattle.vte_core.proofs.lemmas.fields.Numbers.{AreStoredLengths-rest}
+use Rattle.vte_core.proofs.lemmas.fields.FlatGroups.{AreStoredLengths-rest}
 use Rattle.vte_core.proofs.params.ParamsIterIterator.next.Goals as goal
 use Rattle.vte_core.specs.private.FlatGroups.{AreStoredLengths}
 

@@ -1,7 +1,7 @@
 -- A parser whose fields are those that were saved has read what the saved one had.
 use Rattle.vte_core.proofs.Common.{refl, rules}
-use Rattle.vte_core.proofs.parser.saved.Parser+MAX_OSC_RAW.restore_open.Goals as goal
 use Rattle.vte_core.proofs.parser.saved.Parser+MAX_OSC_RAW.restore_open.Goals.{in-ControlSequence, in-SystemCommand, in_default}
+use Rattle.vte_core.proofs.parser.saved.Parser+MAX_OSC_RAW.restore_open.Goals as goal
 
 pub returns : goal.returns
 returns c = λ stream has_read. has_read.reads (record c.args.self.now { machine = _ }) (record {

@@ -246,7 +246,10 @@ impl<'a> Iterator for ParamsIter<'a> {
     fn next(&mut self) -> Option<&'a [u16]> {
         // Each number is a group of its own.
         if self.lengths.is_empty() {
-            let (group, numbers) = self.numbers.split_at_checked(1)?;
+            if self.numbers.is_empty() {
+                return None;
+            }
+            let (group, numbers) = self.numbers.split_at(1);
             self.numbers = numbers;
             return Some(group);
         }

@@ -24,8 +24,8 @@ pub record AreLengths (lengths numbers : List ℕ) : Type 0 where
   pub filled : All (λ n. 0 < n) lengths
 
 -- Stored lengths fit the numbers.
-abbrev pub AreStoredLengths : List ℕ → List ℕ → Type 0
-AreStoredLengths lengths numbers = AreLengths (lengths_of lengths (length numbers)) numbers
+pub record AreStoredLengths (lengths numbers : List ℕ) : Type 0 where
+  pub fit : AreLengths (lengths_of lengths (length numbers)) numbers
 
 -- The lengths and numbers of a `Params`: each number is up to 65,535.
 pub record AreFlatGroups (lengths numbers : List ℕ) : Type 0 where

@@ -190,8 +190,10 @@ pushed-joins (n ∷ lengths) rest numbers None value are_lengths parts found = a
 -- If none are stored, the lengths are all 1.
 pub are_stored_lengths_alone : (lengths numbers : List ℕ) → length lengths ≡ 0 → AreStoredLengths lengths numbers
 are_stored_lengths_alone [] numbers none = record {
-  sum_is = omega (arith, sum_by-replicate (λ (m : ℕ). m) (length numbers) 1);
-  filled = All-replicate (λ m. 0 < m) (length numbers) 1 (omega arith);
+  fit = record {
+    sum_is = omega (arith, sum_by-replicate (λ (m : ℕ). m) (length numbers) 1);
+    filled = All-replicate (λ m. 0 < m) (length numbers) 1 (omega arith);
+  };
 }
 are_stored_lengths_alone (n ∷ lengths) numbers none = absurd (omega (arith, none))
 
@@ -229,7 +231,7 @@ lengths_of-rest {lengths = m ∷ lengths} are_lengths = refl
 pub AreStoredLengths-rest : {n : ℕ} {lengths numbers : List ℕ} → AreLengths (n ∷ lengths) numbers
     → AreStoredLengths lengths (drop n numbers)
 AreStoredLengths-rest {n} {lengths} {numbers} are_lengths =
-    rw (lengths_of-rest are_lengths) (AreLengths-rest are_lengths)
+    record { fit = rw (lengths_of-rest are_lengths) (AreLengths-rest are_lengths) }
 
 -- A number more is a group of its own, if no lengths are stored.
 pub stored_groups-push : (lengths numbers : List ℕ) (value : ℕ) → length lengths ≡ 0
@@ -241,7 +243,7 @@ stored_groups-push [] numbers value none =
     ap (λ (count : ℕ). replicate count 1) (length-append numbers (value ∷ []))
     ∙ sym (replicate_more (length numbers) 1) in
     ap (λ (those : List ℕ). cut_by_lengths those (numbers ++ value ∷ [])) all
-    ∙ cut_by_lengths-push ones numbers 1 (value ∷ []) (are_stored_lengths_alone [] numbers refl).sum_is refl
+    ∙ cut_by_lengths-push ones numbers 1 (value ∷ []) (are_stored_lengths_alone [] numbers refl).fit.sum_is refl
     ∙ sym (with_number-begins (cut_by_lengths ones numbers) value)
 stored_groups-push (n ∷ lengths) numbers value none = absurd (omega (arith, none))
 

@@ -5,4 +5,4 @@ use Rattle.vte_core.proofs.params.Params.is_full.Goals as goal
 
 pub returns : goal.returns
 returns c = rw (← c.self.view_is)
-    (let count = count_of-cut_by_lengths c.self.invariant.lengths_fit in grind (arith, rules, count))
+    (let count = count_of-cut_by_lengths c.self.invariant.lengths_fit.fit in grind (arith, rules, count))

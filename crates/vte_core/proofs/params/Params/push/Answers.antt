@@ -6,28 +6,29 @@ use Rattle.vte_core.proofs.params.Params.push.Goals as goal
 -- There is room for the number.
 pub push-requires : goal.push-requires
 push-requires c =
-    (lit< tt, omega (arith, count_of-cut_by_lengths c.self.invariant.lengths_fit, ap count_of c.self.view_is))
+    (lit< tt, omega (arith, count_of-cut_by_lengths c.self.invariant.lengths_fit.fit, ap count_of c.self.view_is))
 
 pub push-requires-else-is_empty : goal.push-requires-else-is_empty
 push-requires-else-is_empty c =
-    (lit< tt, omega (arith, count_of-cut_by_lengths c.self.invariant.lengths_fit, ap count_of c.self.view_is))
+    (lit< tt, omega (arith, count_of-cut_by_lengths c.self.invariant.lengths_fit.fit, ap count_of c.self.view_is))
 
 -- There is room for the length.
 pub push-requires-else-is_empty-2 : goal.push-requires-else-is_empty-2
 push-requires-else-is_empty-2 c =
     let some : 0 < length c.self.inside.lengths.items = search (rules, arith) in
-    let fit = rw (lengths_of_stored _ _ some) at c.self.invariant.lengths_fit in
+    let fit = rw (lengths_of_stored _ _ some) at c.self.invariant.lengths_fit.fit in
     let all = pushed-begins _ _ c.args.value fit in
-    (lit< tt, omega (arith, all.room, count_of-cut_by_lengths c.self.invariant.lengths_fit, ap count_of c.self.view_is))
+    let count = count_of-cut_by_lengths c.self.invariant.lengths_fit.fit in
+    (lit< tt, omega (arith, all.room, count, ap count_of c.self.view_is))
 
 -- The lengths are still those of the numbers.
 pub invariant_of-self-else-is_empty : goal.invariant_of-self-else-is_empty
 invariant_of-self-else-is_empty c =
     let some : 0 < length c.self.inside.lengths.items = search (rules, arith) in
-    let fit = rw (lengths_of_stored _ _ some) at c.self.invariant.lengths_fit in
+    let fit = rw (lengths_of_stored _ _ some) at c.self.invariant.lengths_fit.fit in
     let all = pushed-begins _ _ c.args.value fit in
     rw (c.push-else-is_empty-2.ensures.items, c.push-else-is_empty.ensures.items) (record {
-      lengths_fit = rw lengths_of-push all.lengths_fit;
+      lengths_fit = record { fit = rw lengths_of-push all.lengths_fit };
       small =
           All-push (λ number. number ≤ greatest_number) _ c.args.value c.self.invariant.small
           (omega (arith, c.ranges.value.fits));
@@ -42,7 +43,7 @@ returns-then-is_empty c =
 pub returns-else-is_empty : goal.returns-else-is_empty
 returns-else-is_empty c =
     let some : 0 < length c.self.inside.lengths.items = search (rules, arith) in
-    let fit = rw (lengths_of_stored _ _ some) at c.self.invariant.lengths_fit in
+    let fit = rw (lengths_of_stored _ _ some) at c.self.invariant.lengths_fit.fit in
     let all = pushed-begins _ _ c.args.value fit in
     rw (
       c.push-else-is_empty-2.ensures.items,

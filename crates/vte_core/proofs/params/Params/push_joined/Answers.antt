@@ -6,7 +6,7 @@ use Rattle.vte_core.proofs.params.Params.push_joined.Goals as goal
 -- There is room for the number.
 pub push-requires : goal.push-requires
 push-requires c =
-    (lit< tt, omega (arith, count_of-cut_by_lengths c.self.invariant.lengths_fit, ap count_of c.self.view_is))
+    (lit< tt, omega (arith, count_of-cut_by_lengths c.self.invariant.lengths_fit.fit, ap count_of c.self.view_is))
 
 -- There is room for the length.
 pub push-requires-2 : goal.push-requires-2
@@ -14,11 +14,11 @@ push-requires-2 c =
     let parts = rw (c.fill_lengths.ensures, c.len.ensures.value) at c.pop.ensures.items in
     let found : c.pop.result ≡ None → length c.fill_lengths.new.lengths.items ≡ 0 = search (rules, arith) in
     let all =
-    pushed-joins _ _ _ _ c.args.value c.self.invariant.lengths_fit parts
+    pushed-joins _ _ _ _ c.args.value c.self.invariant.lengths_fit.fit parts
     (rw (c.fill_lengths.ensures, c.len.ensures.value) at found) in (
       lit< tt,
       omega
-          (arith, all.room, count_of-cut_by_lengths c.self.invariant.lengths_fit, ap count_of c.self.view_is),
+          (arith, all.room, count_of-cut_by_lengths c.self.invariant.lengths_fit.fit, ap count_of c.self.view_is),
     )
 
 -- The lengths are still those of the numbers.
@@ -27,10 +27,10 @@ invariant_of-self c =
     let parts = rw (c.fill_lengths.ensures, c.len.ensures.value) at c.pop.ensures.items in
     let found : c.pop.result ≡ None → length c.fill_lengths.new.lengths.items ≡ 0 = search (rules, arith) in
     let all =
-    pushed-joins _ _ _ _ c.args.value c.self.invariant.lengths_fit parts
+    pushed-joins _ _ _ _ c.args.value c.self.invariant.lengths_fit.fit parts
     (rw (c.fill_lengths.ensures, c.len.ensures.value) at found) in
     rw (c.push-2.ensures.items, c.push.ensures.items, c.unwrap_or-length.ensures) (record {
-      lengths_fit = rw lengths_of-push all.lengths_fit;
+      lengths_fit = record { fit = rw lengths_of-push all.lengths_fit };
       small =
           All-push (λ number. number ≤ greatest_number) _ c.args.value c.self.invariant.small
           (omega (arith, c.ranges.value.fits));
@@ -42,7 +42,7 @@ returns c =
     let parts = rw (c.fill_lengths.ensures, c.len.ensures.value) at c.pop.ensures.items in
     let found : c.pop.result ≡ None → length c.fill_lengths.new.lengths.items ≡ 0 = search (rules, arith) in
     let all =
-    pushed-joins _ _ _ _ c.args.value c.self.invariant.lengths_fit parts
+    pushed-joins _ _ _ _ c.args.value c.self.invariant.lengths_fit.fit parts
     (rw (c.fill_lengths.ensures, c.len.ensures.value) at found) in
     rw (
       c.push-2.ensures.items,
